@@ -5,3 +5,4 @@ pub mod OccurringLaws
 pub mod SlotLaws
 pub mod SimplerLaws
 pub mod SlotSteps
+pub mod BaseLaws

@@ -14,7 +14,7 @@ use Rattle.xs_simplify.specs.Meeting.{IsOwn}
 use Rattle.xs_simplify.specs.Resolution.{has_literal, without, each_once, joined, resolvent, is_tautology}
 use Rattle.xs_simplify.specs.Elimination.{unless_tautology, resolvents_with, resolvents}
 use Rattle.xs_simplify.specs.Slots.{Slot, IsMade, Makes, IsMetBy, IsOver, IsSlotOver, IsSimpler, AreNoted}
-use Rattle.xs_simplify.specs.Changes.{slot_at, changed_at, changed, dropped, shrunk, picked, gathered}
+use Rattle.xs_simplify.specs.Changes.{slot_at, changed_at, changed, dropped, shrunk, picked, gathered, taken_out, resolvents_in, eliminated, assigned, entered}
 use Rattle.xs_simplify.specs.Occurring.{noted_at}
 use Rattle.xs_simplify.proofs.Members.{Contains-nil, cons_cases, from_flat_map, in_flat_map, contains_from_has, has_from_contains, from_without, from_once, from_joined}
 use Rattle.xs_simplify.proofs.ClauseLaws.{AreTrue, turned, turned_other, lacking_stays, HasTurn, has_turn, resolvents_follow, true_literal}
@@ -57,9 +57,10 @@ back_of : (P : Slot → Type 0) (xs ys : List Slot) → All P (xs ++ ys) → All
 back_of P xs ys all = all_from_members P ys (λ x has. All-contains P (xs ++ ys) x all (Contains-append_right xs ys x has))
 
 -- where a clause of one literal stands, the clauses that have the literal go, and its opposite goes out of clauses
-pub unit_law : (places : ℕ) (slots : List Slot) (with against : List ℕ) (l : Literal) (i : ℕ) → slot_at slots i ≡ Some (l ∷ []) →
-    IsSimpler places slots (changed (shrunk (opposite l)) (changed (dropped l) slots with) against ++ Some (l ∷ []) ∷ [])
-unit_law places slots with against l i is =
+pub unit_law : (places : ℕ) (slots : List Slot) (occurrences : List (List ℕ)) (l : Literal) (i : ℕ) → slot_at slots i ≡ Some (l ∷ []) → IsSimpler places slots (assigned occurrences l slots)
+unit_law places slots occurrences l i is =
+    let with = noted_at occurrences (code_of l) in
+    let against = noted_at occurrences (code_of (opposite l)) in
     let fewer = changed (dropped l) slots with in
     let less = changed (shrunk (opposite l)) fewer against in
     simpler_same places slots (less ++ Some (l ∷ []) ∷ [])
@@ -126,46 +127,34 @@ dropped_or v l m is (Some c) h = ⊎_elim (λ gone. inl (⊎_elim (λ e. inl (su
 
 -- a variable is eliminated: all clauses that have it go, and their resolvents come
 module _ (places : ℕ) (slots : List Slot) (occurrences : List (List ℕ)) (l : Literal) where
-  abbrev pub with_l : List (List Literal)
-  with_l = gathered l slots (noted_at occurrences (code_of l))
-
-  abbrev pub against_l : List (List Literal)
-  against_l = gathered (opposite l) slots (noted_at occurrences (code_of (opposite l)))
-
-  abbrev pub rest_of : List Slot
-  rest_of = changed (dropped (opposite l)) (changed (dropped l) slots (noted_at occurrences (code_of l))) (noted_at occurrences (code_of (opposite l)))
-
-  abbrev pub eliminated : List Slot
-  eliminated = rest_of ++ map Some (resolvents l with_l against_l)
-
-  stays_made : (w : TotalAssignment) → Makes w slots → Makes w eliminated
+  stays_made : (w : TotalAssignment) → Makes w slots → Makes w (eliminated occurrences l slots)
   stays_made w made =
-      All-append (IsMade w) rest_of (map Some (resolvents l with_l against_l))
+      All-append (IsMade w) (taken_out occurrences l slots) (map Some (resolvents_in occurrences l slots))
       (all_after (IsMade w) (dropped (opposite l)) tt (dropped_made w (opposite l)) (changed (dropped l) slots (noted_at occurrences (code_of l))) (noted_at occurrences (code_of (opposite l))) (all_after (IsMade w) (dropped l) tt (dropped_made w l) slots (noted_at occurrences (code_of l)) made))
-      (All-map (IsMade w) Some (resolvents l with_l against_l) (all_from_members (λ c. IsMade w (Some c)) (resolvents l with_l against_l) (resolvents_follow w l with_l against_l (gathered_true w l slots (noted_at occurrences (code_of l)) made) (gathered_true w (opposite l) slots (noted_at occurrences (code_of (opposite l))) made))))
+      (All-map (IsMade w) Some (resolvents_in occurrences l slots) (all_from_members (λ c. IsMade w (Some c)) (resolvents_in occurrences l slots) (resolvents_follow w l (gathered l slots (noted_at occurrences (code_of l))) (gathered (opposite l) slots (noted_at occurrences (code_of (opposite l)))) (gathered_true w l slots (noted_at occurrences (code_of l)) made) (gathered_true w (opposite l) slots (noted_at occurrences (code_of (opposite l))) made))))
 
-  stays_over : (test : ℕ → Bool) → All (IsSlotOver test) slots → All (IsSlotOver test) eliminated
+  stays_over : (test : ℕ → Bool) → All (IsSlotOver test) slots → All (IsSlotOver test) (eliminated occurrences l slots)
   stays_over test over =
-      All-append (IsSlotOver test) rest_of (map Some (resolvents l with_l against_l))
+      All-append (IsSlotOver test) (taken_out occurrences l slots) (map Some (resolvents_in occurrences l slots))
       (all_after (IsSlotOver test) (dropped (opposite l)) tt (dropped_over test (opposite l)) (changed (dropped l) slots (noted_at occurrences (code_of l))) (noted_at occurrences (code_of (opposite l))) (all_after (IsSlotOver test) (dropped l) tt (dropped_over test l) slots (noted_at occurrences (code_of l)) over))
-      (All-map (IsSlotOver test) Some (resolvents l with_l against_l) (all_from_members (λ c. IsSlotOver test (Some c)) (resolvents l with_l against_l) (resolvents_over test l with_l against_l
+      (All-map (IsSlotOver test) Some (resolvents_in occurrences l slots) (all_from_members (λ c. IsSlotOver test (Some c)) (resolvents_in occurrences l slots) (resolvents_over test l (gathered l slots (noted_at occurrences (code_of l))) (gathered (opposite l) slots (noted_at occurrences (code_of (opposite l))))
       (λ c has. let is = gathered_is l slots (noted_at occurrences (code_of l)) c has in at_slot (IsSlotOver test) slots is.0 c is.1 over)
       (λ c has. let is = gathered_is (opposite l) slots (noted_at occurrences (code_of (opposite l))) c has in at_slot (IsSlotOver test) slots is.0 c is.1 over))))
 
-  resolvents_true : (w : TotalAssignment) → Makes w eliminated → AreTrue w (resolvents l with_l against_l)
-  resolvents_true w made c has = All-contains (IsMade w) (map Some (resolvents l with_l against_l)) (Some c) (back_of (IsMade w) rest_of (map Some (resolvents l with_l against_l)) made) (in_map Some (resolvents l with_l against_l) c has)
+  resolvents_true : (w : TotalAssignment) → Makes w (eliminated occurrences l slots) → AreTrue w (resolvents_in occurrences l slots)
+  resolvents_true w made c has = All-contains (IsMade w) (map Some (resolvents_in occurrences l slots)) (Some c) (back_of (IsMade w) (taken_out occurrences l slots) (map Some (resolvents_in occurrences l slots)) made) (in_map Some (resolvents_in occurrences l slots) c has)
 
-  or_true : (w : TotalAssignment) → Makes w eliminated → All (HasOrTrue w l) slots
+  or_true : (w : TotalAssignment) → Makes w (eliminated occurrences l slots) → All (HasOrTrue w l) slots
   or_true w made =
       all_before (HasOrTrue w l) (dropped l) (dropped_or w l l (inl refl)) slots (noted_at occurrences (code_of l))
       (all_before (HasOrTrue w l) (dropped (opposite l)) (dropped_or w l (opposite l) (inr refl)) (changed (dropped l) slots (noted_at occurrences (code_of l))) (noted_at occurrences (code_of (opposite l)))
-      (All-weaker (IsMade w) (HasOrTrue w l) (made_or w l) rest_of (front (IsMade w) rest_of (map Some (resolvents l with_l against_l)) made)))
+      (All-weaker (IsMade w) (HasOrTrue w l) (made_or w l) (taken_out occurrences l slots) (front (IsMade w) (taken_out occurrences l slots) (map Some (resolvents_in occurrences l slots)) made)))
 
-  turn_of : (w : TotalAssignment) → Makes w eliminated → HasTurn w l with_l against_l
+  turn_of : (w : TotalAssignment) → Makes w (eliminated occurrences l slots) → HasTurn w l (gathered l slots (noted_at occurrences (code_of l))) (gathered (opposite l) slots (noted_at occurrences (code_of (opposite l))))
   turn_of w made =
-      has_turn w l with_l against_l (λ c has. (gathered_is l slots (noted_at occurrences (code_of l)) c has).2) (λ c has. (gathered_is (opposite l) slots (noted_at occurrences (code_of (opposite l))) c has).2) (resolvents_true w made)
+      has_turn w l (gathered l slots (noted_at occurrences (code_of l))) (gathered (opposite l) slots (noted_at occurrences (code_of (opposite l)))) (λ c has. (gathered_is l slots (noted_at occurrences (code_of l)) c has).2) (λ c has. (gathered_is (opposite l) slots (noted_at occurrences (code_of (opposite l))) c has).2) (resolvents_true w made)
 
-  clause_turned : (w : TotalAssignment) (turn : HasTurn w l with_l against_l) → AreNoted occurrences slots → (k : ℕ) (c : List Literal) → slot_at slots k ≡ Some c → HasOrTrue w l (Some c) → clause_value (turned w turn.literal) c ≡ true
+  clause_turned : (w : TotalAssignment) (turn : HasTurn w l (gathered l slots (noted_at occurrences (code_of l))) (gathered (opposite l) slots (noted_at occurrences (code_of (opposite l))))) → AreNoted occurrences slots → (k : ℕ) (c : List Literal) → slot_at slots k ≡ Some c → HasOrTrue w l (Some c) → clause_value (turned w turn.literal) c ≡ true
   clause_turned w turn noted k c is h = by_kind h where
     by_first : Contains c l → clause_value (turned w turn.literal) c ≡ true
     by_first has = turn.left c (gathered_all l slots (noted_at occurrences (code_of l)) k c (noted.at k c l (slot_to slots k c is) has) is has)
@@ -186,7 +175,7 @@ module _ (places : ℕ) (slots : List Slot) (occurrences : List (List ℕ)) (l :
     by_kind (inl (inr has)) = by_second has
     by_kind (inr e) = by_test e (cases_Bool (has_literal (opposite turn.literal) c))
 
-  makes_turned : (w : TotalAssignment) (turn : HasTurn w l with_l against_l) → AreNoted occurrences slots → All (HasOrTrue w l) slots → Makes (turned w turn.literal) slots
+  makes_turned : (w : TotalAssignment) (turn : HasTurn w l (gathered l slots (noted_at occurrences (code_of l))) (gathered (opposite l) slots (noted_at occurrences (code_of (opposite l))))) → AreNoted occurrences slots → All (HasOrTrue w l) slots → Makes (turned w turn.literal) slots
   makes_turned w turn noted all k d lt = by_slot (get_or slots k d) refl where
     by_slot : (o : Slot) → get_or slots k d ≡ o → IsMade (turned w turn.literal) (get_or slots k d)
     by_slot None e = subst (IsMade (turned w turn.literal)) (sym e) tt
@@ -200,7 +189,7 @@ module _ (places : ℕ) (slots : List Slot) (occurrences : List (List ℕ)) (l :
   own_is_no_place x (inl low) from to e = omega (arith, low, from, e)
   own_is_no_place x (inr high) from to e = omega (arith, high, to, e)
 
-  pub elimination_law : AreNoted occurrences slots → IsOwn places l.var → IsSimpler places slots eliminated
+  pub elimination_law : AreNoted occurrences slots → IsOwn places l.var → IsSimpler places slots (eliminated occurrences l slots)
   elimination_law noted own = record {
     stays = λ v h. record { values = h.values; agree = h.agree; all = stays_made h.values h.all };
     back = λ v h.

@@ -2,11 +2,12 @@
 use Rattle.std.proofs.Common.{◌≡◌, ℕ, ◌+◌, ◌<◌, ◌≤◌, Bool, true, false, cond, List, [], ◌∷◌, ◌++◌, length, get_or, set, take, Option, Some, None, refl, sym, ap, ◌∙◌, subst, arith}
 use Rattle.std.specs.List.{fold, flat_map}
 use Rattle.std.proofs.lemmas.Bool.{cond-true, cond-false}
-use Rattle.std.proofs.lemmas.List.{set_past, set-get_or, get_or_past, get_or_default, append-nil, take_more, flat_map_more}
+use Rattle.std.proofs.lemmas.List.{set_past, set-get_or, get_or_past, get_or_default, append-nil, take_all, take_more, flat_map_more}
 use Rattle.std.proofs.lemmas.List.Sums.{fold_more}
 use Rattle.xs_lits.specs.Literal.{Literal}
 use Rattle.xs_simplify.specs.Slots.{Slot}
-use Rattle.xs_simplify.specs.Resolution.{has_literal, without, each_once}
+use Rattle.xs_simplify.specs.Resolution.{has_literal, without, each_once, resolvent}
+use Rattle.xs_simplify.specs.Elimination.{unless_tautology, resolvents_with, resolvents}
 use Rattle.xs_simplify.specs.Changes.{slot_at, changed_at, changed, slot_has, dropped, shrunk, picked, gathered}
 
 -- no slot past the end is changed, and none by a change that leaves it as it is
@@ -39,3 +40,18 @@ changed_more f slots at k i now next lt is e step =
 pub gathered_more : (l : Literal) (slots : List Slot) (at : List ℕ) (k i : ℕ) (now next : List (List Literal)) → k < length at → i ≡ get_or at k 0 → now ≡ gathered l slots (take k at) → next ≡ now ++ picked l (slot_at slots i) → next ≡ gathered l slots (take (k + 1) at)
 gathered_more l slots at k i now next lt is e step =
     step ∙ (ap (λ r. r ++ picked l (slot_at slots i)) e ∙ (flat_map_more (λ i. picked l (slot_at slots i)) [] (take k at) i ∙ ap (gathered l slots) (ap (λ n. take k at ++ n ∷ []) is ∙ sym (take_more at k 0 lt))))
+
+-- one clause more is resolved with
+pub resolved_none : (l : Literal) (c : List Literal) (now : List (List Literal)) → now ≡ now ++ resolvents_with l [] c
+resolved_none l c now = sym (append-nil now)
+
+pub resolved_more : (l : Literal) (c d : List Literal) (ds : List (List Literal)) (i : ℕ) (start now next : List (List Literal)) → i < length ds → d ≡ get_or ds i d → now ≡ start ++ resolvents_with l (take i ds) c → next ≡ now ++ unless_tautology (resolvent l c d) → next ≡ start ++ resolvents_with l (take (i + 1) ds) c
+resolved_more l c d ds i start now next lt is e step =
+    step ∙ (ap (λ r. r ++ unless_tautology (resolvent l c d)) e ∙ (flat_map_more (λ d. unless_tautology (resolvent l c d)) start (take i ds) d ∙ ap (λ r. start ++ resolvents_with l r c) (ap (λ x. take i ds ++ x ∷ []) is ∙ sym (take_more ds i d lt))))
+
+pub resolved_all : (l : Literal) (c : List Literal) (ds : List (List Literal)) (i : ℕ) (start now : List (List Literal)) → length ds ≤ i → now ≡ start ++ resolvents_with l (take i ds) c → now ≡ start ++ resolvents_with l ds c
+resolved_all l c ds i start now over e = e ∙ ap (λ r. start ++ resolvents_with l r c) (take_all i ds over)
+
+pub resolvents_more : (l : Literal) (c : List Literal) (cs ds : List (List Literal)) (i : ℕ) (now next : List (List Literal)) → i < length cs → c ≡ get_or cs i c → now ≡ resolvents l (take i cs) ds → next ≡ now ++ resolvents_with l ds c → next ≡ resolvents l (take (i + 1) cs) ds
+resolvents_more l c cs ds i now next lt is e step =
+    step ∙ (ap (λ r. r ++ resolvents_with l ds c) e ∙ (flat_map_more (resolvents_with l ds) [] (take i cs) c ∙ ap (λ r. resolvents l r ds) (ap (λ x. take i cs ++ x ∷ []) is ∙ sym (take_more cs i c lt))))

@@ -1,9 +1,12 @@
 -- Changes of slots: a function of what a slot has, at each of a list of places.
-use Rattle.std.specs.Prelude.{ℕ, Bool, false, if◌then◌else◌, List, [], ◌∷◌, ◌++◌, Option, Some, None, slice_index_or, slice_set, fold}
+use Rattle.std.specs.Prelude.{ℕ, Bool, false, if◌then◌else◌, List, [], ◌∷◌, ◌++◌, Option, Some, None, slice_index_or, slice_set, fold, map}
 use Rattle.std.specs.List.{flat_map}
-use Rattle.xs_lits.specs.Literal.{Literal}
+use Rattle.xs_lits.specs.Literal.{Literal, opposite}
+use Rattle.xs_lits.specs.Code.{code_of}
 use Rattle.xs_simplify.specs.Slots.{Slot}
-use Rattle.xs_simplify.specs.Resolution.{has_literal, without, each_once}
+use Rattle.xs_simplify.specs.Occurring.{noted_at}
+use Rattle.xs_simplify.specs.Resolution.{has_literal, without, each_once, is_tautology}
+use Rattle.xs_simplify.specs.Elimination.{unless_tautology, resolvents}
 
 -- what the slot of a place has
 abbrev pub slot_at : List Slot → ℕ → Slot
@@ -40,3 +43,23 @@ picked l (Some c) = if has_literal l c then c ∷ [] else []
 -- those clauses of these places that have the literal
 abbrev pub gathered : Literal → List Slot → List ℕ → List (List Literal)
 gathered l slots at = flat_map (λ i. picked l (slot_at slots i)) at
+
+-- all clauses of a literal and of its opposite are taken out
+abbrev pub taken_out : List (List ℕ) → Literal → List Slot → List Slot
+taken_out occurrences l slots = changed (dropped (opposite l)) (changed (dropped l) slots (noted_at occurrences (code_of l))) (noted_at occurrences (code_of (opposite l)))
+
+-- the resolvents of the clauses of a literal with those of its opposite
+abbrev pub resolvents_in : List (List ℕ) → Literal → List Slot → List (List Literal)
+resolvents_in occurrences l slots = resolvents l (gathered l slots (noted_at occurrences (code_of l))) (gathered (opposite l) slots (noted_at occurrences (code_of (opposite l))))
+
+-- the resolvents stand in the place of all clauses of a literal and of its opposite
+abbrev pub eliminated : List (List ℕ) → Literal → List Slot → List Slot
+eliminated occurrences l slots = taken_out occurrences l slots ++ map Some (resolvents_in occurrences l slots)
+
+-- a literal is true: its clauses go, its opposite goes out of clauses, and it stands as a clause of its own
+abbrev pub assigned : List (List ℕ) → Literal → List Slot → List Slot
+assigned occurrences l slots = changed (shrunk (opposite l)) (changed (dropped l) slots (noted_at occurrences (code_of l))) (noted_at occurrences (code_of (opposite l))) ++ Some (l ∷ []) ∷ []
+
+-- the clauses of a list, each literal once, but for tautologies
+abbrev pub entered : List (List Literal) → List (List Literal)
+entered list = flat_map (λ c. unless_tautology (each_once c)) list

@@ -4,3 +4,4 @@ pub mod Elimination
 pub mod Slots
 pub mod Changes
 pub mod Occurring
+pub mod Based

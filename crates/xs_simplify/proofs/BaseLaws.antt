@@ -1,0 +1,85 @@
+-- Changes of a clause base, from those of its slots.
+use Rattle.std.proofs.Common.{◌≡◌, ℕ, ◌+◌, ◌<◌, ◌≤◌, List, [], ◌∷◌, ◌++◌, length, get_or, map, take, Option, Some, None, refl, sym, ap, ◌∙◌, subst, arith}
+use Rattle.std.proofs.lemmas.List.{append-nil, append_assoc, map_more, take_all}
+use Rattle.xs_lits.specs.Literal.{Literal, opposite}
+use Rattle.xs_lits.specs.Code.{code_of}
+use Rattle.xs_simplify.specs.Meeting.{IsOwn}
+use Rattle.xs_simplify.specs.Slots.{Slot, AreNoted, IsSimpler}
+use Rattle.xs_simplify.specs.Elimination.{resolvents}
+use Rattle.xs_simplify.specs.Changes.{slot_at, changed, dropped, shrunk, gathered, taken_out, resolvents_in, eliminated, assigned}
+use Rattle.xs_simplify.specs.Occurring.{noted_at}
+use Rattle.xs_simplify.specs.Based.{IsSound, Becomes, Adds, AddsAll, TakesOut, Assigns}
+use Rattle.xs_simplify.specs.declared.base.Base.{Base}
+use Rattle.xs_simplify.proofs.SlotLaws.{noted_changed, dropped_lessens, shrunk_lessens}
+use Rattle.xs_simplify.proofs.SimplerLaws.{simpler_itself, simpler_all, unit_law, elimination_law}
+
+-- a base is as simple as itself, and changes follow one another
+pub becomes_itself : (b : Base) → IsSound b → Becomes b b
+becomes_itself b sound = record { sound = sound; places = refl; simpler = simpler_itself b.places b.slots.items }
+
+pub becomes_all : (a b c : Base) → Becomes a b → Becomes b c → Becomes a c
+becomes_all a b c f g = record {
+  sound = g.sound;
+  places = g.places ∙ f.places;
+  simpler = simpler_all a.places a.slots.items b.slots.items c.slots.items f.simpler (subst (λ n. IsSimpler n b.slots.items c.slots.items) f.places g.simpler);
+}
+
+-- clauses are added one by one
+pub adds_none : (b : Base) → IsSound b → AddsAll b b []
+adds_none b sound = record { sound = sound; places = refl; slots = sym (append-nil b.slots.items) }
+
+pub adds_more : (a b c : Base) (cs : List (List Literal)) (i : ℕ) (d : List Literal) → i < length cs → d ≡ get_or cs i d → AddsAll a b (take i cs) → Adds b c d → AddsAll a c (take (i + 1) cs)
+adds_more a b c cs i d lt is f g = record {
+  sound = g.sound;
+  places = g.places ∙ f.places;
+  slots = g.slots
+    ∙ (ap (λ s. s ++ Some d ∷ []) f.slots
+    ∙ (append_assoc a.slots.items (map Some (take i cs)) (Some d ∷ [])
+    ∙ ap (λ s. a.slots.items ++ s) (ap (λ x. map Some (take i cs) ++ Some x ∷ []) is ∙ sym (map_more Some cs i d lt))));
+}
+
+pub adds_all : (a b : Base) (cs : List (List Literal)) (i : ℕ) → length cs ≤ i → AddsAll a b (take i cs) → AddsAll a b cs
+adds_all a b cs i over f = subst (AddsAll a b) (take_all i cs over) f
+
+-- what is taken out leaves all noted
+pub taken_noted : (occurrences : List (List ℕ)) (slots : List Slot) (l : Literal) → AreNoted occurrences slots → AreNoted occurrences (taken_out occurrences l slots)
+taken_noted occurrences slots l noted =
+    noted_changed (dropped (opposite l)) (dropped_lessens (opposite l)) occurrences (changed (dropped l) slots (noted_at occurrences (code_of l))) (noted_at occurrences (code_of (opposite l))) (noted_changed (dropped l) (dropped_lessens l) occurrences slots (noted_at occurrences (code_of l)) noted)
+
+pub shrunk_noted : (occurrences : List (List ℕ)) (slots : List Slot) (l : Literal) → AreNoted occurrences slots → AreNoted occurrences (changed (shrunk (opposite l)) (changed (dropped l) slots (noted_at occurrences (code_of l))) (noted_at occurrences (code_of (opposite l))))
+shrunk_noted occurrences slots l noted =
+    noted_changed (shrunk (opposite l)) (shrunk_lessens (opposite l)) occurrences (changed (dropped l) slots (noted_at occurrences (code_of l))) (noted_at occurrences (code_of (opposite l))) (noted_changed (dropped l) (dropped_lessens l) occurrences slots (noted_at occurrences (code_of l)) noted)
+
+-- a variable that is no place is eliminated
+pub becomes_eliminated : (a b c : Base) (l : Literal) (cs : List (List Literal)) → IsSound a → IsOwn a.places l.var → cs ≡ resolvents_in a.occurrences l a.slots.items → TakesOut a b l → AddsAll b c cs → Becomes a c
+becomes_eliminated a b c l cs sound own is out adds = record {
+  sound = adds.sound;
+  places = adds.places ∙ out.places;
+  simpler = subst (IsSimpler a.places a.slots.items) (sym (adds.slots ∙ (ap (λ s. s ++ map Some cs) out.slots ∙ ap (λ r. taken_out a.occurrences l a.slots.items ++ map Some r) is))) (elimination_law a.places a.slots.items a.occurrences l sound own);
+}
+
+-- a clause of one literal is propagated
+pub becomes_assigned : (a b : Base) (l : Literal) (i : ℕ) → slot_at a.slots.items i ≡ Some (l ∷ []) → Assigns a b l → Becomes a b
+becomes_assigned a b l i is f = record { sound = f.sound; places = f.places; simpler = subst (IsSimpler a.places a.slots.items) (sym f.slots) (unit_law a.places a.slots.items a.occurrences l i is) }
+
+-- what the calls on slots give in turn
+pub taken_by : (occurrences : List (List ℕ)) (l m : Literal) (slots first second : List Slot) (with against : List ℕ) → with ≡ noted_at occurrences (code_of l) → first ≡ changed (dropped l) slots with → m ≡ opposite l → against ≡ noted_at occurrences (code_of m) → second ≡ changed (dropped m) first against → second ≡ taken_out occurrences l slots
+taken_by occurrences l m slots first second with against e f g h i =
+    i
+    ∙ (ap (λ x. changed (dropped x) first against) g
+    ∙ (ap (λ s. changed (dropped (opposite l)) s against) (f ∙ ap (changed (dropped l) slots) e)
+    ∙ ap (changed (dropped (opposite l)) (changed (dropped l) slots (noted_at occurrences (code_of l)))) (h ∙ ap (λ x. noted_at occurrences (code_of x)) g)))
+
+pub shrunk_by : (occurrences : List (List ℕ)) (l m : Literal) (slots first second : List Slot) (with against : List ℕ) → with ≡ noted_at occurrences (code_of l) → first ≡ changed (dropped l) slots with → m ≡ opposite l → against ≡ noted_at occurrences (code_of m) → second ≡ changed (shrunk m) first against →
+    second ≡ changed (shrunk (opposite l)) (changed (dropped l) slots (noted_at occurrences (code_of l))) (noted_at occurrences (code_of (opposite l)))
+shrunk_by occurrences l m slots first second with against e f g h i =
+    i
+    ∙ (ap (λ x. changed (shrunk x) first against) g
+    ∙ (ap (λ s. changed (shrunk (opposite l)) s against) (f ∙ ap (changed (dropped l) slots) e)
+    ∙ ap (changed (shrunk (opposite l)) (changed (dropped l) slots (noted_at occurrences (code_of l)))) (h ∙ ap (λ x. noted_at occurrences (code_of x)) g)))
+
+pub resolved_by : (occurrences : List (List ℕ)) (l m : Literal) (slots : List Slot) (with against : List ℕ) (cs ds list : List (List Literal)) → with ≡ noted_at occurrences (code_of l) → cs ≡ gathered l slots with → m ≡ opposite l → against ≡ noted_at occurrences (code_of m) → ds ≡ gathered m slots against → list ≡ resolvents l cs ds → list ≡ resolvents_in occurrences l slots
+resolved_by occurrences l m slots with against cs ds list e f g h i j =
+    j
+    ∙ (ap (λ x. resolvents l x ds) (f ∙ ap (gathered l slots) e)
+    ∙ ap (resolvents l (gathered l slots (noted_at occurrences (code_of l)))) (i ∙ (ap (λ x. gathered x slots against) g ∙ ap (gathered (opposite l) slots) (h ∙ ap (λ x. noted_at occurrences (code_of x)) g))))

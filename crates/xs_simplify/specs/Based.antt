@@ -1,0 +1,40 @@
+-- What holds of a clause base, and what its changes keep.
+use Rattle.std.specs.Prelude.{◌≡◌, List, [], ◌∷◌, ◌++◌, Some, map}
+use Rattle.xs_lits.specs.Literal.{Literal}
+use Rattle.xs_simplify.specs.Slots.{AreNoted, IsSimpler}
+use Rattle.xs_simplify.specs.Changes.{taken_out, assigned}
+use Rattle.xs_simplify.specs.declared.base.Base.{Base}
+
+-- each clause that stands is noted at each of its literals
+abbrev pub IsSound : Base → Type 0
+IsSound b = AreNoted b.occurrences b.slots.items
+
+-- the base says the same of the places, with no other variables
+pub record Becomes (old new : Base) : Type 0 where
+  pub sound : IsSound new
+  pub places : new.places ≡ old.places
+  pub simpler : IsSimpler old.places old.slots.items new.slots.items
+
+-- a clause stands at the end
+pub record Adds (old new : Base) (c : List Literal) : Type 0 where
+  pub sound : IsSound new
+  pub places : new.places ≡ old.places
+  pub slots : new.slots.items ≡ old.slots.items ++ Some c ∷ []
+
+-- clauses stand at the end
+pub record AddsAll (old new : Base) (cs : List (List Literal)) : Type 0 where
+  pub sound : IsSound new
+  pub places : new.places ≡ old.places
+  pub slots : new.slots.items ≡ old.slots.items ++ map Some cs
+
+-- all clauses of a literal and of its opposite are gone
+pub record TakesOut (old new : Base) (l : Literal) : Type 0 where
+  pub sound : IsSound new
+  pub places : new.places ≡ old.places
+  pub slots : new.slots.items ≡ taken_out old.occurrences l old.slots.items
+
+-- a literal is true
+pub record Assigns (old new : Base) (l : Literal) : Type 0 where
+  pub sound : IsSound new
+  pub places : new.places ≡ old.places
+  pub slots : new.slots.items ≡ assigned old.occurrences l old.slots.items

@@ -1,0 +1,171 @@
+//! The clause base: the clauses with their occurrence lists, and the changes that say the same of the places.
+//!
+//! What always holds is that each clause that stands is noted at each of its literals (`IsSound`): so elimination finds
+//! all clauses of a variable. [`Base::eliminate`] and [`Base::propagate`] are the main calls. When which call pays is
+//! asked elsewhere: each of them says the same of the places whenever it is called.
+ghost use Rattle.std.specs.Prelude.{◌≡◌, ◌⊎◌, ◌↔◌, ◌<◌, ◌++◌, ◌∷◌, [], IfOk, OnOk, IfSome, IsTrue, Some, map};
+ghost use Rattle.xs_simplify.specs.Meeting.{IsOwn};
+ghost use Rattle.xs_simplify.specs.Changes.{slot_at, resolvents_in};
+ghost use Rattle.xs_simplify.specs.Slots.{IsSimpler, AreNoted};
+ghost use Rattle.xs_simplify.specs.Based.{IsSound, Becomes, Adds, AddsAll, TakesOut, Assigns};
+
+use crate::occurrences::Occurrences;
+use crate::resolving::resolve_all;
+use crate::slots::{drop_each, gather, shrink_each};
+use std::alloc::Global;
+use xs_lits::clause::{Clause, ClauseList};
+use xs_lits::lit::Lit;
+use xs_value::OutOfMemory;
+
+/// The most products of occurrences of a variable and of its negation with which it is eliminated.
+pub const PRODUCT: usize = 16;
+
+/// Clauses with their occurrence lists.
+#[derive(Drop)]
+pub struct Base {
+    alloc: Global,
+    /// The highest place.
+    pub places: u64,
+    /// The clauses, or none where one was taken out.
+    pub slots: Vec<Option<Clause>>,
+    /// The slots of each literal.
+    pub occurrences: Occurrences,
+    /// Slots of clauses of one literal, which have still to be propagated.
+    pub units: Vec<usize>,
+    /// Variables of clauses that were taken out.
+    pub touched: Vec<u64>,
+}
+
+impl Base {
+    /// No clause.
+    pub fn new(alloc: Global, places: u64) -> Base
+        ensures sound { IsSound result }
+        ensures places { result.places ≡ places }
+        ensures slots { result.slots.items ≡ [] }
+    {
+        Base {
+            alloc,
+            places,
+            slots: Vec::new(alloc),
+            occurrences: Occurrences::new(alloc),
+            units: Vec::new(alloc),
+            touched: Vec::new(alloc),
+        }
+    }
+
+    // Whether the variable is no place.
+    fn is_own(&self, var: u64) -> bool
+        ensures { IsTrue result ↔ IsOwn self.now.places var }
+    {
+        var < 2 || self.places < var
+    }
+
+    /// Appends a clause.
+    #[tactic(auto, using(crate::proofs::SlotLaws::noted_pushed))]
+    pub fn add(&mut self, lits: &[Lit]) -> Result<(), OutOfMemory>
+        requires { IsSound self.old }
+        ensures { OnOk result (Adds self.old self.new lits.now) }
+    {
+        let clause = Clause::from_lits(self.alloc, lits)?;
+        self.occurrences.note_clause(lits, self.slots.len())?;
+        self.slots.push(Some(clause))?;
+        Ok(())
+    }
+
+    /// Appends clauses; those of one literal are to be propagated.
+    #[tactic(auto, using(crate::proofs::BaseLaws::adds_none, crate::proofs::BaseLaws::adds_more, crate::proofs::BaseLaws::adds_all))]
+    pub fn add_all(&mut self, list: &ClauseList) -> Result<(), OutOfMemory>
+        requires { IsSound self.old }
+        ensures { OnOk result (AddsAll self.old self.new list.now) }
+    {
+        for clause in list.as_slice() {
+            if clause.lits().len() == 1 {
+                self.units.push(self.slots.len())?;
+            }
+            self.add(clause.lits())?;
+        }
+        Ok(())
+    }
+
+    // Takes out all clauses that have the literal or its opposite.
+    fn take_out(&mut self, lit: Lit)
+        requires { IsSound self.old }
+        ensures { TakesOut self.old self.new lit }
+    {
+        drop_each(&mut self.slots, self.occurrences.at(lit), lit);
+        let opposite = lit.neg();
+        drop_each(&mut self.slots, self.occurrences.at(opposite), opposite);
+    }
+
+    // The resolvents on a literal, if they are few and short enough to stand in the place of their clauses.
+    fn resolvents_of(&self, lit: Lit) -> Result<Option<ClauseList>, OutOfMemory>
+        ensures { IfOk result (λ o. IfSome o (λ list. list ≡ resolvents_in self.now.occurrences lit self.now.slots.items)) }
+    {
+        let with = gather(self.alloc, &self.slots, self.occurrences.at(lit), lit)?;
+        let opposite = lit.neg();
+        let against = gather(self.alloc, &self.slots, self.occurrences.at(opposite), opposite)?;
+        if with.len().saturating_mul(against.len()) > PRODUCT {
+            return Ok(None);
+        }
+        let list = resolve_all(self.alloc, lit, with.as_slice(), against.as_slice())?;
+        Ok(list)
+    }
+
+    /// Eliminates the variable of a literal if it is no place and that makes the clauses no more; answers whether it did.
+    #[tactic(auto, using(crate::proofs::BaseLaws::becomes_itself, crate::proofs::BaseLaws::becomes_eliminated))]
+    pub fn eliminate(&mut self, lit: Lit) -> Result<bool, OutOfMemory>
+        requires { IsSound self.old }
+        ensures { OnOk result (Becomes self.old self.new) }
+    {
+        if !self.is_own(lit.var()) {
+            return Ok(false);
+        }
+        let Some(list) = self.resolvents_of(lit)? else {
+            return Ok(false);
+        };
+        self.take_out(lit);
+        self.add_all(&list)?;
+        Ok(true)
+    }
+
+    // The literal of a clause that has no other.
+    fn unit_at(&self, i: usize) -> Option<Lit>
+        ensures { IfSome result (λ l. slot_at self.now.slots.items i ≡ Some (l ∷ [])) }
+    {
+        if i >= self.slots.len() {
+            return None;
+        }
+        let Some(clause) = &self.slots[i] else {
+            return None;
+        };
+        let lits = clause.lits();
+        if lits.len() != 1 {
+            return None;
+        }
+        Some(lits[0])
+    }
+
+    // Makes a literal true.
+    fn assign(&mut self, lit: Lit) -> Result<(), OutOfMemory>
+        requires { IsSound self.old }
+        ensures { OnOk result (Assigns self.old self.new lit) }
+    {
+        drop_each(&mut self.slots, self.occurrences.at(lit), lit);
+        let opposite = lit.neg();
+        shrink_each(&mut self.slots, self.occurrences.at(opposite), opposite, &mut self.units)?;
+        self.add(&[lit])?;
+        Ok(())
+    }
+
+    /// Propagates the clause of a place if it has one literal.
+    #[tactic(auto, using(crate::proofs::BaseLaws::becomes_itself, crate::proofs::BaseLaws::becomes_assigned))]
+    pub fn propagate(&mut self, i: usize) -> Result<(), OutOfMemory>
+        requires { IsSound self.old }
+        ensures { OnOk result (Becomes self.old self.new) }
+    {
+        let Some(lit) = self.unit_at(i) else {
+            return Ok(());
+        };
+        self.assign(lit)
+    }
+}
