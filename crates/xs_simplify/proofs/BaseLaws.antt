@@ -3,15 +3,16 @@ use Rattle.std.proofs.Common.{◌≡◌, ℕ, ◌+◌, ◌<◌, ◌≤◌, List,
 use Rattle.std.proofs.lemmas.List.{append-nil, append_assoc, map_more, take_all}
 use Rattle.xs_lits.specs.Literal.{Literal, opposite}
 use Rattle.xs_lits.specs.Code.{code_of}
-use Rattle.xs_simplify.specs.Meeting.{IsOwn}
-use Rattle.xs_simplify.specs.Slots.{Slot, AreNoted, IsSimpler}
+use Rattle.xs_simplify.specs.Meeting.{IsOwn, AreMetAlike, HasNoNewVariable}
+use Rattle.xs_simplify.specs.Slots.{Slot, AreNoted, IsSimpler, standing}
 use Rattle.xs_simplify.specs.Elimination.{resolvents}
-use Rattle.xs_simplify.specs.Changes.{slot_at, changed, dropped, shrunk, gathered, taken_out, resolvents_in, eliminated, assigned}
+use Rattle.xs_simplify.specs.Changes.{slot_at, changed, dropped, shrunk, gathered, taken_out, resolvents_in, eliminated, assigned, entered}
 use Rattle.xs_simplify.specs.Occurring.{noted_at}
-use Rattle.xs_simplify.specs.Based.{IsSound, Becomes, Adds, AddsAll, TakesOut, Assigns}
+use Rattle.xs_simplify.specs.Based.{IsSound, Becomes, Adds, AddsAll, TakesOut, Assigns, IsEntered}
 use Rattle.xs_simplify.specs.declared.base.Base.{Base}
 use Rattle.xs_simplify.proofs.SlotLaws.{noted_changed, dropped_lessens, shrunk_lessens}
 use Rattle.xs_simplify.proofs.SimplerLaws.{simpler_itself, simpler_all, unit_law, elimination_law}
+use Rattle.xs_simplify.proofs.ListLaws.{met_alike, no_new_variable}
 
 -- a base is as simple as itself, and changes follow one another
 pub becomes_itself : (b : Base) → IsSound b → Becomes b b
@@ -33,9 +34,9 @@ adds_more a b c cs i d lt is f g = record {
   sound = g.sound;
   places = g.places ∙ f.places;
   slots = g.slots
-    ∙ (ap (λ s. s ++ Some d ∷ []) f.slots
-    ∙ (append_assoc a.slots.items (map Some (take i cs)) (Some d ∷ [])
-    ∙ ap (λ s. a.slots.items ++ s) (ap (λ x. map Some (take i cs) ++ Some x ∷ []) is ∙ sym (map_more Some cs i d lt))));
+      ∙ (ap (λ s. s ++ Some d ∷ []) f.slots
+      ∙ (append_assoc a.slots.items (map Some (take i cs)) (Some d ∷ [])
+      ∙ ap (λ s. a.slots.items ++ s) (ap (λ x. map Some (take i cs) ++ Some x ∷ []) is ∙ sym (map_more Some cs i d lt))));
 }
 
 pub adds_all : (a b : Base) (cs : List (List Literal)) (i : ℕ) → length cs ≤ i → AddsAll a b (take i cs) → AddsAll a b cs
@@ -83,3 +84,17 @@ resolved_by occurrences l m slots with against cs ds list e f g h i j =
     j
     ∙ (ap (λ x. resolvents l x ds) (f ∙ ap (gathered l slots) e)
     ∙ ap (resolvents l (gathered l slots (noted_at occurrences (code_of l)))) (i ∙ (ap (λ x. gathered x slots against) g ∙ ap (gathered (opposite l) slots) (h ∙ ap (λ x. noted_at occurrences (code_of x)) g))))
+
+-- what is entered into an empty base
+pub is_entered : (places : ℕ) (list : List (List Literal)) (a b : Base) (cs : List (List Literal)) → a.places ≡ places → a.slots.items ≡ [] → cs ≡ entered list → AddsAll a b cs → IsEntered places list b
+is_entered places list a b cs e none is f = record { sound = f.sound; places = f.places ∙ e; slots = f.slots ∙ (ap (λ s. s ++ map Some cs) none ∙ ap (map Some) is) }
+
+entered_simpler : (places : ℕ) (list : List (List Literal)) (a b : Base) → IsEntered places list a → Becomes a b → IsSimpler places (map Some (entered list)) b.slots.items
+entered_simpler places list a b f g = subst (λ s. IsSimpler places s b.slots.items) f.slots (subst (λ n. IsSimpler n a.slots.items b.slots.items) f.places g.simpler)
+
+-- from a list to the clauses that stand in what its base becomes
+pub simplified_same : (places : ℕ) (list : List (List Literal)) (a b : Base) → IsEntered places list a → Becomes a b → AreMetAlike places list (standing b.slots.items)
+simplified_same places list a b f g = met_alike places list b.slots.items (entered_simpler places list a b f g)
+
+pub simplified_variables : (places : ℕ) (list : List (List Literal)) (a b : Base) → IsEntered places list a → Becomes a b → HasNoNewVariable list (standing b.slots.items)
+simplified_variables places list a b f g = no_new_variable places list b.slots.items (entered_simpler places list a b f g)

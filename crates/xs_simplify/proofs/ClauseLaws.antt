@@ -70,7 +70,7 @@ abbrev pub AreTrue : TotalAssignment → List (List Literal) → Type 0
 AreTrue v cs = (c : List Literal) → Contains cs c → clause_value v c ≡ true
 
 -- a list of a clause but for tautologies is true where the clause is
-unless_true : (v : TotalAssignment) (c : List Literal) → clause_value v c ≡ true → AreTrue v (unless_tautology c)
+pub unless_true : (v : TotalAssignment) (c : List Literal) → clause_value v c ≡ true → AreTrue v (unless_tautology c)
 unless_true v c e d has = by_test (cases_Bool (is_tautology c)) where
   by_test : (is_tautology c ≡ true) ⊎ (is_tautology c ≡ false) → clause_value v d ≡ true
   by_test (inl always) = absurd (Contains-nil d (subst (λ r. Contains r d) (cond-true (is_tautology c) [] (c ∷ []) always) has))

@@ -6,3 +6,4 @@ pub mod SlotLaws
 pub mod SimplerLaws
 pub mod SlotSteps
 pub mod BaseLaws
+pub mod ListLaws

@@ -57,9 +57,10 @@ has_from_contains l c has = list_any-from_Any (is_same l) c (has.0, l, has.1, ha
 
 -- a literal of a clause without one is another literal of the clause
 pub from_without : (l : Literal) (c : List Literal) (m : Literal) → Contains (without l c) m → Contains c m × (is_same m l ≡ false)
-from_without l c m has =
-    (All-contains (Contains c) (without l c) m (All-filter (λ m. not (is_same m l)) (Contains c) c (All-contains_itself c)) has,
-    not-true (is_same m l) (All-contains (λ m. not (is_same m l) ≡ true) (without l c) m (filter_passes (λ m. not (is_same m l)) c) has))
+from_without l c m has = (
+  All-contains (Contains c) (without l c) m (All-filter (λ m. not (is_same m l)) (Contains c) c (All-contains_itself c)) has,
+  not-true (is_same m l) (All-contains (λ m. not (is_same m l) ≡ true) (without l c) m (filter_passes (λ m. not (is_same m l)) c) has),
+)
 
 pub in_without : (l : Literal) (c : List Literal) (m : Literal) → Contains c m → is_same m l ≡ false → Contains (without l c) m
 in_without l [] m has other = absurd (Contains-nil m has)

@@ -47,7 +47,7 @@ one_true v l e = let t = true_literal v (l ∷ []) e in ⊎_elim (λ same. subst
 pub at_slot : (P : Slot → Type 0) (slots : List Slot) (i : ℕ) (c : List Literal) → slot_at slots i ≡ Some c → All P slots → P (Some c)
 at_slot P slots i c e all = subst P e (all i None (slice_get_within slots i (Some c) (slot_to slots i c e)))
 
-in_map : {X Y : Type 0} (f : X → Y) (xs : List X) (x : X) → Contains xs x → Contains (map f xs) (f x)
+pub in_map : {X Y : Type 0} (f : X → Y) (xs : List X) (x : X) → Contains xs x → Contains (map f xs) (f x)
 in_map f xs x has = (has.0, omega (arith, has.1, length-map xs f), get_or-map f xs has.0 x (f x) has.1 ∙ ap f has.2)
 
 front : (P : Slot → Type 0) (xs ys : List Slot) → All P (xs ++ ys) → All P xs
@@ -100,7 +100,7 @@ resolvent_over test l c d left right k e lt =
     ⊎_elim (λ has. All-contains (λ m. test m.var ≡ true) c m left (from_without l c m (from_once (without l c) m has)).0) (λ has. All-contains (λ m. test m.var ≡ true) d m right (from_without (opposite l) d m has).0)
     (from_joined (each_once (without l c)) (without (opposite l) d) m (k, lt, get_or_default (resolvent l c d) k m e lt))
 
-unless_is : (c d : List Literal) → Contains (unless_tautology c) d → c ≡ d
+pub unless_is : (c d : List Literal) → Contains (unless_tautology c) d → c ≡ d
 unless_is c d has = by_test (cases_Bool (is_tautology c)) where
   by_test : (is_tautology c ≡ true) ⊎ (is_tautology c ≡ false) → c ≡ d
   by_test (inl always) = absurd (Contains-nil d (subst (λ r. Contains r d) (cond-true (is_tautology c) [] (c ∷ []) always) has))

@@ -5,10 +5,11 @@ use Rattle.std.proofs.lemmas.Bool.{cond-true, cond-false}
 use Rattle.std.proofs.lemmas.List.{set_past, set-get_or, get_or_past, get_or_default, append-nil, take_all, take_more, flat_map_more}
 use Rattle.std.proofs.lemmas.List.Sums.{fold_more}
 use Rattle.xs_lits.specs.Literal.{Literal}
-use Rattle.xs_simplify.specs.Slots.{Slot}
+use Rattle.std.specs.Option.{option_to_list}
+use Rattle.xs_simplify.specs.Slots.{Slot, standing}
 use Rattle.xs_simplify.specs.Resolution.{has_literal, without, each_once, resolvent}
 use Rattle.xs_simplify.specs.Elimination.{unless_tautology, resolvents_with, resolvents}
-use Rattle.xs_simplify.specs.Changes.{slot_at, changed_at, changed, slot_has, dropped, shrunk, picked, gathered}
+use Rattle.xs_simplify.specs.Changes.{slot_at, changed_at, changed, slot_has, dropped, shrunk, picked, gathered, entered}
 
 -- no slot past the end is changed, and none by a change that leaves it as it is
 pub changed_past : (f : Slot → Slot) (slots : List Slot) (i : ℕ) → length slots ≤ i → changed_at f slots i ≡ slots
@@ -55,3 +56,12 @@ resolved_all l c ds i start now over e = e ∙ ap (λ r. start ++ resolvents_wit
 pub resolvents_more : (l : Literal) (c : List Literal) (cs ds : List (List Literal)) (i : ℕ) (now next : List (List Literal)) → i < length cs → c ≡ get_or cs i c → now ≡ resolvents l (take i cs) ds → next ≡ now ++ resolvents_with l ds c → next ≡ resolvents l (take (i + 1) cs) ds
 resolvents_more l c cs ds i now next lt is e step =
     step ∙ (ap (λ r. r ++ resolvents_with l ds c) e ∙ (flat_map_more (resolvents_with l ds) [] (take i cs) c ∙ ap (λ r. resolvents l r ds) (ap (λ x. take i cs ++ x ∷ []) is ∙ sym (take_more cs i c lt))))
+
+-- one clause more is entered, and one slot more is listed
+pub entered_more : (c d : List Literal) (list : List (List Literal)) (i : ℕ) (now next : List (List Literal)) → i < length list → c ≡ get_or list i c → now ≡ entered (take i list) → d ≡ each_once c → next ≡ now ++ unless_tautology d → next ≡ entered (take (i + 1) list)
+entered_more c d list i now next lt is e once step =
+    step ∙ (ap (λ x. now ++ unless_tautology x) once ∙ (ap (λ r. r ++ unless_tautology (each_once c)) e ∙ (flat_map_more (λ c. unless_tautology (each_once c)) [] (take i list) c ∙ ap entered (ap (λ x. take i list ++ x ∷ []) is ∙ sym (take_more list i c lt)))))
+
+pub standing_more : (o : Slot) (slots : List Slot) (i : ℕ) (now next : List (List Literal)) → i < length slots → o ≡ get_or slots i o → now ≡ standing (take i slots) → next ≡ now ++ option_to_list o → next ≡ standing (take (i + 1) slots)
+standing_more o slots i now next lt is e step =
+    step ∙ (ap (λ r. r ++ option_to_list o) e ∙ (flat_map_more option_to_list [] (take i slots) o ∙ ap standing (ap (λ x. take i slots ++ x ∷ []) is ∙ sym (take_more slots i o lt))))

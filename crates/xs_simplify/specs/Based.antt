@@ -1,8 +1,8 @@
 -- What holds of a clause base, and what its changes keep.
-use Rattle.std.specs.Prelude.{◌≡◌, List, [], ◌∷◌, ◌++◌, Some, map}
+use Rattle.std.specs.Prelude.{◌≡◌, ℕ, List, [], ◌∷◌, ◌++◌, Some, map}
 use Rattle.xs_lits.specs.Literal.{Literal}
 use Rattle.xs_simplify.specs.Slots.{AreNoted, IsSimpler}
-use Rattle.xs_simplify.specs.Changes.{taken_out, assigned}
+use Rattle.xs_simplify.specs.Changes.{taken_out, assigned, entered}
 use Rattle.xs_simplify.specs.declared.base.Base.{Base}
 
 -- each clause that stands is noted at each of its literals
@@ -38,3 +38,9 @@ pub record Assigns (old new : Base) (l : Literal) : Type 0 where
   pub sound : IsSound new
   pub places : new.places ≡ old.places
   pub slots : new.slots.items ≡ assigned old.occurrences l old.slots.items
+
+-- the base has the clauses of a list
+pub record IsEntered (last : ℕ) (list : List (List Literal)) (b : Base) : Type 0 where
+  pub sound : IsSound b
+  pub places : b.places ≡ last
+  pub slots : b.slots.items ≡ map Some (entered list)

@@ -3,7 +3,7 @@
 //! What always holds is that each clause that stands is noted at each of its literals (`IsSound`): so elimination finds
 //! all clauses of a variable. [`Base::eliminate`] and [`Base::propagate`] are the main calls. When which call pays is
 //! asked elsewhere: each of them says the same of the places whenever it is called.
-ghost use Rattle.std.specs.Prelude.{◌≡◌, ◌⊎◌, ◌↔◌, ◌<◌, ◌++◌, ◌∷◌, [], IfOk, OnOk, IfSome, IsTrue, Some, map};
+ghost use Rattle.std.specs.Prelude.{◌≡◌, ◌^◌, ◌↔◌, ◌<◌, ◌++◌, ◌∷◌, [], IfOk, OnOk, IfSome, IsTrue, Some, map};
 ghost use Rattle.xs_simplify.specs.Meeting.{IsOwn};
 ghost use Rattle.xs_simplify.specs.Changes.{slot_at, resolvents_in};
 ghost use Rattle.xs_simplify.specs.Slots.{IsSimpler, AreNoted};
@@ -103,7 +103,12 @@ impl Base {
     {
         let with = gather(self.alloc, &self.slots, self.occurrences.at(lit), lit)?;
         let opposite = lit.neg();
-        let against = gather(self.alloc, &self.slots, self.occurrences.at(opposite), opposite)?;
+        let against = gather(
+            self.alloc,
+            &self.slots,
+            self.occurrences.at(opposite),
+            opposite,
+        )?;
         if with.len().saturating_mul(against.len()) > PRODUCT {
             return Ok(None);
         }
@@ -152,7 +157,12 @@ impl Base {
     {
         drop_each(&mut self.slots, self.occurrences.at(lit), lit);
         let opposite = lit.neg();
-        shrink_each(&mut self.slots, self.occurrences.at(opposite), opposite, &mut self.units)?;
+        shrink_each(
+            &mut self.slots,
+            self.occurrences.at(opposite),
+            opposite,
+            &mut self.units,
+        )?;
         self.add(&[lit])?;
         Ok(())
     }
@@ -167,5 +177,21 @@ impl Base {
             return Ok(());
         };
         self.assign(lit)
+    }
+
+    /// A slot whose clause is to be propagated, if there is one left.
+    #[tactic(auto, using(crate::proofs::SimplerLaws::simpler_itself))]
+    pub fn pop_unit(&mut self) -> Option<usize>
+        requires { IsSound self.old }
+        ensures { Becomes self.old self.new }
+    {
+        self.units.pop()
+    }
+
+    /// One more than the highest variable.
+    pub fn variables(&self) -> u64
+        ensures { result < 2 ^ 63 }
+    {
+        self.occurrences.len() / 2
     }
 }

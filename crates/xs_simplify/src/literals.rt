@@ -67,7 +67,12 @@ pub fn without(alloc: Global, lits: &[Lit], lit: Lit) -> Result<Clause, OutOfMem
 }
 
 /// The resolvent of a clause with a literal and one with its opposite.
-pub fn resolvent(alloc: Global, lit: Lit, with: &[Lit], other: &[Lit]) -> Result<Clause, OutOfMemory>
+pub fn resolvent(
+    alloc: Global,
+    lit: Lit,
+    with: &[Lit],
+    other: &[Lit],
+) -> Result<Clause, OutOfMemory>
     ensures { IfOk result (λ c. c ≡ resolved lit with.now other.now) }
 {
     let mut out = Vec::new(alloc);

@@ -76,6 +76,13 @@ impl Occurrences {
         }
     }
 
+    /// For how many codes there is a list.
+    pub fn len(&self) -> u64
+        ensures { result ≡ length self.now }
+    {
+        self.lists.len() as u64
+    }
+
     /// The numbers that were noted at a literal.
     pub fn at(&self, lit: Lit) -> &[usize]
         ensures { result.now ≡ noted_at self.now (code_of lit) }

@@ -14,9 +14,9 @@ use xs_value::OutOfMemory;
 /// The most literals of a resolvent.
 pub const LONGEST: usize = 10;
 
-// Appends the clause unless it is a tautology; answers whether the list has at most so many clauses then, and the clause
-// is not too long.
-fn push_open(list: &mut ClauseList, clause: Clause, most: usize) -> Result<bool, OutOfMemory>
+/// Appends the clause unless it is a tautology; answers whether the list has at most so many clauses then, and the clause
+/// is not too long.
+pub fn push_open(list: &mut ClauseList, clause: Clause, most: usize) -> Result<bool, OutOfMemory>
     ensures { OnOk result (list.new ≡ list.old ++ unless_tautology clause) }
 {
     if is_tautology(clause.lits()) {
@@ -29,7 +29,14 @@ fn push_open(list: &mut ClauseList, clause: Clause, most: usize) -> Result<bool,
 
 // Appends the resolvents of a clause with each of the others, unless they get too many or too long.
 #[tactic(auto, using(crate::proofs::SlotSteps::resolved_none, crate::proofs::SlotSteps::resolved_more, crate::proofs::SlotSteps::resolved_all))]
-fn resolve_with(alloc: Global, list: &mut ClauseList, lit: Lit, with: &[Lit], against: &[Clause], most: usize) -> Result<bool, OutOfMemory>
+fn resolve_with(
+    alloc: Global,
+    list: &mut ClauseList,
+    lit: Lit,
+    with: &[Lit],
+    against: &[Clause],
+    most: usize,
+) -> Result<bool, OutOfMemory>
     ensures { IfOk result (λ fits. fits ≡ true → list.new ≡ list.old ++ resolvents_with lit against.now with.now) }
 {
     for other in against {
@@ -44,7 +51,12 @@ fn resolve_with(alloc: Global, list: &mut ClauseList, lit: Lit, with: &[Lit], ag
 #[tactic(auto, using(crate::proofs::SlotSteps::resolvents_more))]
 /// All resolvents of the clauses of a literal with those of its opposite that are no tautologies, or `None` where they
 /// are more than these clauses or one is too long.
-pub fn resolve_all(alloc: Global, lit: Lit, with: &[Clause], against: &[Clause]) -> Result<Option<ClauseList>, OutOfMemory>
+pub fn resolve_all(
+    alloc: Global,
+    lit: Lit,
+    with: &[Clause],
+    against: &[Clause],
+) -> Result<Option<ClauseList>, OutOfMemory>
     ensures { IfOk result (λ o. IfSome o (λ list. list ≡ resolvents lit with.now against.now)) }
 {
     let most = with.len().saturating_add(against.len());

@@ -45,7 +45,11 @@ pub fn drop_each(slots: &mut Vec<Option<Clause>>, at: &[usize], lit: Lit)
 }
 
 // The slot's clause without the literal, if it has it.
-fn shrunk_clause(alloc: Global, slot: &Option<Clause>, lit: Lit) -> Result<Option<Clause>, OutOfMemory>
+fn shrunk_clause(
+    alloc: Global,
+    slot: &Option<Clause>,
+    lit: Lit,
+) -> Result<Option<Clause>, OutOfMemory>
     ensures { IfOk result (λ o. MatchOption o (shrunk lit slot.now ≡ slot.now) (λ c. shrunk lit slot.now ≡ Some c)) }
 {
     let Some(clause) = slot else {
@@ -60,7 +64,12 @@ fn shrunk_clause(alloc: Global, slot: &Option<Clause>, lit: Lit) -> Result<Optio
 
 // Takes the literal out of the clause of a place; answers whether that leaves it one literal or none.
 #[tactic(auto, using(crate::proofs::SlotSteps::changed_past, crate::proofs::SlotSteps::changed_same, crate::proofs::SlotSteps::changed_to))]
-fn shrink_at(alloc: Global, slots: &mut Vec<Option<Clause>>, i: usize, lit: Lit) -> Result<bool, OutOfMemory>
+fn shrink_at(
+    alloc: Global,
+    slots: &mut Vec<Option<Clause>>,
+    i: usize,
+    lit: Lit,
+) -> Result<bool, OutOfMemory>
     ensures { OnOk result (slots.new.items ≡ changed_at (shrunk lit) slots.old.items i) }
 {
     if i >= slots.len() {
@@ -77,7 +86,12 @@ fn shrink_at(alloc: Global, slots: &mut Vec<Option<Clause>>, i: usize, lit: Lit)
 /// Takes the literal out of the clauses of these places; the places of those that are left one literal or none come
 /// to the end of `units`.
 #[tactic(auto, using(crate::proofs::SlotSteps::changed_more))]
-pub fn shrink_each(slots: &mut Vec<Option<Clause>>, at: &[usize], lit: Lit, units: &mut Vec<usize>) -> Result<(), OutOfMemory>
+pub fn shrink_each(
+    slots: &mut Vec<Option<Clause>>,
+    at: &[usize],
+    lit: Lit,
+    units: &mut Vec<usize>,
+) -> Result<(), OutOfMemory>
     ensures { OnOk result (slots.new.items ≡ changed (shrunk lit) slots.old.items at.now) }
 {
     let alloc = *units.allocator();
@@ -90,7 +104,12 @@ pub fn shrink_each(slots: &mut Vec<Option<Clause>>, at: &[usize], lit: Lit, unit
 }
 
 // Appends the clause of a place if it has the literal.
-fn pick_at(list: &mut ClauseList, slots: &[Option<Clause>], i: usize, lit: Lit) -> Result<(), OutOfMemory>
+fn pick_at(
+    list: &mut ClauseList,
+    slots: &[Option<Clause>],
+    i: usize,
+    lit: Lit,
+) -> Result<(), OutOfMemory>
     ensures { OnOk result (list.new ≡ list.old ++ picked lit (slot_at slots.now i)) }
 {
     if i >= slots.len() {
@@ -107,7 +126,12 @@ fn pick_at(list: &mut ClauseList, slots: &[Option<Clause>], i: usize, lit: Lit) 
 
 /// Copies of those clauses of these places that have the literal.
 #[tactic(auto, using(crate::proofs::SlotSteps::gathered_more))]
-pub fn gather(alloc: Global, slots: &[Option<Clause>], at: &[usize], lit: Lit) -> Result<ClauseList, OutOfMemory>
+pub fn gather(
+    alloc: Global,
+    slots: &[Option<Clause>],
+    at: &[usize],
+    lit: Lit,
+) -> Result<ClauseList, OutOfMemory>
     ensures { IfOk result (λ list. list ≡ gathered lit slots.now at.now) }
 {
     let mut list = ClauseList::new(alloc);

@@ -17,6 +17,6 @@ returns c =
     let s = c.args.self.now in
     let l = c.args.lit in
     let less =
-        shrunk_by s.occurrences l c.neg-opposite.result s.slots.items c.drop_each.new.slots.items c.shrink_each.new.slots.items c.at.result.now c.at-2.result.now c.at.ensures c.drop_each.ensures c.neg-opposite.ensures c.at-2.ensures c.in_ok-shrink_each.ensures in
+    shrunk_by s.occurrences l c.neg-opposite.result s.slots.items c.drop_each.new.slots.items c.shrink_each.new.slots.items c.at.result.now c.at-2.result.now c.at.ensures c.drop_each.ensures c.neg-opposite.ensures c.at-2.ensures c.in_ok-shrink_each.ensures in
     let added = c.in_ok-add.ensures in
     record { sound = added.sound; places = added.places; slots = added.slots ∙ ap (λ (x : List Slot). x ++ Some (l ∷ []) ∷ []) less }

@@ -9,5 +9,5 @@ returns c =
     let s = c.args.self.now in
     let l = c.args.lit in
     let slots : c.drop_each-2.new.slots.items ≡ taken_out s.occurrences l s.slots.items =
-        taken_by s.occurrences l c.neg-opposite.result s.slots.items c.drop_each.new.slots.items c.drop_each-2.new.slots.items c.at.result.now c.at-2.result.now c.at.ensures c.drop_each.ensures c.neg-opposite.ensures c.at-2.ensures c.drop_each-2.ensures in
+    taken_by s.occurrences l c.neg-opposite.result s.slots.items c.drop_each.new.slots.items c.drop_each-2.new.slots.items c.at.result.now c.at-2.result.now c.at.ensures c.drop_each.ensures c.neg-opposite.ensures c.at-2.ensures c.drop_each-2.ensures in
     record { sound = subst (AreNoted s.occurrences) (sym slots) (taken_noted s.occurrences s.slots.items l c.requires); places = refl; slots = slots }
