@@ -6,12 +6,12 @@ use Rattle.xs_lits.specs.Code.{code_of}
 use Rattle.xs_simplify.specs.Meeting.{IsOwn, AreMetAlike, HasNoNewVariable}
 use Rattle.xs_simplify.specs.Slots.{Slot, AreNoted, IsSimpler, standing}
 use Rattle.xs_simplify.specs.Elimination.{resolvents}
-use Rattle.xs_simplify.specs.Changes.{slot_at, changed, dropped, shrunk, gathered, taken_out, resolvents_in, eliminated, assigned, entered}
+use Rattle.xs_simplify.specs.Changes.{slot_at, changed, dropped, shrunk, gathered, taken_out, resolvents_in, eliminated, assigned, covered, covered_by, entered}
 use Rattle.xs_simplify.specs.Occurring.{noted_at}
-use Rattle.xs_simplify.specs.Based.{IsSound, Becomes, Adds, AddsAll, TakesOut, Assigns, IsEntered}
+use Rattle.xs_simplify.specs.Based.{IsSound, Becomes, Adds, AddsAll, TakesOut, Assigns, Covers, IsEntered}
 use Rattle.xs_simplify.specs.declared.base.Base.{Base}
-use Rattle.xs_simplify.proofs.SlotLaws.{noted_changed, dropped_lessens, shrunk_lessens}
-use Rattle.xs_simplify.proofs.SimplerLaws.{simpler_itself, simpler_all, unit_law, elimination_law}
+use Rattle.xs_simplify.proofs.SlotLaws.{noted_changed, dropped_lessens, shrunk_lessens, covered_lessens}
+use Rattle.xs_simplify.proofs.SimplerLaws.{simpler_itself, simpler_all, unit_law, subsumption_law, elimination_law}
 use Rattle.xs_simplify.proofs.ListLaws.{met_alike, no_new_variable}
 
 -- a base is as simple as itself, and changes follow one another
@@ -98,3 +98,13 @@ simplified_same places list a b f g = met_alike places list b.slots.items (enter
 
 pub simplified_variables : (places : ℕ) (list : List (List Literal)) (a b : Base) → IsEntered places list a → Becomes a b → HasNoNewVariable list (standing b.slots.items)
 simplified_variables places list a b f g = no_new_variable places list b.slots.items (entered_simpler places list a b f g)
+
+-- what is subsumed leaves all noted
+pub covered_noted : (occurrences : List (List ℕ)) (slots now : List Slot) (c : List Literal) (at : List ℕ) → now ≡ changed (covered c) slots at → AreNoted occurrences slots → AreNoted occurrences now
+covered_noted occurrences slots now c at is noted = subst (AreNoted occurrences) (sym is) (noted_changed (covered c) (covered_lessens c) occurrences slots at noted)
+
+pub covers_by : (a b : Base) (l : Literal) (c : List Literal) (now : List Slot) (at : List ℕ) → at ≡ noted_at a.occurrences (code_of l) → now ≡ changed (covered c) a.slots.items at → IsSound b → b.places ≡ a.places → b.slots.items ≡ now ++ Some c ∷ [] → Covers a b l c
+covers_by a b l c now at e f sound places slots = record { sound = sound; places = places; slots = slots ∙ ap (λ s. s ++ Some c ∷ []) (f ∙ ap (changed (covered c) a.slots.items) e) }
+
+pub becomes_covered : (a b : Base) (l : Literal) (c : List Literal) (i : ℕ) → slot_at a.slots.items i ≡ Some c → Covers a b l c → Becomes a b
+becomes_covered a b l c i is f = record { sound = f.sound; places = f.places; simpler = subst (IsSimpler a.places a.slots.items) (sym f.slots) (subsumption_law a.places a.slots.items a.occurrences l c i is) }

@@ -7,3 +7,4 @@ pub mod SimplerLaws
 pub mod SlotSteps
 pub mod BaseLaws
 pub mod ListLaws
+pub mod EliminationLaw

@@ -14,11 +14,11 @@ use Rattle.xs_simplify.specs.Meeting.{IsOwn}
 use Rattle.xs_simplify.specs.Resolution.{has_literal, without, each_once, joined, resolvent, is_tautology}
 use Rattle.xs_simplify.specs.Elimination.{unless_tautology, resolvents_with, resolvents}
 use Rattle.xs_simplify.specs.Slots.{Slot, IsMade, Makes, IsMetBy, IsOver, IsSlotOver, IsSimpler, AreNoted}
-use Rattle.xs_simplify.specs.Changes.{slot_at, changed_at, changed, dropped, shrunk, picked, gathered, taken_out, resolvents_in, eliminated, assigned, entered}
+use Rattle.xs_simplify.specs.Changes.{slot_at, changed_at, changed, dropped, shrunk, picked, gathered, taken_out, resolvents_in, eliminated, assigned, covered, covered_by, entered}
 use Rattle.xs_simplify.specs.Occurring.{noted_at}
 use Rattle.xs_simplify.proofs.Members.{Contains-nil, cons_cases, from_flat_map, in_flat_map, contains_from_has, has_from_contains, from_without, from_once, from_joined}
 use Rattle.xs_simplify.proofs.ClauseLaws.{AreTrue, turned, turned_other, lacking_stays, HasTurn, has_turn, resolvents_follow, true_literal}
-use Rattle.xs_simplify.proofs.SlotLaws.{all_after, all_before, dropped_cases, dropped_made, dropped_back, dropped_over, shrunk_made, shrunk_back, shrunk_over, over_fewer, slot_from, slot_to}
+use Rattle.xs_simplify.proofs.SlotLaws.{all_after, all_before, dropped_cases, dropped_made, dropped_back, dropped_over, shrunk_made, shrunk_back, shrunk_over, covered_made, covered_back, covered_over, over_fewer, slot_from, slot_to}
 
 -- a list is as simple as itself, and changes follow one another
 pub simpler_itself : (places : ℕ) (a : List Slot) → IsSimpler places a a
@@ -72,6 +72,18 @@ unit_law places slots occurrences l i is =
     let unit : clause_value w (l ∷ []) ≡ true = All-contains (IsMade w) (less ++ Some (l ∷ []) ∷ []) (Some (l ∷ [])) made (Contains-push less (Some (l ∷ []))) in
     all_before (IsMade w) (dropped l) (dropped_back w l (one_true w l unit)) slots with (all_before (IsMade w) (shrunk (opposite l)) (shrunk_back w (opposite l)) fewer against (front (IsMade w) less (Some (l ∷ []) ∷ []) made)))
     (λ test over. All-push (IsSlotOver test) less (Some (l ∷ [])) (all_after (IsSlotOver test) (shrunk (opposite l)) tt (shrunk_over test (opposite l)) fewer against (all_after (IsSlotOver test) (dropped l) tt (dropped_over test l) slots with over)) (at_slot (IsSlotOver test) slots i (l ∷ []) is over))
+
+-- what a clause subsumes goes
+pub subsumption_law : (places : ℕ) (slots : List Slot) (occurrences : List (List ℕ)) (l : Literal) (c : List Literal) (i : ℕ) → slot_at slots i ≡ Some c → IsSimpler places slots (covered_by occurrences l c slots)
+subsumption_law places slots occurrences l c i is =
+    let at = noted_at occurrences (code_of l) in
+    let less = changed (covered c) slots at in
+    simpler_same places slots (less ++ Some c ∷ [])
+    (λ w made. All-push (IsMade w) less (Some c) (all_after (IsMade w) (covered c) tt (covered_made w c) slots at made) (at_slot (IsMade w) slots i c is made))
+    (λ w made.
+    let on : clause_value w c ≡ true = All-contains (IsMade w) (less ++ Some c ∷ []) (Some c) made (Contains-push less (Some c)) in
+    all_before (IsMade w) (covered c) (covered_back w c on) slots at (front (IsMade w) less (Some c ∷ []) made))
+    (λ test over. All-push (IsSlotOver test) less (Some c) (all_after (IsSlotOver test) (covered c) tt (covered_over test c) slots at over) (at_slot (IsSlotOver test) slots i c is over))
 
 -- the clauses that were gathered for a literal: all that have it, and no other
 pub gathered_all : (l : Literal) (slots : List Slot) (at : List ℕ) (i : ℕ) (c : List Literal) → Contains at i → slot_at slots i ≡ Some c → Contains c l → Contains (gathered l slots at) c

@@ -5,15 +5,16 @@ use Rattle.std.proofs.lemmas.Bool.{cases_Bool, cases_eq, cases_lt, cond-true, co
 use Rattle.std.proofs.lemmas.Option.{none-some, same_Some, get_or_from_slice_get, slice_get_within, slice_get-get_or, slice_get_past}
 use Rattle.std.proofs.lemmas.List.{get_or-set_same, get_or-set_other, get_or_default, set_past, length-set, get_or_past, get_or_append_left, length_push, get_or_push}
 use Rattle.std.proofs.lemmas.List.Elements.{All-set, All-contains, All-push, All-append, All-map, All-weaker, All-filter}
+use Rattle.std.proofs.lemmas.List.Sums.{AllPass-from_list_all}
 use Rattle.xs_lits.specs.Literal.{Literal, opposite}
 use Rattle.xs_lits.specs.Code.{code_of}
 use Rattle.xs_lits.specs.Models.{TotalAssignment, literal_value, clause_value}
-use Rattle.xs_simplify.specs.Resolution.{has_literal, without, each_once}
+use Rattle.xs_simplify.specs.Resolution.{has_literal, subsumes, without, each_once}
 use Rattle.xs_simplify.specs.Slots.{Slot, IsMade, Makes, IsMetBy, IsOver, IsSlotOver, IsSimpler, AreNoted}
-use Rattle.xs_simplify.specs.Changes.{slot_at, changed_at, changed, dropped, shrunk, picked, gathered}
+use Rattle.xs_simplify.specs.Changes.{slot_at, changed_at, changed, dropped, shrunk, covered, picked, gathered}
 use Rattle.xs_simplify.specs.Occurring.{noted_at, KeepsNotes, HasNoted, IsNotedAt}
 use Rattle.xs_simplify.proofs.Members.{Contains-nil, cons_cases, from_flat_map, in_flat_map, contains_from_has, has_from_contains, from_without, from_once}
-use Rattle.xs_simplify.proofs.ClauseLaws.{true_by, true_without, true_with, true_once, once_true}
+use Rattle.xs_simplify.proofs.ClauseLaws.{true_by, true_in_more, true_without, true_with, true_once, once_true}
 
 -- what each change keeps holds of all slots after as before
 pub all_after : (P : Slot → Type 0) (f : Slot → Slot) → P None → ((o : Slot) → P o → P (f o)) → (slots : List Slot) (at : List ℕ) → All P slots → All P (changed f slots at)
@@ -68,6 +69,29 @@ pub shrunk_back : (v : TotalAssignment) (l : Literal) (o : Slot) → IsMade v (s
 shrunk_back v l None made = tt
 shrunk_back v l (Some c) made = ⊎_elim (λ less. true_with v l c (once_true v (without l c) (subst (IsMade v) less made))) (λ same. subst (IsMade v) same made) (shrunk_cases l c)
 
+-- a clause is taken out where another subsumes it, and only there
+pub covered_cases : (c d : List Literal) → ((covered c (Some d) ≡ None) × (subsumes c d ≡ true)) ⊎ (covered c (Some d) ≡ Some d)
+covered_cases c d = by_test (cases_Bool (subsumes c d)) where
+  by_test : (subsumes c d ≡ true) ⊎ (subsumes c d ≡ false) → ((covered c (Some d) ≡ None) × (subsumes c d ≡ true)) ⊎ (covered c (Some d) ≡ Some d)
+  by_test (inl there) = inl (cond-true (subsumes c d) None (Some d) there, there)
+  by_test (inr lacks) = inr (cond-false (subsumes c d) None (Some d) lacks)
+
+-- a subsumed clause is true where the other is
+pub subsumed_true : (v : TotalAssignment) (c d : List Literal) → subsumes c d ≡ true → clause_value v c ≡ true → clause_value v d ≡ true
+subsumed_true v c d e on = true_in_more v c d (λ m has. contains_from_has m d (All-contains (λ l. has_literal l d ≡ true) c m (AllPass-from_list_all (λ l. has_literal l d) c e) has)) on
+
+pub covered_made : (v : TotalAssignment) (c : List Literal) (o : Slot) → IsMade v o → IsMade v (covered c o)
+covered_made v c None made = tt
+covered_made v c (Some d) made = ⊎_elim (λ gone. subst (IsMade v) (sym gone.0) tt) (λ same. subst (IsMade v) (sym same) made) (covered_cases c d)
+
+pub covered_back : (v : TotalAssignment) (c : List Literal) → clause_value v c ≡ true → (o : Slot) → IsMade v (covered c o) → IsMade v o
+covered_back v c on None made = tt
+covered_back v c on (Some d) made = ⊎_elim (λ gone. subsumed_true v c d gone.1 on) (λ same. subst (IsMade v) same made) (covered_cases c d)
+
+pub covered_over : (test : ℕ → Bool) (c : List Literal) (o : Slot) → IsSlotOver test o → IsSlotOver test (covered c o)
+covered_over test c None over = tt
+covered_over test c (Some d) over = ⊎_elim (λ gone. subst (IsSlotOver test) (sym gone.0) tt) (λ same. subst (IsSlotOver test) (sym same) over) (covered_cases c d)
+
 -- a clause with literals of another has variables of it
 pub over_fewer : (test : ℕ → Bool) (c d : List Literal) → ((m : Literal) → Contains d m → Contains c m) → IsOver test c → IsOver test d
 over_fewer test c d inside over k e lt = All-contains (λ m. test m.var ≡ true) c (get_or d k e) over (inside (get_or d k e) (k, lt, get_or_default d k (get_or d k e) e lt))
@@ -89,6 +113,12 @@ dropped_lessens l = record { at = by_slot } where
   by_slot : (o : Slot) (c : List Literal) (m : Literal) → dropped l o ≡ Some c → Contains c m → (d : List Literal) × (o ≡ Some d) × Contains d m
   by_slot None c m e has = absurd (none-some c e)
   by_slot (Some d) c m e has = ⊎_elim (λ gone. absurd (none-some c (sym gone.0 ∙ e))) (λ same. (d, refl, subst (λ x. Contains x m) (sym (same_Some d c (sym same ∙ e))) has)) (dropped_cases l d)
+
+pub covered_lessens : (c : List Literal) → Lessens (covered c)
+covered_lessens c = record { at = by_slot } where
+  by_slot : (o : Slot) (e : List Literal) (m : Literal) → covered c o ≡ Some e → Contains e m → (d : List Literal) × (o ≡ Some d) × Contains d m
+  by_slot None e m is has = absurd (none-some e is)
+  by_slot (Some d) e m is has = ⊎_elim (λ gone. absurd (none-some e (sym gone.0 ∙ is))) (λ same. (d, refl, subst (λ x. Contains x m) (sym (same_Some d e (sym same ∙ is))) has)) (covered_cases c d)
 
 pub shrunk_lessens : (l : Literal) → Lessens (shrunk l)
 shrunk_lessens l = record { at = by_slot } where

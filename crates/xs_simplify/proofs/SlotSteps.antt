@@ -7,9 +7,9 @@ use Rattle.std.proofs.lemmas.List.Sums.{fold_more}
 use Rattle.xs_lits.specs.Literal.{Literal}
 use Rattle.std.specs.Option.{option_to_list}
 use Rattle.xs_simplify.specs.Slots.{Slot, standing}
-use Rattle.xs_simplify.specs.Resolution.{has_literal, without, each_once, resolvent}
+use Rattle.xs_simplify.specs.Resolution.{has_literal, subsumes, without, each_once, resolvent}
 use Rattle.xs_simplify.specs.Elimination.{unless_tautology, resolvents_with, resolvents}
-use Rattle.xs_simplify.specs.Changes.{slot_at, changed_at, changed, slot_has, dropped, shrunk, picked, gathered, entered}
+use Rattle.xs_simplify.specs.Changes.{slot_at, changed_at, changed, slot_has, dropped, shrunk, covered, slot_covered, picked, gathered, entered}
 
 -- no slot past the end is changed, and none by a change that leaves it as it is
 pub changed_past : (f : Slot → Slot) (slots : List Slot) (i : ℕ) → length slots ≤ i → changed_at f slots i ≡ slots
@@ -32,6 +32,14 @@ dropped_lacks l (Some c) e = cond-false (has_literal l c) None (Some c) e
 pub shrunk_lacks : (l : Literal) (o : Slot) → slot_has l o ≡ false → shrunk l o ≡ o
 shrunk_lacks l None e = refl
 shrunk_lacks l (Some c) e = cond-false (has_literal l c) (Some (each_once (without l c))) (Some c) e
+
+pub covered_has : (c : List Literal) (o : Slot) → slot_covered c o ≡ true → covered c o ≡ None
+covered_has c None e = refl
+covered_has c (Some d) e = cond-true (subsumes c d) None (Some d) e
+
+pub covered_lacks : (c : List Literal) (o : Slot) → slot_covered c o ≡ false → covered c o ≡ o
+covered_lacks c None e = refl
+covered_lacks c (Some d) e = cond-false (subsumes c d) None (Some d) e
 
 -- one clause more is looked at
 pub changed_more : (f : Slot → Slot) (slots : List Slot) (at : List ℕ) (k i : ℕ) (now next : List Slot) → k < length at → i ≡ get_or at k 0 → now ≡ changed f slots (take k at) → next ≡ changed_at f now i → next ≡ changed f slots (take (k + 1) at)

@@ -2,7 +2,7 @@
 use Rattle.std.specs.Prelude.{◌≡◌, ℕ, List, [], ◌∷◌, ◌++◌, Some, map}
 use Rattle.xs_lits.specs.Literal.{Literal}
 use Rattle.xs_simplify.specs.Slots.{AreNoted, IsSimpler}
-use Rattle.xs_simplify.specs.Changes.{taken_out, assigned, entered}
+use Rattle.xs_simplify.specs.Changes.{taken_out, assigned, covered_by, entered}
 use Rattle.xs_simplify.specs.declared.base.Base.{Base}
 
 -- each clause that stands is noted at each of its literals
@@ -44,3 +44,9 @@ pub record IsEntered (last : ℕ) (list : List (List Literal)) (b : Base) : Type
   pub sound : IsSound b
   pub places : b.places ≡ last
   pub slots : b.slots.items ≡ map Some (entered list)
+
+-- what a clause subsumes among those of a literal is gone
+pub record Covers (old new : Base) (l : Literal) (c : List Literal) : Type 0 where
+  pub sound : IsSound new
+  pub places : new.places ≡ old.places
+  pub slots : new.slots.items ≡ covered_by old.occurrences l c old.slots.items

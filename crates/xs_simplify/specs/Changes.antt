@@ -5,7 +5,7 @@ use Rattle.xs_lits.specs.Literal.{Literal, opposite}
 use Rattle.xs_lits.specs.Code.{code_of}
 use Rattle.xs_simplify.specs.Slots.{Slot}
 use Rattle.xs_simplify.specs.Occurring.{noted_at}
-use Rattle.xs_simplify.specs.Resolution.{has_literal, without, each_once, is_tautology}
+use Rattle.xs_simplify.specs.Resolution.{has_literal, without, each_once, subsumes}
 use Rattle.xs_simplify.specs.Elimination.{unless_tautology, resolvents}
 
 -- what the slot of a place has
@@ -35,6 +35,16 @@ abbrev pub shrunk : Literal → Slot → Slot
 shrunk l None = None
 shrunk l (Some c) = if has_literal l c then Some (each_once (without l c)) else Some c
 
+-- a clause that another one subsumes is taken out
+abbrev pub covered : List Literal → Slot → Slot
+covered c None = None
+covered c (Some d) = if subsumes c d then None else Some d
+
+-- the slot has a clause that another one subsumes
+abbrev pub slot_covered : List Literal → Slot → Bool
+slot_covered c None = false
+slot_covered c (Some d) = subsumes c d
+
 -- the clause, if it has the literal
 abbrev pub picked : Literal → Slot → List (List Literal)
 picked l None = []
@@ -59,6 +69,10 @@ eliminated occurrences l slots = taken_out occurrences l slots ++ map Some (reso
 -- a literal is true: its clauses go, its opposite goes out of clauses, and it stands as a clause of its own
 abbrev pub assigned : List (List ℕ) → Literal → List Slot → List Slot
 assigned occurrences l slots = changed (shrunk (opposite l)) (changed (dropped l) slots (noted_at occurrences (code_of l))) (noted_at occurrences (code_of (opposite l))) ++ Some (l ∷ []) ∷ []
+
+-- what the clause subsumes among the clauses of a literal is taken out, itself too, and the clause stands at the end
+abbrev pub covered_by : List (List ℕ) → Literal → List Literal → List Slot → List Slot
+covered_by occurrences l c slots = changed (covered c) slots (noted_at occurrences (code_of l)) ++ Some c ∷ []
 
 -- the clauses of a list, each literal once, but for tautologies
 abbrev pub entered : List (List Literal) → List (List Literal)

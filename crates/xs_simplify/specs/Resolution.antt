@@ -1,12 +1,16 @@
 -- Resolvents: what two clauses say together where one has a literal and the other its opposite.
 use Rattle.std.specs.Prelude.{◌≡◌, ℕ, Bool, true, false, not, if◌then◌else◌, List, [], ◌∷◌, ◌++◌, fold, refl}
-use Rattle.std.specs.List.{list_any, filter}
+use Rattle.std.specs.List.{list_any, list_all, filter}
 use Rattle.xs_lits.specs.Literal.{Literal, plain, opposite}
 use Rattle.xs_lits.specs.Truth.{is_same}
 
 -- the clause has the literal
 abbrev pub has_literal : Literal → List Literal → Bool
 has_literal l c = list_any (is_same l) c
+
+-- each literal of the one clause is in the other: where the first is true, so is the second
+abbrev pub subsumes : List Literal → List Literal → Bool
+subsumes c d = list_all (λ l. has_literal l d) c
 
 -- the clause but for the literal
 abbrev pub without : Literal → List Literal → List Literal

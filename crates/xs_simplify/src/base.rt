@@ -7,11 +7,11 @@ ghost use Rattle.std.specs.Prelude.{◌≡◌, ◌^◌, ◌↔◌, ◌<◌, ◌+
 ghost use Rattle.xs_simplify.specs.Meeting.{IsOwn};
 ghost use Rattle.xs_simplify.specs.Changes.{slot_at, resolvents_in};
 ghost use Rattle.xs_simplify.specs.Slots.{IsSimpler, AreNoted};
-ghost use Rattle.xs_simplify.specs.Based.{IsSound, Becomes, Adds, AddsAll, TakesOut, Assigns};
+ghost use Rattle.xs_simplify.specs.Based.{IsSound, Becomes, Adds, AddsAll, TakesOut, Assigns, Covers};
 
 use crate::occurrences::Occurrences;
 use crate::resolving::resolve_all;
-use crate::slots::{drop_each, gather, shrink_each};
+use crate::slots::{cover_each, drop_each, gather, shrink_each, slot_covered};
 use std::alloc::Global;
 use xs_lits::clause::{Clause, ClauseList};
 use xs_lits::lit::Lit;
@@ -19,6 +19,9 @@ use xs_value::OutOfMemory;
 
 /// The most products of occurrences of a variable and of its negation with which it is eliminated.
 pub const PRODUCT: usize = 16;
+
+/// The most occurrences of a literal at which subsumed clauses are looked for.
+pub const LOOKED_AT: usize = 64;
 
 /// Clauses with their occurrence lists.
 #[derive(Drop)]
@@ -32,8 +35,6 @@ pub struct Base {
     pub occurrences: Occurrences,
     /// Slots of clauses of one literal, which have still to be propagated.
     pub units: Vec<usize>,
-    /// Variables of clauses that were taken out.
-    pub touched: Vec<u64>,
 }
 
 impl Base {
@@ -49,7 +50,6 @@ impl Base {
             slots: Vec::new(alloc),
             occurrences: Occurrences::new(alloc),
             units: Vec::new(alloc),
-            touched: Vec::new(alloc),
         }
     }
 
@@ -177,6 +177,94 @@ impl Base {
             return Ok(());
         };
         self.assign(lit)
+    }
+
+    // The literal of these with the fewest occurrences, if it has at most LOOKED_AT.
+    fn rarest(&self, lits: &[Lit]) -> Option<Lit> {
+        let mut fewest = LOOKED_AT;
+        let mut rarest = None;
+        for lit in lits {
+            let count = self.occurrences.at(*lit).len();
+            if count <= fewest {
+                fewest = count;
+                rarest = Some(*lit);
+            }
+        }
+        rarest
+    }
+
+    // Whether the clause of a place subsumes another one of these places.
+    fn covers_another(&self, i: usize, lits: &[Lit], at: &[usize]) -> bool {
+        for j in at {
+            if *j != i && *j < self.slots.len() && slot_covered(&self.slots[*j], lits) {
+                return true;
+            }
+        }
+        false
+    }
+
+    // A literal all of whose clauses are to be looked at for those that the clause of a place subsumes, if there are any.
+    fn covering(&self, i: usize) -> Option<Lit> {
+        if i >= self.slots.len() {
+            return None;
+        }
+        let Some(clause) = &self.slots[i] else {
+            return None;
+        };
+        let rarest = self.rarest(clause.lits())?;
+        if !self.covers_another(i, clause.lits(), self.occurrences.at(rarest)) {
+            return None;
+        }
+        Some(rarest)
+    }
+
+    // A copy of the clause of a place.
+    fn copy_at(&self, i: usize) -> Result<Option<Clause>, OutOfMemory>
+        ensures { IfOk result (λ o. IfSome o (λ c. slot_at self.now.slots.items i ≡ Some c)) }
+    {
+        if i >= self.slots.len() {
+            return Ok(None);
+        }
+        let Some(clause) = &self.slots[i] else {
+            return Ok(None);
+        };
+        let copy = clause.copy()?;
+        Ok(Some(copy))
+    }
+
+    // Takes out what a clause subsumes among those of a literal, and appends the clause.
+    fn cover(&mut self, lit: Lit, clause: &Clause) -> Result<(), OutOfMemory>
+        requires { IsSound self.old }
+        ensures { OnOk result (Covers self.old self.new lit clause.now) }
+    {
+        cover_each(&mut self.slots, self.occurrences.at(lit), clause.lits());
+        self.add(clause.lits())?;
+        Ok(())
+    }
+
+    // Takes out what the clause of a place subsumes among those of a literal.
+    #[tactic(auto, using(crate::proofs::BaseLaws::becomes_itself))]
+    fn cover_from(&mut self, i: usize, lit: Lit) -> Result<(), OutOfMemory>
+        requires { IsSound self.old }
+        ensures { OnOk result (Becomes self.old self.new) }
+    {
+        let Some(clause) = self.copy_at(i)? else {
+            return Ok(());
+        };
+        self.cover(lit, &clause)?;
+        Ok(())
+    }
+
+    /// Takes out what the clause of a place subsumes, if its literals are rare enough to look for that.
+    #[tactic(auto, using(crate::proofs::BaseLaws::becomes_itself))]
+    pub fn subsume(&mut self, i: usize) -> Result<(), OutOfMemory>
+        requires { IsSound self.old }
+        ensures { OnOk result (Becomes self.old self.new) }
+    {
+        let Some(lit) = self.covering(i) else {
+            return Ok(());
+        };
+        self.cover_from(i, lit)
     }
 
     /// A slot whose clause is to be propagated, if there is one left.

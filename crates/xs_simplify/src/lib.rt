@@ -1,4 +1,21 @@
 //! Lists of clauses, made simpler before they are searched.
+//!
+//! A list says something of its places, the variables 2 to the highest place: a state now, the next one and inputs. All
+//! other variables are the list's own. `IsMet places list v` says that some values which agree with v on the places make
+//! the list true (`specs/Meeting.antt`). [`simplified`] is the one public call: its list is met exactly where the old
+//! one is, has no other variables, and is mostly an eighth as long or less.
+//!
+//! Clauses of one literal are propagated; a clause that another one subsumes is taken out; and a variable that is no
+//! place is eliminated where its resolvents are no more than its clauses: all of them then stand in the place of the
+//! clauses that have it (`specs/Resolution.antt`, `specs/Elimination.antt`). Each of these is one change of a clause
+//! base, [`base`], with one law in `proofs/SimplerLaws.antt`; `proofs/EliminationLaw.antt` has the law of elimination on
+//! plain lists. The clauses lie in slots with an occurrence list for each literal, [`occurrences`], so that no change
+//! looks at all clauses. [`passes`] says what is tried when: no proof depends on that.
+//!
+//! ```text
+//! // places 2 and 3: the gate 4 is 2 and 3, and 4 is true
+//! simplified(alloc, 3, [[-4, 2], [-4, 3], [4, -2, -3], [4]])      // [[2], [3]]
+//! ```
 #![tactic(auto)]
 
 ghost use Rattle.std.specs.Prelude.{IfOk};
@@ -16,8 +33,8 @@ use std::alloc::Global;
 use xs_lits::clause::{Clause, ClauseList};
 use xs_value::OutOfMemory;
 
-/// A list of clauses that says the same of its places, the variables 2 to `places`, and is mostly much shorter: all
-/// other variables are the list's own, and most of them are gone. Takes memory for each number up to the highest variable.
+/// A list of clauses that is met with the same values of the variables 2 to `places` as this one, and has no other
+/// variables than this one. Takes memory for each number up to the highest variable.
 #[tactic(auto, using(crate::proofs::BaseLaws::simplified_same, crate::proofs::BaseLaws::simplified_variables))]
 pub fn simplified(alloc: Global, places: u64, list: &[Clause]) -> Result<ClauseList, OutOfMemory>
     ensures same { IfOk result (λ new. AreMetAlike places list.now new) }

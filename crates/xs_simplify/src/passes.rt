@@ -1,7 +1,7 @@
 //! The passes over a clause base, and how many there are.
 //!
-//! [`simplify`] is the main function: clauses of one literal are propagated, and then variables are eliminated round by
-//! round, until a round eliminates none. What a pass tries is a matter of what pays: that the clauses say the same of
+//! [`simplify`] is the main function: clauses of one literal are propagated, and then round by round clauses are taken out
+//! that others subsume, and variables are eliminated, until a round eliminates none. What a pass tries is a matter of what pays: that the clauses say the same of
 //! the places holds for each of its changes.
 ghost use Rattle.xs_simplify.specs.Based.{IsSound, Becomes};
 ghost use Rattle.std.specs.Prelude.{OnOk};
@@ -43,12 +43,25 @@ fn eliminate_all(base: &mut Base) -> Result<bool, OutOfMemory>
     Ok(changed)
 }
 
-// One round: variables are eliminated, and what that left of one literal is propagated. Answers whether one was.
+// Takes out the clauses that others subsume.
+#[tactic(auto, using(crate::proofs::BaseLaws::becomes_itself, crate::proofs::BaseLaws::becomes_all))]
+fn subsume_all(base: &mut Base) -> Result<(), OutOfMemory>
+    requires { IsSound base.old }
+    ensures { OnOk result (Becomes base.old base.new) }
+{
+    for i in 0..base.slots.len() {
+        base.subsume(i)?;
+    }
+    Ok(())
+}
+
+// One round: subsumed clauses are taken out, variables are eliminated, and what that left of one literal is propagated. Answers whether one was.
 #[tactic(auto, using(crate::proofs::BaseLaws::becomes_all))]
 fn one_round(base: &mut Base) -> Result<bool, OutOfMemory>
     requires { IsSound base.old }
     ensures { OnOk result (Becomes base.old base.new) }
 {
+    subsume_all(base)?;
     let changed = eliminate_all(base)?;
     propagate_all(base)?;
     Ok(changed)

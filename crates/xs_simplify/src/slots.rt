@@ -3,7 +3,8 @@
 //! A slot has a clause, or none once that was taken out. Each function changes exactly what its definition says
 //! (`specs/Changes.antt`). An occurrence list may name places that have nothing to do with the literal: those stay.
 ghost use Rattle.std.specs.Prelude.{◌≡◌, ◌++◌, IfOk, OnOk, IfSome, IfNone, MatchOption, Some};
-ghost use Rattle.xs_simplify.specs.Changes.{changed, changed_at, dropped, gathered, picked, shrunk, slot_at, slot_has as has_at};
+ghost use Rattle.xs_simplify.specs.Changes.{changed, changed_at, covered, dropped, gathered, picked, shrunk, slot_at, slot_covered as covered_at, slot_has as has_at};
+ghost use Rattle.xs_simplify.specs.Resolution.{subsumes};
 
 use crate::literals::{has, without};
 use std::alloc::Global;
@@ -101,6 +102,46 @@ pub fn shrink_each(
         }
     }
     Ok(())
+}
+
+// Whether each literal of the one clause is in the other.
+fn is_within(lits: &[Lit], others: &[Lit]) -> bool
+    ensures { result ≡ subsumes lits.now others.now }
+{
+    lits.iter().all(|lit| has(others, *lit))
+}
+
+/// Whether a slot has a clause that the clause of these literals subsumes.
+pub fn slot_covered(slot: &Option<Clause>, lits: &[Lit]) -> bool
+    ensures { result ≡ covered_at lits.now slot.now }
+{
+    match slot {
+        Some(clause) => is_within(lits, clause.lits()),
+        None => false,
+    }
+}
+
+// Takes the clause of a place out if the clause of these literals subsumes it.
+#[tactic(auto, using(crate::proofs::SlotSteps::changed_past, crate::proofs::SlotSteps::changed_same, crate::proofs::SlotSteps::changed_to, crate::proofs::SlotSteps::covered_has, crate::proofs::SlotSteps::covered_lacks))]
+fn cover_at(slots: &mut Vec<Option<Clause>>, i: usize, lits: &[Lit])
+    ensures { slots.new.items ≡ changed_at (covered lits.now) slots.old.items i }
+{
+    if i >= slots.len() {
+        return;
+    }
+    if slot_covered(&slots[i], lits) {
+        slots[i] = None;
+    }
+}
+
+/// Takes the clauses of these places out that the clause of these literals subsumes.
+#[tactic(auto, using(crate::proofs::SlotSteps::changed_more))]
+pub fn cover_each(slots: &mut Vec<Option<Clause>>, at: &[usize], lits: &[Lit])
+    ensures { slots.new.items ≡ changed (covered lits.now) slots.old.items at.now }
+{
+    for i in at {
+        cover_at(slots, *i, lits);
+    }
 }
 
 // Appends the clause of a place if it has the literal.

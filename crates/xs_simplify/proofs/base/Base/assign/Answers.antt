@@ -1,6 +1,5 @@
-use Rattle.std.proofs.Common.{◌≡◌, refl, sym, ap, ◌∙◌, subst, ◌++◌, ◌∷◌, [], List, Some}
+use Rattle.std.proofs.Common.{sym, ap, ◌∙◌, subst, ◌++◌, ◌∷◌, [], List, Some}
 use Rattle.xs_simplify.specs.Slots.{Slot, AreNoted}
-use Rattle.xs_simplify.specs.Changes.{changed, dropped, shrunk}
 use Rattle.xs_simplify.proofs.BaseLaws.{shrunk_by, shrunk_noted}
 use Rattle.xs_simplify.proofs.base.Base.assign.Goals as goal
 

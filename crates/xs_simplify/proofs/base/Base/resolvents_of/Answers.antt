@@ -1,8 +1,6 @@
-use Rattle.std.proofs.Common.{◌≡◌, ◌∙◌, List, sym, ap}
+use Rattle.std.proofs.Common.{◌≡◌, ◌∙◌, List, ap}
 use Rattle.std.proofs.lemmas.Option.{IfSome_then}
-use Rattle.xs_lits.specs.Literal.{Literal}
 use Rattle.xs_simplify.specs.Slots.{Slot}
-use Rattle.xs_simplify.specs.Elimination.{resolvents}
 use Rattle.xs_simplify.specs.Changes.{gathered}
 use Rattle.xs_simplify.proofs.BaseLaws.{resolved_by}
 use Rattle.xs_simplify.proofs.base.Base.resolvents_of.Goals as goal

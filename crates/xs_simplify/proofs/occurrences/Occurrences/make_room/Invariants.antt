@@ -1,4 +1,4 @@
-use Rattle.std.proofs.Common.{ℕ, ◌+◌, ◌-◌, length}
+use Rattle.std.proofs.Common.{◌+◌, ◌-◌, length}
 use Rattle.xs_simplify.specs.Occurring.{KeepsNotes}
 use Rattle.xs_simplify.proofs.occurrences.Occurrences.make_room.Given as goal
 
