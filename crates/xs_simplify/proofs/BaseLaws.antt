@@ -1,12 +1,12 @@
 -- Changes of a clause base, from those of its slots.
-use Rattle.std.proofs.Common.{◌≡◌, ℕ, ◌+◌, ◌<◌, ◌≤◌, List, [], ◌∷◌, ◌++◌, length, get_or, map, take, Option, Some, None, refl, sym, ap, ◌∙◌, subst, arith}
+use Rattle.std.proofs.Common.{◌≡◌, ℕ, ◌+◌, ◌<◌, ◌≤◌, List, [], ◌∷◌, ◌++◌, length, get_or, map, take, Some, refl, sym, ap, ◌∙◌, subst}
 use Rattle.std.proofs.lemmas.List.{append-nil, append_assoc, map_more, take_all}
 use Rattle.xs_lits.specs.Literal.{Literal, opposite}
 use Rattle.xs_lits.specs.Code.{code_of}
 use Rattle.xs_simplify.specs.Meeting.{IsOwn, AreMetAlike, HasNoNewVariable}
 use Rattle.xs_simplify.specs.Slots.{Slot, AreNoted, IsSimpler, standing}
 use Rattle.xs_simplify.specs.Elimination.{resolvents}
-use Rattle.xs_simplify.specs.Changes.{slot_at, changed, dropped, shrunk, gathered, taken_out, resolvents_in, eliminated, assigned, covered, covered_by, entered}
+use Rattle.xs_simplify.specs.Changes.{slot_at, changed, dropped, shrunk, gathered, taken_out, resolvents_in, covered, entered}
 use Rattle.xs_simplify.specs.Occurring.{noted_at}
 use Rattle.xs_simplify.specs.Based.{IsSound, Becomes, Adds, AddsAll, TakesOut, Assigns, Covers, IsEntered}
 use Rattle.xs_simplify.specs.declared.base.Base.{Base}

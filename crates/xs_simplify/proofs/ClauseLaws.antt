@@ -1,8 +1,7 @@
 -- What resolvents and tautologies are worth where every variable has a value.
-use Rattle.std.proofs.Common.{◌≡◌, ◌⊎◌, inl, inr, ⊎_elim, ℕ, ◌<◌, Bool, true, false, not, cond, List, [], ◌∷◌, ◌++◌, All, Contains, eqb, refl, sym, ap, ◌∙◌, subst, arith, eq-eqb}
-use Rattle.std.specs.List.{list_any}
+use Rattle.std.proofs.Common.{◌≡◌, ◌⊎◌, inl, inr, ⊎_elim, ℕ, Bool, true, false, not, cond, List, [], ◌∷◌, Contains, eqb, refl, sym, ap, ◌∙◌, subst, eq-eqb}
 use Rattle.std.specs.Prelude.{Any}
-use Rattle.std.proofs.lemmas.Bool.{cases_Bool, cases_eq, cond-true, cond-false, both_ways, false≢true, ne_eqb, not_from_true, not_from_false, false_from_ne_true}
+use Rattle.std.proofs.lemmas.Bool.{cases_Bool, cases_eq, cond-true, cond-false, both_ways, ne_eqb, not_from_true, not_from_false, false_from_ne_true}
 use Rattle.std.proofs.lemmas.List.Folds.{Any-from_list_any, list_any-from_Any}
 use Rattle.xs_lits.specs.Literal.{Literal, opposite, signed}
 use Rattle.xs_lits.specs.Models.{TotalAssignment, literal_value, clause_value}
@@ -10,9 +9,9 @@ use Rattle.xs_lits.specs.Truth.{is_same}
 use Rattle.xs_lits.proofs.ModelLemmas.{literal_value-opposite}
 use Rattle.xs_lits.proofs.FalseLemmas.{literal_is, opposite-opposite}
 use Rattle.xs_lits.proofs.ListLemmas.{Contains-cons}
-use Rattle.xs_simplify.specs.Resolution.{has_literal, without, joined, each_once, resolvent, is_tautology}
+use Rattle.xs_simplify.specs.Resolution.{has_literal, without, each_once, resolvent, is_tautology}
 use Rattle.xs_simplify.specs.Elimination.{unless_tautology, resolvents_with, resolvents}
-use Rattle.xs_simplify.proofs.Members.{Contains-nil, Contains-first, cons_cases, from_flat_map, in_flat_map, is_same-refl, same_literal, contains_from_has, has_from_contains, from_without, in_without, from_joined, joined_left, joined_right, from_once, in_once}
+use Rattle.xs_simplify.proofs.Members.{Contains-nil, Contains-first, cons_cases, from_flat_map, in_flat_map, is_same-refl, same_literal, contains_from_has, from_without, in_without, from_joined, joined_left, joined_right, from_once, in_once}
 
 -- a clause is true exactly where one of its literals is
 pub true_literal : (v : TotalAssignment) (c : List Literal) → clause_value v c ≡ true → (m : Literal) × Contains c m × (literal_value v m ≡ true)

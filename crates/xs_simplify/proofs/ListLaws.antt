@@ -1,19 +1,19 @@
 -- A list of clauses and the base that it is entered into, and the list of what stands in a base.
-use Rattle.std.proofs.Common.{◌≡◌, ◌⊎◌, inl, inr, ⊎_elim, ℕ, ◌+◌, ◌<◌, ◌≤◌, Bool, true, false, List, [], ◌∷◌, ◌++◌, length, get_or, map, eqb, Option, Some, None, All, Contains, refl, sym, ap, ◌∙◌, subst, arith, eq-eqb}
-use Rattle.std.specs.Prelude.{Any, ◌↔◌}
+use Rattle.std.proofs.Common.{◌≡◌, ⊎_elim, ℕ, Bool, true, List, [], map, eqb, Some, None, All, Contains, refl, ap, subst, eq-eqb}
+use Rattle.std.specs.Prelude.{Any}
 use Rattle.std.specs.List.{list_any}
 use Rattle.std.specs.Option.{option_to_list}
 use Rattle.std.proofs.lemmas.Bool.{eqb-true}
 use Rattle.std.proofs.lemmas.List.Elements.{All-contains, All-map}
 use Rattle.std.proofs.lemmas.List.Folds.{Any-from_list_any, list_any-from_Any}
 use Rattle.xs_lits.specs.Literal.{Literal}
-use Rattle.xs_lits.specs.Models.{TotalAssignment, clause_value, all_true, Satisfies}
+use Rattle.xs_lits.specs.Models.{TotalAssignment, clause_value, Satisfies}
 use Rattle.xs_lits.proofs.ModelLemmas.{Satisfies-from_All}
 use Rattle.xs_lits.proofs.ClauseLists.{member_true}
 use Rattle.xs_simplify.specs.Meeting.{IsMet, IsVariableOf, AreMetAlike, HasNoNewVariable}
 use Rattle.xs_simplify.specs.Resolution.{each_once}
 use Rattle.xs_simplify.specs.Elimination.{unless_tautology}
-use Rattle.xs_simplify.specs.Slots.{Slot, standing, IsMade, Makes, IsMetBy, IsOver, IsSlotOver, IsSimpler}
+use Rattle.xs_simplify.specs.Slots.{Slot, standing, IsMade, Makes, IsOver, IsSlotOver, IsSimpler}
 use Rattle.xs_simplify.specs.Changes.{entered}
 use Rattle.xs_simplify.proofs.Members.{Contains-nil, Contains-first, cons_cases, from_flat_map, in_flat_map, from_once}
 use Rattle.xs_simplify.proofs.ClauseLaws.{true_once, once_true, unless_true, true_unless}

@@ -1,11 +1,11 @@
 -- Members of lists and literals of clauses.
-use Rattle.std.proofs.Common.{◌≡◌, ◌⊎◌, inl, inr, ⊎_elim, ℕ, ◌+◌, ◌<◌, Bool, true, false, not, cond, List, [], ◌∷◌, ◌++◌, length, get_or, All, Contains, eqb, refl, sym, ap, ◌∙◌, subst, arith, eq-eqb, zero, suc}
-use Rattle.std.specs.List.{list_any, filter, flat_map}
+use Rattle.std.proofs.Common.{◌≡◌, ◌⊎◌, inl, inr, ⊎_elim, ℕ, ◌<◌, true, false, not, List, [], ◌∷◌, ◌++◌, length, get_or, Contains, refl, sym, ap, ◌∙◌, subst, arith, eq-eqb, zero, suc}
+use Rattle.std.specs.List.{flat_map}
 use Rattle.std.specs.Prelude.{Any}
-use Rattle.std.proofs.lemmas.Bool.{cases_Bool, cond-true, cond-false, eqb-true, not-true, not_from_false, both_ways, false_from_ne_true}
+use Rattle.std.proofs.lemmas.Bool.{cases_Bool, cond-true, cond-false, eqb-true, not-true, not_from_false, both_ways}
 use Rattle.std.proofs.lemmas.List.Elements.{Contains-append_left, Contains-append_right, Contains-append_cases, Contains-push, Contains-push_cases, All-contains, All-filter, All-contains_itself, filter_passes}
 use Rattle.std.proofs.lemmas.List.Folds.{Any-from_list_any, list_any-from_Any}
-use Rattle.xs_lits.specs.Literal.{Literal, opposite}
+use Rattle.xs_lits.specs.Literal.{Literal}
 use Rattle.xs_lits.specs.Code.{code_of}
 use Rattle.xs_lits.specs.Truth.{is_same}
 use Rattle.xs_lits.proofs.CodeLemmas.{code_of-injective}

@@ -1,8 +1,7 @@
 -- The changes of a clause base that say the same of the places, each with its law.
-use Rattle.std.proofs.Common.{◌≡◌, ◌⊎◌, inl, inr, ⊎_elim, ℕ, ◌+◌, ◌<◌, ◌≤◌, Bool, true, false, not, cond, List, [], ◌∷◌, ◌++◌, length, get_or, map, Option, Some, None, All, Contains, refl, sym, ap, ◌∙◌, subst, arith}
-use Rattle.std.specs.Prelude.{slice_get}
-use Rattle.std.proofs.lemmas.Bool.{cases_Bool, cond-true, cond-false, both_ways, not_from_true, not_from_false}
-use Rattle.std.proofs.lemmas.Option.{none-some, same_Some, get_or_from_slice_get, slice_get_within}
+use Rattle.std.proofs.Common.{◌≡◌, ◌⊎◌, inl, inr, ⊎_elim, ℕ, ◌≤◌, Bool, true, false, List, [], ◌∷◌, ◌++◌, get_or, map, Some, None, All, Contains, refl, sym, ap, ◌∙◌, subst, arith}
+use Rattle.std.proofs.lemmas.Bool.{cases_Bool, cond-true, cond-false, both_ways, not_from_true}
+use Rattle.std.proofs.lemmas.Option.{slice_get_within}
 use Rattle.std.proofs.lemmas.List.{get_or_default, get_or-map, length-map}
 use Rattle.std.proofs.lemmas.List.Elements.{All-contains, All-weaker, All-push, All-append, All-map, Contains-append_left, Contains-append_right, Contains-push}
 use Rattle.xs_lits.specs.Literal.{Literal, opposite}
@@ -11,14 +10,14 @@ use Rattle.xs_lits.specs.Models.{TotalAssignment, literal_value, clause_value}
 use Rattle.xs_lits.proofs.ModelLemmas.{literal_value-opposite}
 use Rattle.xs_lits.proofs.FalseLemmas.{opposite-opposite}
 use Rattle.xs_simplify.specs.Meeting.{IsOwn}
-use Rattle.xs_simplify.specs.Resolution.{has_literal, without, each_once, joined, resolvent, is_tautology}
+use Rattle.xs_simplify.specs.Resolution.{has_literal, without, each_once, resolvent, is_tautology}
 use Rattle.xs_simplify.specs.Elimination.{unless_tautology, resolvents_with, resolvents}
-use Rattle.xs_simplify.specs.Slots.{Slot, IsMade, Makes, IsMetBy, IsOver, IsSlotOver, IsSimpler, AreNoted}
-use Rattle.xs_simplify.specs.Changes.{slot_at, changed_at, changed, dropped, shrunk, picked, gathered, taken_out, resolvents_in, eliminated, assigned, covered, covered_by, entered}
+use Rattle.xs_simplify.specs.Slots.{Slot, IsMade, Makes, IsOver, IsSlotOver, IsSimpler, AreNoted}
+use Rattle.xs_simplify.specs.Changes.{slot_at, changed, dropped, shrunk, picked, gathered, taken_out, resolvents_in, eliminated, assigned, covered, covered_by}
 use Rattle.xs_simplify.specs.Occurring.{noted_at}
 use Rattle.xs_simplify.proofs.Members.{Contains-nil, cons_cases, from_flat_map, in_flat_map, contains_from_has, has_from_contains, from_without, from_once, from_joined}
 use Rattle.xs_simplify.proofs.ClauseLaws.{AreTrue, turned, turned_other, lacking_stays, HasTurn, has_turn, resolvents_follow, true_literal}
-use Rattle.xs_simplify.proofs.SlotLaws.{all_after, all_before, dropped_cases, dropped_made, dropped_back, dropped_over, shrunk_made, shrunk_back, shrunk_over, covered_made, covered_back, covered_over, over_fewer, slot_from, slot_to}
+use Rattle.xs_simplify.proofs.SlotLaws.{all_after, all_before, dropped_cases, dropped_made, dropped_back, dropped_over, shrunk_made, shrunk_back, shrunk_over, covered_made, covered_back, covered_over, slot_to}
 
 -- a list is as simple as itself, and changes follow one another
 pub simpler_itself : (places : ℕ) (a : List Slot) → IsSimpler places a a

@@ -1,19 +1,19 @@
 -- Changes of slots, and what they are worth.
-use Rattle.std.proofs.Common.{◌≡◌, ◌⊎◌, inl, inr, ⊎_elim, ℕ, ◌+◌, ◌<◌, ◌≤◌, Bool, true, false, not, cond, List, [], ◌∷◌, ◌++◌, length, get_or, set, map, Option, Some, None, All, Contains, refl, sym, ap, ◌∙◌, subst, arith}
+use Rattle.std.proofs.Common.{◌≡◌, ◌⊎◌, inl, inr, ⊎_elim, ℕ, ◌<◌, ◌≤◌, Bool, true, false, List, [], ◌∷◌, ◌++◌, length, get_or, Some, None, All, Contains, refl, sym, ap, ◌∙◌, subst, arith}
 use Rattle.std.specs.Prelude.{slice_get}
-use Rattle.std.proofs.lemmas.Bool.{cases_Bool, cases_eq, cases_lt, cond-true, cond-false, both_ways, not_from_true, false_from_ne_true}
-use Rattle.std.proofs.lemmas.Option.{none-some, same_Some, get_or_from_slice_get, slice_get_within, slice_get-get_or, slice_get_past}
+use Rattle.std.proofs.lemmas.Bool.{cases_Bool, cases_eq, cases_lt, cond-true, cond-false}
+use Rattle.std.proofs.lemmas.Option.{none-some, same_Some, get_or_from_slice_get, slice_get_within, slice_get-get_or}
 use Rattle.std.proofs.lemmas.List.{get_or-set_same, get_or-set_other, get_or_default, set_past, length-set, get_or_past, get_or_append_left, length_push, get_or_push}
-use Rattle.std.proofs.lemmas.List.Elements.{All-set, All-contains, All-push, All-append, All-map, All-weaker, All-filter}
+use Rattle.std.proofs.lemmas.List.Elements.{All-set, All-contains}
 use Rattle.std.proofs.lemmas.List.Sums.{AllPass-from_list_all}
-use Rattle.xs_lits.specs.Literal.{Literal, opposite}
+use Rattle.xs_lits.specs.Literal.{Literal}
 use Rattle.xs_lits.specs.Code.{code_of}
 use Rattle.xs_lits.specs.Models.{TotalAssignment, literal_value, clause_value}
 use Rattle.xs_simplify.specs.Resolution.{has_literal, subsumes, without, each_once}
-use Rattle.xs_simplify.specs.Slots.{Slot, IsMade, Makes, IsMetBy, IsOver, IsSlotOver, IsSimpler, AreNoted}
-use Rattle.xs_simplify.specs.Changes.{slot_at, changed_at, changed, dropped, shrunk, covered, picked, gathered}
+use Rattle.xs_simplify.specs.Slots.{Slot, IsMade, IsOver, IsSlotOver, AreNoted}
+use Rattle.xs_simplify.specs.Changes.{slot_at, changed_at, changed, dropped, shrunk, covered}
 use Rattle.xs_simplify.specs.Occurring.{noted_at, KeepsNotes, HasNoted, IsNotedAt}
-use Rattle.xs_simplify.proofs.Members.{Contains-nil, cons_cases, from_flat_map, in_flat_map, contains_from_has, has_from_contains, from_without, from_once}
+use Rattle.xs_simplify.proofs.Members.{contains_from_has, from_without, from_once}
 use Rattle.xs_simplify.proofs.ClauseLaws.{true_by, true_in_more, true_without, true_with, true_once, once_true}
 
 -- what each change keeps holds of all slots after as before

@@ -1,8 +1,7 @@
 -- Steps of the loops over slots.
-use Rattle.std.proofs.Common.{◌≡◌, ℕ, ◌+◌, ◌<◌, ◌≤◌, Bool, true, false, cond, List, [], ◌∷◌, ◌++◌, length, get_or, set, take, Option, Some, None, refl, sym, ap, ◌∙◌, subst, arith}
-use Rattle.std.specs.List.{fold, flat_map}
+use Rattle.std.proofs.Common.{◌≡◌, ℕ, ◌+◌, ◌<◌, ◌≤◌, true, false, List, [], ◌∷◌, ◌++◌, length, get_or, set, take, Some, None, refl, sym, ap, ◌∙◌}
 use Rattle.std.proofs.lemmas.Bool.{cond-true, cond-false}
-use Rattle.std.proofs.lemmas.List.{set_past, set-get_or, get_or_past, get_or_default, append-nil, take_all, take_more, flat_map_more}
+use Rattle.std.proofs.lemmas.List.{set_past, set-get_or, append-nil, take_all, take_more, flat_map_more}
 use Rattle.std.proofs.lemmas.List.Sums.{fold_more}
 use Rattle.xs_lits.specs.Literal.{Literal}
 use Rattle.std.specs.Option.{option_to_list}

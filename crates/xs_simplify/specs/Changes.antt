@@ -1,5 +1,5 @@
 -- Changes of slots: a function of what a slot has, at each of a list of places.
-use Rattle.std.specs.Prelude.{ℕ, Bool, false, if◌then◌else◌, List, [], ◌∷◌, ◌++◌, Option, Some, None, slice_index_or, slice_set, fold, map}
+use Rattle.std.specs.Prelude.{ℕ, Bool, false, if◌then◌else◌, List, [], ◌∷◌, ◌++◌, Some, None, slice_index_or, slice_set, fold, map}
 use Rattle.std.specs.List.{flat_map}
 use Rattle.xs_lits.specs.Literal.{Literal, opposite}
 use Rattle.xs_lits.specs.Code.{code_of}

@@ -1,5 +1,5 @@
 -- Elimination of a variable: all resolvents on it stand in the place of the clauses that have it.
-use Rattle.std.specs.Prelude.{◌≡◌, ℕ, if◌then◌else◌, List, [], ◌∷◌, ◌++◌, Contains, All, refl}
+use Rattle.std.specs.Prelude.{◌≡◌, if◌then◌else◌, List, [], ◌∷◌, ◌++◌, Contains, refl}
 use Rattle.std.specs.List.{flat_map}
 use Rattle.xs_lits.specs.Literal.{Literal, plain, opposite}
 use Rattle.xs_simplify.specs.Resolution.{resolvent, is_tautology}

@@ -1,5 +1,5 @@
 -- Occurrence lists, and how a clause base keeps them.
-use Rattle.std.specs.Prelude.{◌≡◌, ℕ, List, [], All, Contains, slice_index_or}
+use Rattle.std.specs.Prelude.{ℕ, List, [], All, Contains, slice_index_or}
 use Rattle.xs_lits.specs.Literal.{Literal}
 use Rattle.xs_lits.specs.Code.{code_of}
 

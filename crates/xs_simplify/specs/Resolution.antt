@@ -1,5 +1,5 @@
 -- Resolvents: what two clauses say together where one has a literal and the other its opposite.
-use Rattle.std.specs.Prelude.{◌≡◌, ℕ, Bool, true, false, not, if◌then◌else◌, List, [], ◌∷◌, ◌++◌, fold, refl}
+use Rattle.std.specs.Prelude.{◌≡◌, Bool, not, if◌then◌else◌, List, [], ◌∷◌, ◌++◌, fold, refl}
 use Rattle.std.specs.List.{list_any, list_all, filter}
 use Rattle.xs_lits.specs.Literal.{Literal, plain, opposite}
 use Rattle.xs_lits.specs.Truth.{is_same}

@@ -1,8 +1,8 @@
 use Rattle.std.proofs.Common.{◌≡◌, ◌∙◌, sym, ap, subst}
 use Rattle.std.proofs.lemmas.Result.{IfOk-weaker}
-use Rattle.xs_simplify.specs.Meeting.{AreMetAlike, HasNoNewVariable}
+use Rattle.xs_simplify.specs.Meeting.{HasNoNewVariable}
 use Rattle.xs_simplify.specs.Slots.{standing}
-use Rattle.xs_simplify.proofs.BaseLaws.{simplified_same, simplified_variables}
+use Rattle.xs_simplify.proofs.BaseLaws.{simplified_variables}
 use Rattle.xs_simplify.proofs.simplified.Goals as goal
 
 pub returns-clause-variables : goal.returns-clause-variables
