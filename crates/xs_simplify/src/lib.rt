@@ -3,7 +3,7 @@
 //! A list says something of its places, the variables 2 to the highest place: a state now, the next one and inputs. All
 //! other variables are the list's own. `IsMet places list v` says that some values which agree with v on the places make
 //! the list true (`specs/Meeting.antt`). [`simplified`] is the one public call: its list is met exactly where the old
-//! one is, has no other variables, and is mostly an eighth as long or less.
+//! one is, and has no other variables. The frames do not use it yet.
 //!
 //! Clauses of one literal are propagated; a clause that another one subsumes is taken out; and a variable that is no
 //! place is eliminated where its resolvents are no more than its clauses: all of them then stand in the place of the
