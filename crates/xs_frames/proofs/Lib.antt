@@ -23,3 +23,4 @@ pub mod GuardedSteps
 pub mod GuardedVerdicts
 pub mod HeldMore
 pub mod ApartLaws
+pub mod ShownLaws

@@ -17,3 +17,4 @@ pub mod FramesRecord
 pub mod FramesView
 pub mod Parts
 pub mod Minimal
+pub mod Shown

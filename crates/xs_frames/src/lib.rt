@@ -38,6 +38,7 @@ mod guarded;
 mod highest;
 mod levels;
 mod outline;
+mod shown;
 mod shrink;
 mod smaller;
 mod steps;

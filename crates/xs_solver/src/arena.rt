@@ -27,7 +27,9 @@ pub struct Arena {
     firsts: Threads,
     seconds: Threads,
     found: Vec<u64>,
-    // How many clauses were visited, and how many a store would have visited that looks through all: of these contracts see nothing.
+    // How many literals were made true, how many clauses were visited, and how many a store would have visited that looks
+    // through all: of these contracts see nothing.
+    set: u64,
     visited: u64,
     listed: u64,
 }
@@ -87,9 +89,15 @@ impl Arena {
             firsts: Threads::new(alloc, lists)?,
             seconds: Threads::new(alloc, lists)?,
             found: Vec::new(alloc),
+            set: 0,
             visited: 0,
             listed: 0,
         })
+    }
+
+    /// How many literals were made true so far, one for each time, up to the end of a 64-bit number.
+    pub fn literals_set(&self) -> u64 {
+        self.set
     }
 
     /// How many clauses were visited so far, one for each time, up to the end of a 64-bit number.
@@ -177,6 +185,7 @@ impl Store for Arena {
             last,
             &mut self.found,
         );
+        self.set = self.set.saturating_add(1);
         self.visited = self
             .visited
             .saturating_add(by_first.saturating_add(by_second));

@@ -1,6 +1,8 @@
-use Rattle.std.proofs.Common.{◌≡◌, ◌+◌, ◌*◌, ◌^◌, ◌<◌, ◌≤◌, ℕ, suc, All, sym, subst, arith, length, slice_index_or}
+use Rattle.std.proofs.Common.{◌≡◌, ◌+◌, ◌*◌, ◌^◌, ◌<◌, ◌≤◌, ℕ, suc, All, List, true, sym, ◌∙◌, subst, arith, length, slice_index_or}
+use Rattle.std.specs.List.{list_any}
 use Rattle.std.proofs.lemmas.Grind.{common_steps}
-use Rattle.xs_frames.specs.Bits.{against_next}
+use Rattle.xs_frames.specs.Bits.{against_next, read_from}
+use Rattle.xs_frames.specs.Chain.{State}
 use Rattle.xs_frames.specs.Levels.{frames_of}
 use Rattle.xs_frames.specs.declared.guarded.Beside.TheVariants.{Step}
 use Rattle.xs_lits.specs.Derivation.{IsUpTo}
@@ -11,6 +13,10 @@ use Rattle.xs_frames.proofs.LevelLaws.{length_frames}
 use Rattle.xs_frames.proofs.ApartLaws.{sat_told, unsat_told}
 use Rattle.xs_frames.proofs.QueryLemmas.{against_up_to, against_apart, states_low}
 use Rattle.xs_frames.proofs.PushLemmas.{kept, not_kept}
+use Rattle.std.proofs.lemmas.List.Elements.{All-push}
+use Rattle.xs_frames.specs.Framed.{frame_at}
+use Rattle.xs_frames.specs.Shown.{breaks, IsReached}
+use Rattle.xs_frames.proofs.ShownLaws.{found_reached, shown_lost}
 use Rattle.xs_frames.proofs.advance.keeps.Goals as goal
 
 room : (b u v : ℕ) → v ≡ 2 * b + u + 1 → 2 * b + 1 ≤ v
@@ -30,37 +36,58 @@ ask-requires-clause-frame g c = inside c.args.i c.args.frames.now.last (length (
 
 pub ask-requires-clause-up_to : goal.ask-requires-clause-up_to
 ask-requires-clause-up_to g c =
-    let assumed : c.as_slice.result.now ≡ against_next c.args.system.now.state_bits c.args.clause.now = grind (arith, common_steps) in
+    let assumed : c.as_slice-2.result.now ≡ against_next c.args.system.now.state_bits c.args.clause.now = grind (arith, common_steps) in
     subst (All (IsUpTo c.args.kept.now.places)) (sym assumed)
     (against_up_to c.args.system.now.state_bits c.args.kept.now.places c.args.clause.now (room c.args.system.now.state_bits c.args.system.now.input_bits c.args.kept.now.places c.requires.kept.places) c.requires.clause)
 
 pub ask-requires-clause-apart : goal.ask-requires-clause-apart
 ask-requires-clause-apart g c =
-    let assumed : c.as_slice.result.now ≡ against_next c.args.system.now.state_bits c.args.clause.now = grind (arith, common_steps) in
+    let assumed : c.as_slice-2.result.now ≡ against_next c.args.system.now.state_bits c.args.clause.now = grind (arith, common_steps) in
     subst HasNoOpposites (sym assumed) (against_apart c.args.system.now.state_bits c.args.clause.now c.requires.apart)
 
 pub returns-in-Sat-clause-answer : goal.returns-in-Sat-clause-answer
 returns-in-Sat-clause-answer g c =
-    let assumed : c.as_slice.result.now ≡ against_next c.args.system.now.state_bits c.args.clause.now = grind (arith, common_steps) in
+    let assumed : c.as_slice-2.result.now ≡ against_next c.args.system.now.state_bits c.args.clause.now = grind (arith, common_steps) in
     record {
       kept = λ e. cc;
-      lost = λ e k. not_kept c.args.system.now (frames_of c.args.frames.now) c.args.i c.args.bad.now c.args.clause.now c.in-Sat._values c.requires.framed.framed c.requires.clause
-          (sat_told c.args.system.now c.args.bad.now (frames_of c.args.frames.now) Step c.args.i c.as_slice.result.now (against_next c.args.system.now.state_bits c.args.clause.now) c.in_ok-_values.field-0 c.in-Sat._values assumed c.in-Sat.is
-          (c.in_ok-_values.ensures.verdict (apart_system c.args.system.now) (apart_list (places_of c.args.system.now) c.args.bad.now) (frames_of c.args.frames.now) c.requires.kept)) k;
+      lost = λ e k. not_kept c.args.system.now (frames_of c.args.frames.now) c.args.i c.args.bad.now c.args.clause.now c.in-Sat.values c.requires.framed.framed c.requires.clause
+          (sat_told c.args.system.now c.args.bad.now (frames_of c.args.frames.now) Step c.args.i c.as_slice-2.result.now (against_next c.args.system.now.state_bits c.args.clause.now) c.in_ok-values.field-0 c.in-Sat.values assumed c.in-Sat.is
+          (c.in_ok-values.ensures.verdict (apart_system c.args.system.now) (apart_list (places_of c.args.system.now) c.args.bad.now) (frames_of c.args.frames.now) c.requires.kept)) k;
     }
 
 pub returns-in-Sat-clause-kept : goal.returns-in-Sat-clause-kept
-returns-in-Sat-clause-kept g c = c.in_ok-_values.ensures.asked (apart_system c.args.system.now) (apart_list (places_of c.args.system.now) c.args.bad.now) (frames_of c.args.frames.now) c.requires.kept
+returns-in-Sat-clause-kept g c = c.in_ok-values.ensures.asked (apart_system c.args.system.now) (apart_list (places_of c.args.system.now) c.args.bad.now) (frames_of c.args.frames.now) c.requires.kept
 
 pub returns-clause-answer : goal.returns-clause-answer
 returns-clause-answer g c =
-    let assumed : c.as_slice.result.now ≡ against_next c.args.system.now.state_bits c.args.clause.now = grind (arith, common_steps) in
+    let assumed : c.as_slice-2.result.now ≡ against_next c.args.system.now.state_bits c.args.clause.now = grind (arith, common_steps) in
     record {
       kept = λ e. kept c.args.system.now (frames_of c.args.frames.now) c.args.i c.args.bad.now c.args.clause.now c.in-Unsat._core c.requires.fit c.requires.framed.framed c.requires.some c.requires.clause
-          (unsat_told c.args.system.now c.args.bad.now (frames_of c.args.frames.now) Step c.args.i c.as_slice.result.now (against_next c.args.system.now.state_bits c.args.clause.now) c.in_ok-_values.field-0 c.in-Unsat._core assumed c.in-Unsat.is
-          (c.in_ok-_values.ensures.verdict (apart_system c.args.system.now) (apart_list (places_of c.args.system.now) c.args.bad.now) (frames_of c.args.frames.now) c.requires.kept));
+          (unsat_told c.args.system.now c.args.bad.now (frames_of c.args.frames.now) Step c.args.i c.as_slice-2.result.now (against_next c.args.system.now.state_bits c.args.clause.now) c.in_ok-values.field-0 c.in-Unsat._core assumed c.in-Unsat.is
+          (c.in_ok-values.ensures.verdict (apart_system c.args.system.now) (apart_list (places_of c.args.system.now) c.args.bad.now) (frames_of c.args.frames.now) c.requires.kept));
       lost = λ e k. cc;
     }
 
 pub returns-clause-kept : goal.returns-clause-kept
-returns-clause-kept g c = c.in_ok-_values.ensures.asked (apart_system c.args.system.now) (apart_list (places_of c.args.system.now) c.args.bad.now) (frames_of c.args.frames.now) c.requires.kept
+returns-clause-kept g c = c.in_ok-values.ensures.asked (apart_system c.args.system.now) (apart_list (places_of c.args.system.now) c.args.bad.now) (frames_of c.args.frames.now) c.requires.kept
+
+pub returns-then-is_broken-clause-answer : goal.returns-then-is_broken-clause-answer
+returns-then-is_broken-clause-answer g c =
+    let broken : list_any (breaks c.args.clause.now) c.as_slice.result.now ≡ true = sym c.is_broken.ensures ∙ c.if-is_broken.true in
+    record {
+      kept = λ e. cc;
+      lost = λ e k. shown_lost c.args.system.now (frame_at (frames_of c.args.frames.now) c.args.i) c.args.clause.now c.args.shown.now.items c.requires.shown
+          (subst (λ (ts : List State). list_any (breaks c.args.clause.now) ts ≡ true) c.as_slice.ensures.value broken) k;
+    }
+
+pub returns-in-Sat-clause-shown : goal.returns-in-Sat-clause-shown
+returns-in-Sat-clause-shown g c =
+    let sys = c.args.system.now in
+    let frame = frame_at (frames_of c.args.frames.now) c.args.i in
+    let assumed : c.as_slice-2.result.now ≡ against_next sys.state_bits c.args.clause.now = grind (arith, common_steps) in
+    let next_is : c.in_ok-next-in-Sat.next ≡ read_from (sys.state_bits + 2) sys.state_bits c.in-Sat.values = grind (arith, common_steps) in
+    let found = sat_told sys c.args.bad.now (frames_of c.args.frames.now) Step c.args.i c.as_slice-2.result.now (against_next sys.state_bits c.args.clause.now) c.in_ok-values.field-0 c.in-Sat.values assumed c.in-Sat.is
+        (c.in_ok-values.ensures.verdict (apart_system sys) (apart_list (places_of sys) c.args.bad.now) (frames_of c.args.frames.now) c.requires.kept) in
+    let reached = found_reached sys (frames_of c.args.frames.now) c.args.i c.args.bad.now (against_next sys.state_bits c.args.clause.now) c.in-Sat.values c.requires.framed.framed found in
+    subst (All (IsReached sys frame)) (sym c.in_ok-push-in-Sat.ensures.items)
+    (All-push (IsReached sys frame) c.args.shown.now.items c.in_ok-next-in-Sat.next c.requires.shown (subst (IsReached sys frame) (sym next_is) reached))

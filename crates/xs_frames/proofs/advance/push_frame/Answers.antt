@@ -1,6 +1,9 @@
-use Rattle.std.proofs.Common.{◌≡◌, sym, ℕ, ◌<◌, arith, subst, length}
+use Rattle.std.proofs.Common.{◌≡◌, sym, ℕ, ◌<◌, All, List, arith, subst, length}
 use Rattle.std.proofs.lemmas.Grind.{common_steps}
+use Rattle.xs_lits.specs.Literal.{Literal}
+use Rattle.xs_frames.specs.Shown.{IsReached}
 use Rattle.xs_frames.proofs.PushLemmas.{moved_more, places_more}
+use Rattle.xs_frames.proofs.ShownLaws.{frame_stays}
 use Rattle.xs_frames.proofs.advance.push_frame.Goals as goal
 
 pub clauses-preserved : goal.clauses-preserved
@@ -10,6 +13,8 @@ clauses-preserved g c =
       framed = c.push_clause.ensures.framed;
       moved = moved_more c.args.system.now c.args.frames.now c.clauses.frames c.push_clause.new.frames c.args.i inv.moved c.push_clause.ensures.moved;
       pushed = places_more c.args.system.now c.clauses.frames c.push_clause.new.frames c.args.i c.clauses.k c.push_clause.ensures.moved inv.pushed c.in_ok-push_clause.ensures.pushed;
+      shown = subst (λ (frame : List (List Literal)). All (IsReached c.args.system.now frame) c.push_clause.new.shown.items)
+          (frame_stays c.args.system.now c.args.frames.now c.clauses.frames c.args.i inv.moved) c.in_ok-push_clause.ensures.shown;
       kept = c.in_ok-push_clause.ensures.kept;
     }
 
@@ -23,6 +28,12 @@ pub push_clause-requires-clause-place : goal.push_clause-requires-clause-place
 push_clause-requires-clause-place g c =
     let inside : c.clauses.k < length c.args.frames.now.held.items = grind (arith, common_steps) in
     subst (λ (n : ℕ). c.clauses.k < n) (sym c.clauses.invariant.moved.count) inside
+
+pub push_clause-requires-clause-shown : goal.push_clause-requires-clause-shown
+push_clause-requires-clause-shown g c =
+    let inv = c.clauses.invariant in
+    subst (λ (frame : List (List Literal)). All (IsReached c.args.system.now frame) c.clauses.shown.items)
+    (sym (frame_stays c.args.system.now c.args.frames.now c.clauses.frames c.args.i inv.moved)) inv.shown
 
 pub push_clause-requires-clause-kept : goal.push_clause-requires-clause-kept
 push_clause-requires-clause-kept g c = c.clauses.invariant.kept
