@@ -1,13 +1,13 @@
 -- What a state that follows on a frame says of the clauses that it breaks.
-use Rattle.std.proofs.Common.{◌≡◌, ◌≢◌, ℕ, ◌+◌, true, false, not, List, [], ◌∷◌, refl, sym, ◌∙◌, ap, subst, arith, length, All, IsTrue}
+use Rattle.std.proofs.Common.{◌≡◌, ℕ, ◌+◌, true, false, List, refl, sym, ◌∙◌, arith, length, All}
 use Rattle.std.specs.List.{list_any}
 use Rattle.std.proofs.lemmas.List.Elements.{All-contains}
 use Rattle.std.proofs.lemmas.List.Folds.{Any-from_list_any}
 use Rattle.xs_lits.specs.Literal.{Literal}
 use Rattle.xs_lits.specs.Assignment.{Assignment}
-use Rattle.xs_lits.specs.Models.{TotalAssignment, clause_value}
+use Rattle.xs_lits.specs.Models.{TotalAssignment}
 use Rattle.xs_lits.specs.declared.system.System.{System}
-use Rattle.xs_frames.specs.Chain.{State, IsStepOf, InFrame}
+use Rattle.xs_frames.specs.Chain.{State}
 use Rattle.xs_frames.specs.Framed.{frame_at, IsFramed}
 use Rattle.xs_frames.specs.Growing.{Keeps}
 use Rattle.xs_frames.specs.Bits.{values_of, read_from}

@@ -87,7 +87,7 @@ returns-in-Sat-clause-shown g c =
     let assumed : c.as_slice-2.result.now ≡ against_next sys.state_bits c.args.clause.now = grind (arith, common_steps) in
     let next_is : c.in_ok-next-in-Sat.next ≡ read_from (sys.state_bits + 2) sys.state_bits c.in-Sat.values = grind (arith, common_steps) in
     let found = sat_told sys c.args.bad.now (frames_of c.args.frames.now) Step c.args.i c.as_slice-2.result.now (against_next sys.state_bits c.args.clause.now) c.in_ok-values.field-0 c.in-Sat.values assumed c.in-Sat.is
-        (c.in_ok-values.ensures.verdict (apart_system sys) (apart_list (places_of sys) c.args.bad.now) (frames_of c.args.frames.now) c.requires.kept) in
+    (c.in_ok-values.ensures.verdict (apart_system sys) (apart_list (places_of sys) c.args.bad.now) (frames_of c.args.frames.now) c.requires.kept) in
     let reached = found_reached sys (frames_of c.args.frames.now) c.args.i c.args.bad.now (against_next sys.state_bits c.args.clause.now) c.in-Sat.values c.requires.framed.framed found in
     subst (All (IsReached sys frame)) (sym c.in_ok-push-in-Sat.ensures.items)
     (All-push (IsReached sys frame) c.args.shown.now.items c.in_ok-next-in-Sat.next c.requires.shown (subst (IsReached sys frame) (sym next_is) reached))
