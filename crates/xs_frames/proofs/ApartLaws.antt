@@ -2,16 +2,18 @@
 use Rattle.std.proofs.Common.{◌≡◌, ◌≤◌, ◌<◌, ◌⊎◌, inl, inr, ℕ, zero, suc, ◌+◌, ◌-◌, ◌^◌, Bool, true, false, List, [], ◌∷◌, refl, sym, ◌∙◌, ap, subst, arith, ◌++◌}
 use Rattle.std.specs.Prelude.{nat_le, if◌then◌else◌, All}
 use Rattle.std.proofs.lemmas.Bool.{cases_lt}
-use Rattle.std.proofs.lemmas.List.Elements.{All-nil, All-cons, All-head, All-tail}
+use Rattle.std.proofs.lemmas.List.Elements.{All-nil, All-cons, All-head, All-tail, All-weaker}
 use Rattle.xs_lits.specs.Literal.{Literal}
+use Rattle.xs_lits.specs.Derivation.{IsUpTo}
 use Rattle.xs_lits.specs.Models.{TotalAssignment, clause_value, all_true}
 use Rattle.xs_lits.specs.declared.system.System.{System}
 use Rattle.xs_solver.specs.declared.solve.Verdict.{Verdict}
 use Rattle.xs_solver.specs.declared.solve.Verdict.TheVariants.{Sat, Unsat}
 use Rattle.xs_lits.specs.Assignment.{Assignment}
-use Rattle.xs_frames.specs.Apart.{apart, apart_literal, apart_clause, apart_list, apart_system, IsNear, IsMet, IsMetFrame, IsMetBeside, IsFound, IsExcluded, IsPlace, IsKept}
+use Rattle.xs_simplify.specs.Meeting.{IsMet, AreMetAlike, HasNoHigherVariable}
+use Rattle.xs_frames.specs.Apart.{apart, apart_literal, apart_clause, apart_list, apart_system, IsNear, IsMetFrame, IsMetBeside, IsFound, IsExcluded, IsPlace, IsKept}
 use Rattle.xs_frames.specs.Condition.{IsLow}
-use Rattle.xs_frames.specs.Guarding.{Meets, MeetsFrame, MeetsBeside, IsModelOf, IsCoreOf, IsToldBy, places_of, IsHolding, AddsBad}
+use Rattle.xs_frames.specs.Guarding.{Meets, MeetAlike, MeetsFrame, MeetsBeside, IsModelOf, IsCoreOf, IsToldBy, places_of, IsHolding, AddsBad}
 use Rattle.xs_frames.specs.declared.guarded.Guarded.{Guarded}
 use Rattle.xs_frames.specs.declared.guarded.Beside.{Beside}
 use Rattle.xs_frames.specs.declared.guarded.Beside.TheVariants.{Nothing, Step, Bad}
@@ -142,12 +144,6 @@ module _ (system : System) (list : List (List Literal)) (fs : List (List (List L
   unsat_told b i one other v core e f t = excluded b i other core
       (subst (IsToldBy (apart_system system) (apart_list (places_of system) list) fs b i other) f (subst (λ ls. IsToldBy (apart_system system) (apart_list (places_of system) list) fs b i ls v) e t))
 
--- a system with lists whose variables are apart
-pub apart_is : (system : System) (p : ℕ) (a b : List (List Literal)) → p ≡ places_of system → a ≡ apart_list p system.first → b ≡ apart_list p system.step → record system { first = a; step = b } ≡ apart_system system
-apart_is system p a b e f g =
-    ap (λ (l : List (List Literal)). record system { first = l; step = b }) (f ∙ ap (λ n. apart_list n system.first) e)
-    ∙ ap (λ (l : List (List Literal)). record system { first = apart_list (places_of system) system.first; step = l }) (g ∙ ap (λ n. apart_list n system.step) e)
-
 -- variables that are low stay small
 near_literal : (p : ℕ) (l : Literal) → p < 2 ^ 31 → IsLow l → IsNear (apart_literal p l)
 near_literal p l small low = by_case (cases_lt l.var 2) (cases_lt p l.var)
@@ -173,6 +169,30 @@ near_clause p (l ∷ c) small a = All-cons IsNear (apart_literal p l) (apart_cla
 pub near_list : (p : ℕ) (list : List (List Literal)) → p < 2 ^ 31 → All (All IsLow) list → All (All IsNear) (apart_list p list)
 near_list p [] small a = All-nil (All IsNear)
 near_list p (c ∷ list) small a = All-cons (All IsNear) (apart_clause p c) (apart_list p list) (near_clause p c small (All-head (All IsLow) c list a)) (near_list p list small (All-tail (All IsLow) c list a))
+
+-- a simpler list, its variables apart
+pub simpler_low : (list simple : List (List Literal)) → HasNoHigherVariable list simple → All (All IsLow) list → All (All IsLow) simple
+simpler_low list simple low all =
+    All-weaker (All (IsUpTo most)) (All IsLow) (λ c up. All-weaker (IsUpTo most) IsLow (λ l le. back l.var le) c up) simple
+    (low.at most (All-weaker (All IsLow) (All (IsUpTo most)) (λ c below. All-weaker IsLow (IsUpTo most) (λ l lt. there l.var lt) c below) list all))
+  where
+    most : ℕ
+    most = 2 ^ 31 - 1
+
+    there : (x : ℕ) → x < 2 ^ 31 → x ≤ 2 ^ 31 - 1
+    there x lt = omega (arith, lt)
+
+    back : (x : ℕ) → x ≤ 2 ^ 31 - 1 → x < 2 ^ 31
+    back x le = omega (arith, le)
+
+pub simpler_near : (p : ℕ) (list simple apart : List (List Literal)) → p < 2 ^ 31 → All (All IsLow) list → HasNoHigherVariable list simple → apart ≡ apart_list p simple → All (All IsNear) apart
+simpler_near p list simple apart small all low is = subst (All (All IsNear)) (sym is) (near_list p simple small (simpler_low list simple low all))
+
+pub simpler_alike : (p : ℕ) (list simple apart : List (List Literal)) → AreMetAlike p list simple → apart ≡ apart_list p simple → MeetAlike p (apart_list p list) apart
+simpler_alike p list simple apart same is = subst (MeetAlike p (apart_list p list)) (sym is) (record {
+  stays = λ v m. to_apart p simple v ((same v).0 (from_apart p list v m));
+  back = λ v m. to_apart p list v ((same v).1 (from_apart p simple v m));
+})
 
 -- a clause over states and inputs keeps its variables
 places_apart : (p : ℕ) (c : List Literal) → All (IsPlace p) c → apart_clause p c ≡ c

@@ -9,7 +9,7 @@ use Rattle.xs_solver.specs.Kept.{added_of}
 use Rattle.xs_lits.specs.declared.system.System.{System}
 use Rattle.xs_frames.specs.Roles.{Listed, first, step, bad, Role, renamed, renamed_literal, renamed_clause, under_guard, under_list}
 use Rattle.xs_frames.specs.Guards.{Layout, AreHeld, guards_next}
-use Rattle.xs_frames.specs.Guarding.{places_of, added_in, IsGuardIn, IsWell, HasSameGuards, HasPut, HasWidened, HasNewBad, HasNewFrame, IsEmpty, HasRoomFor, guard_at, guard_of, lists_of, IsHolding, HasAsked, TakesBad, Puts, Grows, BeginsAgain}
+use Rattle.xs_frames.specs.Guarding.{places_of, added_in, IsGuardIn, IsWell, HasSameGuards, HasPut, HasWidened, HasNewBad, HasNewFrame, IsEmpty, HasRoomFor, guard_at, guard_of, lists_of, MeetAlike, IsHolding, HasAsked, TakesBad, Puts, Grows, BeginsAgain}
 use Rattle.xs_frames.specs.declared.guarded.Guarded.{Guarded}
 use Rattle.xs_frames.proofs.RoleLaws.{order, renamed_low, renamed_high}
 use Rattle.xs_frames.proofs.GuardedSteps.{equal_most, guard_raised, guards_raised, put_none, put_both}
@@ -17,27 +17,29 @@ use Rattle.xs_frames.proofs.HeldSteps.{held_as, held_put, held_again, again_past
 use Rattle.xs_frames.proofs.HeldLists.{held_renewed, renewed, bad_at, held_gates, with_gates, held_list, starts, no_list, held_empty}
 
 -- where the lists of a system and frames stand
-abbrev pub layout_of : ℕ → System → List (List Literal) → List (List (List Literal)) → (Listed → ℕ) → (Listed → ℕ) → (Listed → ℕ) → (ℕ → ℕ) → (ℕ → Role) → Layout
-layout_of places system list frames guard top base at role =
-    record { places = places; list = lists_of system list; frames = frames; guard = guard; top = top; base = base; guard_at = at; role = role }
+abbrev pub layout_of : ℕ → (Listed → List (List Literal)) → List (List (List Literal)) → (Listed → ℕ) → (Listed → ℕ) → (Listed → ℕ) → (ℕ → ℕ) → (ℕ → Role) → Layout
+layout_of places lists frames guard top base at role =
+    record { places = places; list = lists; frames = frames; guard = guard; top = top; base = base; guard_at = at; role = role }
 
 module _ (system : System) (list : List (List Literal)) (frames : List (List (List Literal))) where
   -- what is held of a layout is of a search whose guards stand there
-  pub holding : (g : Guarded) (places vars : ℕ) (added : List (List Literal)) (guard top base : Listed → ℕ) (at : ℕ → ℕ) (role : ℕ → Role) → IsWell g → places ≡ places_of system → g.places ≡ places →
+  pub holding : (g : Guarded) (lists : Listed → List (List Literal)) → ((which : Listed) → MeetAlike (places_of system) (lists_of system list which) (lists which)) → (places vars : ℕ) (added : List (List Literal)) (guard top base : Listed → ℕ) (at : ℕ → ℕ) (role : ℕ → Role) → IsWell g → places ≡ places_of system → g.places ≡ places →
       length g.frames.items ≡ length frames → ((which : Listed) → guard_of g which ≡ guard which) → ((i : ℕ) → i < length frames → guard_at g i ≡ at i) → g.search.kept.vars ≡ vars → added_in g ≡ added →
-      AreHeld (layout_of places system list frames guard top base at role) vars added → IsHolding system list frames g
-  holding g places vars added guard top base at role well is_places same_places count same_guard same_at same_vars same_added are = record {
+      AreHeld (layout_of places lists frames guard top base at role) vars added → IsHolding system list frames g
+  holding g lists alike places vars added guard top base at role well is_places same_places count same_guard same_at same_vars same_added are = record {
     well = well;
     places = same_places ∙ is_places;
     count = count;
+    lists = lists;
+    alike = alike;
     top = top;
     base = base;
     role = role;
     held =
-        subst (λ (a : List (List Literal)). AreHeld (layout_of g.places system list frames (guard_of g) top base (guard_at g) role) g.search.kept.vars a) (sym same_added)
-        (subst (λ (v : ℕ). AreHeld (layout_of g.places system list frames (guard_of g) top base (guard_at g) role) v added) (sym same_vars)
-        (subst (λ (p : ℕ). AreHeld (layout_of p system list frames (guard_of g) top base (guard_at g) role) vars added) (sym same_places)
-        (held_as (layout_of places system list frames guard top base at role) vars added (guard_of g) (guard_at g) same_guard same_at are)));
+        subst (λ (a : List (List Literal)). AreHeld (layout_of g.places lists frames (guard_of g) top base (guard_at g) role) g.search.kept.vars a) (sym same_added)
+        (subst (λ (v : ℕ). AreHeld (layout_of g.places lists frames (guard_of g) top base (guard_at g) role) v added) (sym same_vars)
+        (subst (λ (p : ℕ). AreHeld (layout_of p lists frames (guard_of g) top base (guard_at g) role) vars added) (sym same_places)
+        (held_as (layout_of places lists frames guard top base at role) vars added (guard_of g) (guard_at g) same_guard same_at are)));
   }
 
 -- the guards of frames and lists where the fields are the same
@@ -59,7 +61,7 @@ frame_plain g i w lt = plain_guard (slice_index_or g.frames.items i g.step) (w.f
 -- after a question
 pub asks : (old new : Guarded) → HasPut old new [] → HasAsked old new
 asks old new p system list frames h =
-    holding system list frames new old.places old.search.kept.vars (added_in old) (guard_of old) h.top h.base (guard_at old) h.role p.well h.places p.guards.places
+    holding system list frames new h.lists h.alike old.places old.search.kept.vars (added_in old) (guard_of old) h.top h.base (guard_at old) h.role p.well h.places p.guards.places
     (ap (λ (ls : List Literal). length ls) p.guards.frames ∙ h.count) (λ which. guards_same old new which p.guards) (λ i lt. guard_same old new i p.guards.step p.guards.frames) p.vars
     (p.added ∙ append-nil (added_in old)) h.held
 
@@ -67,10 +69,10 @@ asks old new p system list frames h =
 pub puts : (old new : Guarded) (j : ℕ) (c : List Literal) → IsWell old → 0 < j → j < length old.frames.items → All (IsUpTo old.places) c →
     HasPut old new ((opposite (slice_index_or old.frames.items j old.step) ∷ c) ∷ []) → Puts old new j c
 puts old new j c w some lt low p system list frames now h put =
-    holding system list now new old.places old.search.kept.vars (added_in old ++ under_guard (guard_at old j) c ∷ []) (guard_of old) h.top h.base (guard_at old) h.role p.well h.places p.guards.places
+    holding system list now new h.lists h.alike old.places old.search.kept.vars (added_in old ++ under_guard (guard_at old j) c ∷ []) (guard_of old) h.top h.base (guard_at old) h.role p.well h.places p.guards.places
     (ap (λ (ls : List Literal). length ls) p.guards.frames ∙ h.count ∙ sym put.same) (λ which. guards_same old new which p.guards) (λ i lt. guard_same old new i p.guards.step p.guards.frames) p.vars
     (p.added ∙ ap (λ (l : Literal). added_in old ++ (opposite l ∷ c) ∷ []) (frame_plain old j w lt))
-    (held_put (layout_of old.places system list frames (guard_of old) h.top h.base (guard_at old) h.role) old.search.kept.vars (added_in old) j c now h.held some low put)
+    (held_put (layout_of old.places h.lists frames (guard_of old) h.top h.base (guard_at old) h.role) old.search.kept.vars (added_in old) j c now h.held some low put)
 
 -- the guard of a frame that stood before there was one more
 guard_before : (old new : Guarded) (l : Literal) (i : ℕ) → new.step ≡ old.step → new.frames.items ≡ old.frames.items ++ l ∷ [] → i < length old.frames.items → guard_at new i ≡ guard_at old i
@@ -100,7 +102,7 @@ pub grows : (old a new : Guarded) (more : List (List Literal)) → IsWell old �
     ((d : List Literal) → Contains more d → (d ≡ guards_next (guard_at old (length old.frames.items - 1)) (old.search.kept.vars + 1)) × (0 < length old.frames.items - 1)) →
     (0 < length old.frames.items - 1 → Contains more (guards_next (guard_at old (length old.frames.items - 1)) (old.search.kept.vars + 1))) → Grows old new
 grows old a new more w n p only next system list frames h =
-    holding system list (frames ++ [] ∷ []) new old.places (old.search.kept.vars + 1) (added_in old ++ more) (guard_of old) h.top h.base (guard_at a) role p.well h.places (p.guards.places ∙ n.places)
+    holding system list (frames ++ [] ∷ []) new h.lists h.alike old.places (old.search.kept.vars + 1) (added_in old ++ more) (guard_of old) h.top h.base (guard_at a) role p.well h.places (p.guards.places ∙ n.places)
     longer (λ which. guards_same a new which p.guards ∙ guards_before old a (plain (old.search.kept.vars + 1)) which w n.step n.bad n.frames) (λ i lt. guard_same a new i p.guards.step p.guards.frames)
     (p.vars ∙ n.vars) (p.added ∙ ap (λ (cs : List (List Literal)). cs ++ more) n.added)
     (held_more layout old.search.kept.vars (added_in old) more (guard_at a) h.held (subst (λ (k : ℕ). 0 < k) h.count w.some)
@@ -110,7 +112,7 @@ grows old a new more w n p only next system list frames h =
     (λ some. subst (λ (k : ℕ). Contains more (guards_next (guard_at old (k - 1)) (old.search.kept.vars + 1))) h.count (next (subst (λ (k : ℕ). 0 < k - 1) (sym h.count) some))))
   where
     layout : Layout
-    layout = layout_of old.places system list frames (guard_of old) h.top h.base (guard_at old) h.role
+    layout = layout_of old.places h.lists frames (guard_of old) h.top h.base (guard_at old) h.role
 
     role : ℕ → Role
     role = with_frame layout old.search.kept.vars
@@ -124,9 +126,9 @@ grows old a new more w n p only next system list frames h =
 pub again : (old new : Guarded) (i : ℕ) → IsWell old → IsWell new → 0 < i → i < length old.frames.items → new.places ≡ old.places → new.step ≡ old.step → new.bad ≡ old.bad → length new.frames.items ≡ 1 →
     guard_at new 0 ≡ guard_at old 0 → new.search.kept.vars ≡ old.search.kept.vars → added_in new ≡ added_in old ++ (opposite (slice_index_or old.frames.items i old.step) ∷ []) ∷ [] → BeginsAgain old new
 again old new i w well some lt places same_step same_bad count same_first vars added system list frames h =
-    holding system list ([] ∷ []) new old.places old.search.kept.vars (added_in old ++ (opposite (plain (guard_at old i)) ∷ []) ∷ []) (guard_of old) h.top h.base (guard_at old) (λ x. retire_frames (h.role x)) well h.places
+    holding system list ([] ∷ []) new h.lists h.alike old.places old.search.kept.vars (added_in old ++ (opposite (plain (guard_at old i)) ∷ []) ∷ []) (guard_of old) h.top h.base (guard_at old) (λ x. retire_frames (h.role x)) well h.places
     places count same_guard at_none vars (added ∙ ap (λ (l : Literal). added_in old ++ (opposite l ∷ []) ∷ []) (frame_plain old i w lt))
-    (again_past (layout_of old.places system list frames (guard_of old) h.top h.base (guard_at old) h.role) old.search.kept.vars (added_in old) i h.held some (subst (λ (k : ℕ). i < k) h.count lt))
+    (again_past (layout_of old.places h.lists frames (guard_of old) h.top h.base (guard_at old) h.role) old.search.kept.vars (added_in old) i h.held some (subst (λ (k : ℕ). i < k) h.count lt))
   where
     same_guard : (which : Listed) → guard_of new which ≡ guard_of old which
     same_guard first = same_first
@@ -140,8 +142,8 @@ again old new i w well some lt places same_step same_bad count same_first vars a
 -- and where there are none
 pub again_same : (g : Guarded) → length g.frames.items ≡ 1 → BeginsAgain g g
 again_same g count system list frames h =
-    holding system list ([] ∷ []) g g.places g.search.kept.vars (added_in g) (guard_of g) h.top h.base (guard_at g) (λ x. retire_frames (h.role x)) h.well h.places refl count (λ which. refl) (λ i lt. refl) refl refl
-    (held_again (layout_of g.places system list frames (guard_of g) h.top h.base (guard_at g) h.role) g.search.kept.vars (added_in g) h.held)
+    holding system list ([] ∷ []) g h.lists h.alike g.places g.search.kept.vars (added_in g) (guard_of g) h.top h.base (guard_at g) (λ x. retire_frames (h.role x)) h.well h.places refl count (λ which. refl) (λ i lt. refl) refl refl
+    (held_again (layout_of g.places h.lists frames (guard_of g) h.top h.base (guard_at g) h.role) g.search.kept.vars (added_in g) h.held)
 
 -- which list, where one is taken
 bad_or_not : (top f : Listed → ℕ) (n m : ℕ) (u : Listed) → (u ≡ bad) ⊎ ((bad_at top n u ≡ top u) × (bad_at f m u ≡ f u))
@@ -149,16 +151,28 @@ bad_or_not top f n m first = inr (refl, refl)
 bad_or_not top f n m step = inr (refl, refl)
 bad_or_not top f n m bad = inl refl
 
-only_bad : (system : System) (a b : List (List Literal)) (u : Listed) → (u ≡ bad) ⊎ (lists_of system a u ≡ lists_of system b u)
-only_bad system a b first = inr refl
-only_bad system a b step = inr refl
-only_bad system a b bad = inl refl
+-- the lists, with another one of the bad states
+abbrev pub with_bad : (Listed → List (List Literal)) → List (List Literal) → Listed → List (List Literal)
+with_bad lists list first = lists first
+with_bad lists list step = lists step
+with_bad lists list bad = list
+
+only_bad : (lists : Listed → List (List Literal)) (a b : List (List Literal)) (u : Listed) → (u ≡ bad) ⊎ (with_bad lists a u ≡ with_bad lists b u)
+only_bad lists a b first = inr refl
+only_bad lists a b step = inr refl
+only_bad lists a b bad = inl refl
+
+pub alike_bad : (system : System) (was list now : List (List Literal)) (lists : Listed → List (List Literal)) → ((which : Listed) → MeetAlike (places_of system) (lists_of system was which) (lists which)) → MeetAlike (places_of system) list now →
+    (which : Listed) → MeetAlike (places_of system) (lists_of system list which) (with_bad lists now which)
+alike_bad system was list now lists alike same first = alike first
+alike_bad system was list now lists alike same step = alike step
+alike_bad system was list now lists alike same bad = same
 
 -- these bad states in the place of others
-pub takes : (old a b new : Guarded) (n : ℕ) (cs : List (List Literal)) → IsWell old → HasNewBad old a → HasWidened a b n → All (All (IsUpTo (old.places + n))) cs →
-    HasPut b new (under_list old.places (old.search.kept.vars + 1) (old.search.kept.vars + 1) cs) → TakesBad old new cs
-takes old a b new n cs w r h low p system was frames held =
-    holding system cs frames new old.places (old.search.kept.vars + 1 + n) ((added_in old ++ (opposite (plain old.bad.var) ∷ []) ∷ []) ++ under_list old.places base base cs) (guard_of a) top' base' (guard_at old) role' p.well
+pub takes : (old a b new : Guarded) (n : ℕ) (list cs : List (List Literal)) → MeetAlike old.places list cs → IsWell old → HasNewBad old a → HasWidened a b n → All (All (IsUpTo (old.places + n))) cs →
+    HasPut b new (under_list old.places (old.search.kept.vars + 1) (old.search.kept.vars + 1) cs) → TakesBad old new list
+takes old a b new n list cs same w r h low p system was frames held =
+    holding system list frames new (with_bad held.lists cs) (alike_bad system was list cs held.lists held.alike (subst (λ (k : ℕ). MeetAlike k list cs) held.places same)) old.places (old.search.kept.vars + 1 + n) ((added_in old ++ (opposite (plain old.bad.var) ∷ []) ∷ []) ++ under_list old.places base base cs) (guard_of a) top' base' (guard_at old) role' p.well
     held.places (p.guards.places ∙ h.guards.places ∙ r.places) count (λ which. guards_same b new which p.guards ∙ guards_same a b which h.guards)
     (λ i lt. guard_same b new i p.guards.step p.guards.frames ∙ guard_same a b i h.guards.step h.guards.frames ∙ guard_same old a i r.step r.frames)
     (p.vars ∙ h.vars ∙ ap (λ (k : ℕ). k + n) r.vars) added filled
@@ -167,10 +181,10 @@ takes old a b new n cs w r h low p system was frames held =
     base = old.search.kept.vars + 1
 
     layout : Layout
-    layout = layout_of old.places system was frames (guard_of old) held.top held.base (guard_at old) held.role
+    layout = layout_of old.places held.lists frames (guard_of old) held.top held.base (guard_at old) held.role
 
     renewed_layout : Layout
-    renewed_layout = renewed layout old.search.kept.vars (lists_of system []) (guard_of a)
+    renewed_layout = renewed layout old.search.kept.vars (with_bad held.lists []) (guard_of a)
 
     top' : Listed → ℕ
     top' = bad_at (bad_at held.top old.places) (old.places + n)
@@ -182,16 +196,16 @@ takes old a b new n cs w r h low p system was frames held =
     role' = with_gates renewed_layout base bad n
 
     one : AreHeld renewed_layout base (added_in old ++ (opposite (plain old.bad.var) ∷ []) ∷ [])
-    one = held_renewed layout old.search.kept.vars (added_in old) (lists_of system []) (guard_of a) held.held refl refl refl (guard_same old a 0 r.step r.frames) (ap (λ (l : Literal). l.var) r.step) (ap (λ (l : Literal). l.var) r.bad)
+    one = held_renewed layout old.search.kept.vars (added_in old) (with_bad held.lists []) (guard_of a) held.held refl refl refl (guard_same old a 0 r.step r.frames) (ap (λ (l : Literal). l.var) r.step) (ap (λ (l : Literal). l.var) r.bad)
 
     two : AreHeld (record renewed_layout { top = top'; base = base'; role = role' }) (base + n) (added_in old ++ (opposite (plain old.bad.var) ∷ []) ∷ [])
     two = held_gates renewed_layout base (added_in old ++ (opposite (plain old.bad.var) ∷ []) ∷ []) bad n top' base' one refl refl refl (bad_or_not (bad_at held.top old.places) held.base (old.places + n) base)
 
-    three : AreHeld (layout_of old.places system cs frames (guard_of a) top' base' (guard_at old) role') (base + n) ((added_in old ++ (opposite (plain old.bad.var) ∷ []) ∷ []) ++ under_list old.places base (guard_of a bad) cs)
-    three = held_list (record renewed_layout { top = top'; base = base'; role = role' }) (base + n) (added_in old ++ (opposite (plain old.bad.var) ∷ []) ∷ []) bad cs (lists_of system cs) two refl refl (only_bad system cs []) low
+    three : AreHeld (layout_of old.places (with_bad held.lists cs) frames (guard_of a) top' base' (guard_at old) role') (base + n) ((added_in old ++ (opposite (plain old.bad.var) ∷ []) ∷ []) ++ under_list old.places base (guard_of a bad) cs)
+    three = held_list (record renewed_layout { top = top'; base = base'; role = role' }) (base + n) (added_in old ++ (opposite (plain old.bad.var) ∷ []) ∷ []) bad cs (with_bad held.lists cs) two refl refl (only_bad held.lists cs []) low
 
-    filled : AreHeld (layout_of old.places system cs frames (guard_of a) top' base' (guard_at old) role') (base + n) ((added_in old ++ (opposite (plain old.bad.var) ∷ []) ∷ []) ++ under_list old.places base base cs)
-    filled = subst (λ (ds : List (List Literal)). AreHeld (layout_of old.places system cs frames (guard_of a) top' base' (guard_at old) role') (base + n) ds)
+    filled : AreHeld (layout_of old.places (with_bad held.lists cs) frames (guard_of a) top' base' (guard_at old) role') (base + n) ((added_in old ++ (opposite (plain old.bad.var) ∷ []) ∷ []) ++ under_list old.places base base cs)
+    filled = subst (λ (ds : List (List Literal)). AreHeld (layout_of old.places (with_bad held.lists cs) frames (guard_of a) top' base' (guard_at old) role') (base + n) ds)
         (ap (λ (x : ℕ). (added_in old ++ (opposite (plain old.bad.var) ∷ []) ∷ []) ++ under_list old.places base x cs) (ap (λ (l : Literal). l.var) r.bad))
         three
 
@@ -203,12 +217,23 @@ takes old a b new n cs w r h low p system was frames held =
         p.added ∙ ap (λ (ds : List (List Literal)). ds ++ under_list old.places base base cs) (h.added ∙ r.added)
         ∙ ap (λ (l : Literal). (added_in old ++ (opposite l ∷ []) ∷ []) ++ under_list old.places base base cs) (plain_guard old.bad w.bad.positive)
 
+-- the lists of a search that was just made
+abbrev pub made_lists : List (List Literal) → List (List Literal) → Listed → List (List Literal)
+made_lists fs ss first = fs
+made_lists fs ss step = ss
+made_lists fs ss bad = []
+
+made_alike : (system : System) (fs ss : List (List Literal)) → MeetAlike (places_of system) system.first fs → MeetAlike (places_of system) system.step ss → (which : Listed) → MeetAlike (places_of system) (lists_of system [] which) (made_lists fs ss which)
+made_alike system fs ss f s first = f
+made_alike system fs ss f s step = s
+made_alike system fs ss f s bad = record { stays = λ v m. m; back = λ v m. m }
+
 -- the search over the first states and the steps
-pub made : (system : System) (a b new : Guarded) (n m : ℕ) → IsEmpty (places_of system) (places_of system + 3 + n + m) a → All (All (IsUpTo (places_of system + n))) system.first → All (All (IsUpTo (places_of system + m))) system.step →
-    HasPut a b (under_list (places_of system) (places_of system + 3) (places_of system + 1) system.first) → HasPut b new (under_list (places_of system) (places_of system + 3 + n) (places_of system + 2) system.step) →
+pub made : (system : System) (fs ss : List (List Literal)) (a b new : Guarded) (n m : ℕ) → MeetAlike (places_of system) system.first fs → MeetAlike (places_of system) system.step ss → IsEmpty (places_of system) (places_of system + 3 + n + m) a → All (All (IsUpTo (places_of system + n))) fs → All (All (IsUpTo (places_of system + m))) ss →
+    HasPut a b (under_list (places_of system) (places_of system + 3) (places_of system + 1) fs) → HasPut b new (under_list (places_of system) (places_of system + 3 + n) (places_of system + 2) ss) →
     IsHolding system [] ([] ∷ []) new
-made system a b new n m e low_first low_step p q =
-    holding system [] ([] ∷ []) new places (places + 3 + n + m) (under_list places (places + 3) (guard_of a first) system.first ++ under_list places (places + 3 + n) (guard_of a step) system.step) (guard_of a) two_top two_base
+made system fs ss a b new n m alike_first alike_step e low_first low_step p q =
+    holding system [] ([] ∷ []) new (made_lists fs ss) (made_alike system fs ss alike_first alike_step) places (places + 3 + n + m) (under_list places (places + 3) (guard_of a first) fs ++ under_list places (places + 3 + n) (guard_of a step) ss) (guard_of a) two_top two_base
     (guard_at a) two_role q.well refl (q.guards.places ∙ p.guards.places ∙ e.places) (ap (λ (ls : List Literal). length ls) (q.guards.frames ∙ p.guards.frames ∙ e.frames))
     (λ which. guards_same b new which q.guards ∙ guards_same a b which p.guards) (λ i lt. guard_same b new i q.guards.step q.guards.frames ∙ guard_same a b i p.guards.step p.guards.frames)
     (q.vars ∙ p.vars ∙ e.vars) added four
@@ -274,7 +299,7 @@ made system a b new n m e low_first low_step p q =
     two = held_gates one_layout (places + 3 + n) [] step m two_top two_base one refl refl refl two_same
 
     first_list : Listed → List (List Literal)
-    first_list first = system.first
+    first_list first = fs
     first_list step = []
     first_list bad = []
 
@@ -286,23 +311,23 @@ made system a b new n m e low_first low_step p q =
     three_layout : Layout
     three_layout = record two_layout { list = first_list }
 
-    three : AreHeld three_layout (places + 3 + n + m) (under_list places (places + 3) (guard_of a first) system.first)
-    three = held_list two_layout (places + 3 + n + m) [] first system.first first_list two refl refl first_same low_first
+    three : AreHeld three_layout (places + 3 + n + m) (under_list places (places + 3) (guard_of a first) fs)
+    three = held_list two_layout (places + 3 + n + m) [] first fs first_list two refl refl first_same low_first
 
-    step_same : (u : Listed) → (u ≡ step) ⊎ (lists_of system [] u ≡ first_list u)
+    step_same : (u : Listed) → (u ≡ step) ⊎ (made_lists fs ss u ≡ first_list u)
     step_same first = inr refl
     step_same step = inl refl
     step_same bad = inr refl
 
-    four : AreHeld (layout_of places system [] ([] ∷ []) (guard_of a) two_top two_base (guard_at a) two_role) (places + 3 + n + m)
-        (under_list places (places + 3) (guard_of a first) system.first ++ under_list places (places + 3 + n) (guard_of a step) system.step)
-    four = held_list three_layout (places + 3 + n + m) (under_list places (places + 3) (guard_of a first) system.first) step system.step (lists_of system []) three refl refl step_same low_step
+    four : AreHeld (layout_of places (made_lists fs ss) ([] ∷ []) (guard_of a) two_top two_base (guard_at a) two_role) (places + 3 + n + m)
+        (under_list places (places + 3) (guard_of a first) fs ++ under_list places (places + 3 + n) (guard_of a step) ss)
+    four = held_list three_layout (places + 3 + n + m) (under_list places (places + 3) (guard_of a first) fs) step ss (made_lists fs ss) three refl refl step_same low_step
 
-    added : added_in new ≡ under_list places (places + 3) (guard_of a first) system.first ++ under_list places (places + 3 + n) (guard_of a step) system.step
+    added : added_in new ≡ under_list places (places + 3) (guard_of a first) fs ++ under_list places (places + 3 + n) (guard_of a step) ss
     added =
-        q.added ∙ ap (λ (ds : List (List Literal)). ds ++ under_list places (places + 3 + n) (places + 2) system.step) (p.added ∙ ap (λ (ds : List (List Literal)). ds ++ under_list places (places + 3) (places + 1) system.first) e.added)
-        ∙ ap (λ (x : ℕ). under_list places (places + 3) x system.first ++ under_list places (places + 3 + n) (places + 2) system.step) (sym at_first)
-        ∙ ap (λ (x : ℕ). under_list places (places + 3) (guard_of a first) system.first ++ under_list places (places + 3 + n) x system.step) (sym at_step)
+        q.added ∙ ap (λ (ds : List (List Literal)). ds ++ under_list places (places + 3 + n) (places + 2) ss) (p.added ∙ ap (λ (ds : List (List Literal)). ds ++ under_list places (places + 3) (places + 1) fs) e.added)
+        ∙ ap (λ (x : ℕ). under_list places (places + 3) x fs ++ under_list places (places + 3 + n) (places + 2) ss) (sym at_first)
+        ∙ ap (λ (x : ℕ). under_list places (places + 3) (guard_of a first) fs ++ under_list places (places + 3 + n) x ss) (sym at_step)
 
 -- the frame of number 0 was the last, so nothing implies the new one
 pub grows_first : (old a : Guarded) → IsWell old → HasNewFrame old a → length old.frames.items - 1 ≡ 0 → Grows old a
@@ -413,10 +438,10 @@ all_room places base vars n cs low room le = λ k d lt i e li. one (slice_index_
       by_order (inr b) = subst (λ (y : ℕ). y ≤ vars) (sym (renamed_high places base x b)) (over x a)
 
 -- these bad states, where their gates stand above the new guard
-pub takes_from : (old a b new : Guarded) (p base x n : ℕ) (cs : List (List Literal)) → IsWell old → HasNewBad old a → HasWidened a b n → All (All (IsUpTo (old.places + n))) cs → p ≡ b.places → base ≡ a.vars → x ≡ b.bad.var →
-    HasPut b new (under_list p base x cs) → TakesBad old new cs
-takes_from old a b new p base x n cs w r h low is_places is_base is_guard put =
-    takes old a b new n cs w r h low
+pub takes_from : (old a b new : Guarded) (p base x n : ℕ) (list cs : List (List Literal)) → MeetAlike old.places list cs → IsWell old → HasNewBad old a → HasWidened a b n → All (All (IsUpTo (old.places + n))) cs → p ≡ b.places → base ≡ a.vars → x ≡ b.bad.var →
+    HasPut b new (under_list p base x cs) → TakesBad old new list
+takes_from old a b new p base x n list cs same w r h low is_places is_base is_guard put =
+    takes old a b new n list cs same w r h low
     (subst (λ (q : ℕ). HasPut b new (under_list q (old.search.kept.vars + 1) (old.search.kept.vars + 1) cs)) (is_places ∙ h.guards.places ∙ r.places)
     (subst (λ (q : ℕ). HasPut b new (under_list p q (old.search.kept.vars + 1) cs)) (is_base ∙ r.well.vars ∙ r.vars)
     (subst (λ (q : ℕ). HasPut b new (under_list p base q cs)) (is_guard ∙ ap (λ (l : Literal). l.var) (h.guards.bad ∙ r.bad)) put)))
@@ -434,14 +459,14 @@ fill_more a b c base guard done d under positive p q e =
     same = e ∙ ap (λ (l : Literal). opposite l ∷ renamed_clause b.places base d) (plain_guard guard positive) ∙ ap (λ (n : ℕ). under_guard guard.var (renamed_clause n base d)) p.guards.places
 
 -- the search over the first states and the steps, where their gates stand one after the other
-pub made_from : (system : System) (a b new : Guarded) (p n m x y : ℕ) → p ≡ places_of system → IsEmpty p (p + 3 + n + m) a → All (All (IsUpTo (p + n))) system.first → All (All (IsUpTo (p + m))) system.step → x ≡ p + 1 → y ≡ p + 2 →
-    HasPut a b (under_list a.places (p + 3) x system.first) → HasPut b new (under_list b.places (p + 3 + n) y system.step) → IsHolding system [] ([] ∷ []) new
-made_from system a b new p n m x y e empty low_first low_step at_first at_step one two =
-    made system a b new n m (subst (λ (q : ℕ). IsEmpty q (q + 3 + n + m) a) e empty) (subst (λ (q : ℕ). All (All (IsUpTo (q + n))) system.first) e low_first) (subst (λ (q : ℕ). All (All (IsUpTo (q + m))) system.step) e low_step)
-    (subst (λ (q : ℕ). HasPut a b (under_list q (q + 3) (q + 1) system.first)) e (subst (λ (q : ℕ). HasPut a b (under_list q (p + 3) (p + 1) system.first)) empty.places
-    (subst (λ (q : ℕ). HasPut a b (under_list a.places (p + 3) q system.first)) at_first one)))
-    (subst (λ (q : ℕ). HasPut b new (under_list q (q + 3 + n) (q + 2) system.step)) e (subst (λ (q : ℕ). HasPut b new (under_list q (p + 3 + n) (p + 2) system.step)) (one.guards.places ∙ empty.places)
-    (subst (λ (q : ℕ). HasPut b new (under_list b.places (p + 3 + n) q system.step)) at_step two)))
+pub made_from : (system : System) (fs ss : List (List Literal)) (a b new : Guarded) (p n m x y : ℕ) → p ≡ places_of system → MeetAlike p system.first fs → MeetAlike p system.step ss → IsEmpty p (p + 3 + n + m) a → All (All (IsUpTo (p + n))) fs → All (All (IsUpTo (p + m))) ss → x ≡ p + 1 → y ≡ p + 2 →
+    HasPut a b (under_list a.places (p + 3) x fs) → HasPut b new (under_list b.places (p + 3 + n) y ss) → IsHolding system [] ([] ∷ []) new
+made_from system fs ss a b new p n m x y e alike_first alike_step empty low_first low_step at_first at_step one two =
+    made system fs ss a b new n m (subst (λ (q : ℕ). MeetAlike q system.first fs) e alike_first) (subst (λ (q : ℕ). MeetAlike q system.step ss) e alike_step) (subst (λ (q : ℕ). IsEmpty q (q + 3 + n + m) a) e empty) (subst (λ (q : ℕ). All (All (IsUpTo (q + n))) fs) e low_first) (subst (λ (q : ℕ). All (All (IsUpTo (q + m))) ss) e low_step)
+    (subst (λ (q : ℕ). HasPut a b (under_list q (q + 3) (q + 1) fs)) e (subst (λ (q : ℕ). HasPut a b (under_list q (p + 3) (p + 1) fs)) empty.places
+    (subst (λ (q : ℕ). HasPut a b (under_list a.places (p + 3) q fs)) at_first one)))
+    (subst (λ (q : ℕ). HasPut b new (under_list q (q + 3 + n) (q + 2) ss)) e (subst (λ (q : ℕ). HasPut b new (under_list q (p + 3 + n) (p + 2) ss)) (one.guards.places ∙ empty.places)
+    (subst (λ (q : ℕ). HasPut b new (under_list b.places (p + 3 + n) q ss)) at_step two)))
 
 -- a renamed clause under a guard is over the variables of the search
 renamed_up_to : (places base vars : ℕ) (c : List Literal) → All (HasRoomFor places base vars) c → All (IsUpTo vars) (renamed_clause places base c)

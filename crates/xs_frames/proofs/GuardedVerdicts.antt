@@ -99,7 +99,7 @@ tells_sat g b i vars assumptions a w lt s system list frames h = record {
     v = values_of a
 
     layout : Layout
-    layout = layout_of g.places system list frames (guard_of g) h.top h.base (guard_at g) h.role
+    layout = layout_of g.places h.lists frames (guard_of g) h.top h.base (guard_at g) h.role
 
     t : Satisfies v (added_in g)
     t = Satisfies-from_All v (added_in g) (λ k d lt. true_clause a (slice_index_or (added_in g) k d) (s.clauses_true k d lt))
@@ -113,19 +113,19 @@ tells_sat g b i vars assumptions a w lt s system list frames h = record {
     there i Bad = first_in (slice_index_or g.frames.items i g.step) (g.bad ∷ [])
 
     frame : (i : ℕ) → i < length g.frames.items → literal_value v (slice_index_or g.frames.items i g.step) ≡ true → MeetsFrame system frames i v
-    frame zero lt on = subst (λ (p : ℕ). Meets p system.first v) h.places
-        (list_met layout g.search.kept.vars (added_in g) h.held first v t (ap (literal_value v) (sym (frame_plain g 0 w lt)) ∙ on))
+    frame zero lt on = (h.alike first).back v (subst (λ (p : ℕ). Meets p (h.lists first) v) h.places
+        (list_met layout g.search.kept.vars (added_in g) h.held first v t (ap (literal_value v) (sym (frame_plain g 0 w lt)) ∙ on)))
     frame (suc k) lt on = frame_met layout g.search.kept.vars (added_in g) h.held (suc k) v (omega arith) (subst (λ (n : ℕ). suc k < n) h.count lt) t (ap (literal_value v) (sym (frame_plain g (suc k) w lt)) ∙ on)
 
     beside : (b : Beside) → ((l : Literal) → Contains (asked_guards g b i) l → literal_value v l ≡ true) → MeetsBeside system list b v
     beside Nothing on = tt
-    beside Step on = subst (λ (p : ℕ). Meets p system.step v) h.places
-        (list_met layout g.search.kept.vars (added_in g) h.held step v t (ap (literal_value v) (sym (plain_guard g.step w.step.positive)) ∙ on g.step (second g.step)))
+    beside Step on = (h.alike step).back v (subst (λ (p : ℕ). Meets p (h.lists step) v) h.places
+        (list_met layout g.search.kept.vars (added_in g) h.held step v t (ap (literal_value v) (sym (plain_guard g.step w.step.positive)) ∙ on g.step (second g.step))))
       where
         second : (l : Literal) → Contains (slice_index_or g.frames.items i g.step ∷ l ∷ []) l
         second l = later_in (slice_index_or g.frames.items i g.step) l (l ∷ []) (first_in l [])
-    beside Bad on = subst (λ (p : ℕ). Meets p list v) h.places
-        (list_met layout g.search.kept.vars (added_in g) h.held bad v t (ap (literal_value v) (sym (plain_guard g.bad w.bad.positive)) ∙ on g.bad (second g.bad)))
+    beside Bad on = (h.alike bad).back v (subst (λ (p : ℕ). Meets p (h.lists bad) v) h.places
+        (list_met layout g.search.kept.vars (added_in g) h.held bad v t (ap (literal_value v) (sym (plain_guard g.bad w.bad.positive)) ∙ on g.bad (second g.bad))))
       where
         second : (l : Literal) → Contains (slice_index_or g.frames.items i g.step ∷ l ∷ []) l
         second l = later_in (slice_index_or g.frames.items i g.step) l (l ∷ []) (first_in l [])
@@ -250,26 +250,42 @@ pub tells_unsat : (g : Guarded) (b : Beside) (i : ℕ) (all : List (List Literal
     IsRefuted (added_in g) all (asked_guards g b i ++ assumptions) core → Tells g b i assumptions (Unsat (unguarded g.places core))
 tells_unsat g b i all assumptions core w lt low r system list frames h = record {
   negated = core_negated g.places (asked_guards g b i) assumptions core (λ l m. (are_guards g b i w lt l m).above) r.negated;
-  follows = λ v m n. core_follows layout g.search.kept.vars (added_in g) h.held (asked_of system list frames v i b m n) v (asked_guards g b i) assumptions core (are_asked system list frames v layout i b m n h.places refl refl refl refl)
-      r.follows r.negated (λ l c. on v m n l c) low;
+  follows = λ v m n. core_follows layout g.search.kept.vars (added_in g) h.held (asked_of held_system held_list frames v i b (frame_held v i m) (beside_held v b n)) v (asked_guards g b i) assumptions core
+      (are_asked held_system held_list frames v layout i b (frame_held v i m) (beside_held v b n) h.places refl refl refl refl) r.follows r.negated (λ l c. on v (frame_held v i m) (beside_held v b n) l c) low;
 }
   where
     layout : Layout
-    layout = layout_of g.places system list frames (guard_of g) h.top h.base (guard_at g) h.role
+    layout = layout_of g.places h.lists frames (guard_of g) h.top h.base (guard_at g) h.role
 
-    at_frame : (v : TotalAssignment) (i : ℕ) (b : Beside) (m : MeetsFrame system frames i v) (n : MeetsBeside system list b v) → i < length g.frames.items → spread (asked_of system list frames v i b m n) h.role v (guard_at g i) ≡ true
-    at_frame v zero b m n lt = spread_at (asked_of system list frames v 0 b m n) h.role v (guard_at g 0) (list_guard first) (h.held.is_guard first)
+    -- the lists that the search holds, in the place of those whose meaning they have
+    held_system : System
+    held_system = record system { first = h.lists first; step = h.lists step }
+
+    held_list : List (List Literal)
+    held_list = h.lists bad
+
+    frame_held : (v : TotalAssignment) (i : ℕ) → MeetsFrame system frames i v → MeetsFrame held_system frames i v
+    frame_held v zero m = (h.alike first).stays v m
+    frame_held v (suc k) m = m
+
+    beside_held : (v : TotalAssignment) (b : Beside) → MeetsBeside system list b v → MeetsBeside held_system held_list b v
+    beside_held v Nothing n = n
+    beside_held v Step n = (h.alike step).stays v n
+    beside_held v Bad n = (h.alike bad).stays v n
+
+    at_frame : (v : TotalAssignment) (i : ℕ) (b : Beside) (m : MeetsFrame held_system frames i v) (n : MeetsBeside held_system held_list b v) → i < length g.frames.items → spread (asked_of held_system held_list frames v i b m n) h.role v (guard_at g i) ≡ true
+    at_frame v zero b m n lt = spread_at (asked_of held_system held_list frames v 0 b m n) h.role v (guard_at g 0) (list_guard first) (h.held.is_guard first)
     at_frame v (suc k) b m n lt =
-        spread_at (asked_of system list frames v (suc k) b m n) h.role v (guard_at g (suc k)) (roles.frame_guard (suc k)) (h.held.is_frame (suc k) (omega arith) (subst (λ (n : ℕ). suc k < n) h.count lt))
+        spread_at (asked_of held_system held_list frames v (suc k) b m n) h.role v (guard_at g (suc k)) (roles.frame_guard (suc k)) (h.held.is_frame (suc k) (omega arith) (subst (λ (n : ℕ). suc k < n) h.count lt))
         ∙ le-leb (suc k) (suc k) (omega arith)
 
-    on : (v : TotalAssignment) (m : MeetsFrame system frames i v) (n : MeetsBeside system list b v) (l : Literal) → Contains (asked_guards g b i) l → literal_value (spread (asked_of system list frames v i b m n) h.role v) l ≡ true
+    on : (v : TotalAssignment) (m : MeetsFrame held_system frames i v) (n : MeetsBeside held_system held_list b v) (l : Literal) → Contains (asked_guards g b i) l → literal_value (spread (asked_of held_system held_list frames v i b m n) h.role v) l ≡ true
     on v m n l c = all_guards (λ k. literal_value u k ≡ true) g b i (ap (literal_value u) (frame_plain g i well lt) ∙ at_frame v i b m n lt)
-        (λ e. ap (literal_value u) (plain_guard g.step well.step.positive) ∙ spread_at (asked_of system list frames v i b m n) h.role v g.step.var (list_guard step) (h.held.is_guard step) ∙ ap asks_step e)
-        (λ e. ap (literal_value u) (plain_guard g.bad well.bad.positive) ∙ spread_at (asked_of system list frames v i b m n) h.role v g.bad.var (list_guard bad) (h.held.is_guard bad) ∙ ap asks_bad e) l c
+        (λ e. ap (literal_value u) (plain_guard g.step well.step.positive) ∙ spread_at (asked_of held_system held_list frames v i b m n) h.role v g.step.var (list_guard step) (h.held.is_guard step) ∙ ap asks_step e)
+        (λ e. ap (literal_value u) (plain_guard g.bad well.bad.positive) ∙ spread_at (asked_of held_system held_list frames v i b m n) h.role v g.bad.var (list_guard bad) (h.held.is_guard bad) ∙ ap asks_bad e) l c
       where
         u : TotalAssignment
-        u = spread (asked_of system list frames v i b m n) h.role v
+        u = spread (asked_of held_system held_list frames v i b m n) h.role v
 
         well : IsWell g
         well = h.well

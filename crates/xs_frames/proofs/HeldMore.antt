@@ -7,12 +7,13 @@ use Rattle.xs_lits.specs.Literal.{Literal}
 use Rattle.xs_lits.specs.Derivation.{IsUpTo}
 use Rattle.xs_frames.specs.Roles.{Listed, first, step, bad, gate, renamed_clause, under_guard}
 use Rattle.xs_frames.specs.Guards.{guards_next, Layout, IsHeld, of_list, of_frame, of_next, of_retired, IsUnder, AreHeld}
-use Rattle.xs_frames.specs.Guarding.{HasPut, IsWell, lists_of, guard_of, guard_at, added_in, AddsBad}
+use Rattle.xs_frames.specs.Guarding.{HasPut, IsWell, places_of, guard_of, guard_at, added_in, AddsBad}
 use Rattle.xs_frames.specs.declared.guarded.Guarded.{Guarded}
 use Rattle.xs_frames.proofs.RoleLaws.{renamed_low}
 use Rattle.xs_frames.proofs.AnswerLemmas.{all_raised}
 use Rattle.xs_frames.proofs.HeldLists.{bad_at}
-use Rattle.xs_frames.proofs.GuardedLaws.{holding, layout_of, guards_same, guard_same}
+use Rattle.xs_frames.proofs.AlikeLaws.{alike_more}
+use Rattle.xs_frames.proofs.GuardedLaws.{holding, layout_of, with_bad, alike_bad, guards_same, guard_same}
 
 -- a clause over the places keeps its variables
 pub renamed_places : (places base : ℕ) (c : List Literal) → All (IsUpTo places) c → renamed_clause places base c ≡ c
@@ -120,6 +121,6 @@ held_bad l vars added c list are same_first same_step more low = record {
 -- after a clause over the places was added under the guard of the bad states
 pub adds_bad : (old new : Guarded) (c : List Literal) → IsWell old → All (IsUpTo old.places) c → HasPut old new ((record { var = old.bad.var; negated = true } ∷ c) ∷ []) → AddsBad old new c
 adds_bad old new c w low p system list frames h =
-    holding system (list ++ c ∷ []) frames new old.places old.search.kept.vars (added_in old ++ under_guard old.bad.var c ∷ []) (guard_of old) (bad_at h.top (later (h.top bad) old.places)) h.base (guard_at old) h.role p.well h.places p.guards.places
+    holding system (list ++ c ∷ []) frames new (with_bad h.lists (h.lists bad ++ c ∷ [])) (alike_bad system list (list ++ c ∷ []) (h.lists bad ++ c ∷ []) h.lists h.alike (alike_more (places_of system) list (h.lists bad) c (subst (λ (k : ℕ). All (IsUpTo k) c) h.places low) (h.alike bad))) old.places old.search.kept.vars (added_in old ++ under_guard old.bad.var c ∷ []) (guard_of old) (bad_at h.top (later (h.top bad) old.places)) h.base (guard_at old) h.role p.well h.places p.guards.places
     (ap (λ (ls : List Literal). length ls) p.guards.frames ∙ h.count) (λ which. guards_same old new which p.guards) (λ i lt. guard_same old new i p.guards.step p.guards.frames) p.vars p.added
-    (held_bad (layout_of old.places system list frames (guard_of old) h.top h.base (guard_at old) h.role) old.search.kept.vars (added_in old) c (lists_of system (list ++ c ∷ [])) h.held refl refl refl low)
+    (held_bad (layout_of old.places h.lists frames (guard_of old) h.top h.base (guard_at old) h.role) old.search.kept.vars (added_in old) c (with_bad h.lists (h.lists bad ++ c ∷ [])) h.held refl refl refl low)

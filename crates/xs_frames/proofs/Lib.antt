@@ -24,3 +24,4 @@ pub mod GuardedVerdicts
 pub mod HeldMore
 pub mod ApartLaws
 pub mod ShownLaws
+pub mod AlikeLaws

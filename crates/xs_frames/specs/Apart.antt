@@ -4,6 +4,7 @@ use Rattle.std.specs.Prelude.{◌≡◌, ℕ, zero, suc, ◌+◌, ◌≤◌, ◌
 use Rattle.xs_lits.specs.Literal.{Literal, opposite}
 use Rattle.xs_lits.specs.Assignment.{Assignment}
 use Rattle.xs_lits.specs.Models.{TotalAssignment, literal_value, clause_value, all_true}
+use Rattle.xs_simplify.specs.Meeting.{IsMet}
 use Rattle.xs_lits.specs.declared.system.System.{System}
 use Rattle.xs_frames.specs.Bits.{values_of}
 use Rattle.xs_frames.specs.Framed.{frame_at}
@@ -40,12 +41,6 @@ IsPlace places l = (2 ≤ l.var) × (l.var ≤ places)
 abbrev pub IsNear : Literal → Type 0
 IsNear l = l.var < 2 ^ 32
 
--- a list whose variables other than those of states and inputs are its own: some values that agree on these places make it true
-pub record IsMet (places : ℕ) (list : List (List Literal)) (v : TotalAssignment) : Type 0 where
-  pub values : TotalAssignment
-  pub agree : (x : ℕ) → 2 ≤ x → x ≤ places → values x ≡ v x
-  pub all : IsTrue (all_true values list)
-
 -- what the frame of a number says of values: that of number 0 is `first`
 abbrev pub IsMetFrame : System → List (List (List Literal)) → ℕ → TotalAssignment → Type 0
 IsMetFrame system frames zero v = IsMet (places_of system) system.first v
@@ -68,6 +63,6 @@ pub record IsExcluded (system : System) (list : List (List Literal)) (frames : L
   pub negated : All (λ l. Contains assumptions (opposite l)) core
   pub follows : (v : TotalAssignment) → IsMetFrame system frames i v → IsMetBeside system list asked v → IsTrue (clause_value v core)
 
--- the search holds the lists of the system, these bad states and these frames, with the variables of each list apart
+-- the search holds what the lists of the system, these bad states and these frames say, with the variables of each list apart
 abbrev pub IsKept : System → List (List Literal) → List (List (List Literal)) → Guarded → Type 0
 IsKept system list frames g = IsHolding (apart_system system) (apart_list (places_of system) list) frames g

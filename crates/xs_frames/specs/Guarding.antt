@@ -21,6 +21,11 @@ pub record Meets (places : ℕ) (list : List (List Literal)) (v : TotalAssignmen
   pub agree : (x : ℕ) → x ≤ places → values x ≡ v x
   pub all : IsTrue (all_true values list)
 
+-- the two lists are met with the same values of the places
+pub record MeetAlike (places : ℕ) (old new : List (List Literal)) : Type 0 where
+  pub stays : (v : TotalAssignment) → Meets places old v → Meets places new v
+  pub back : (v : TotalAssignment) → Meets places new v → Meets places old v
+
 -- the highest variable of states and inputs
 abbrev pub places_of : System → ℕ
 places_of system = 2 * system.state_bits + system.input_bits + 1
@@ -145,21 +150,24 @@ guard_of g first = guard_at g 0
 guard_of g step = g.step.var
 guard_of g bad = g.bad.var
 
--- the lists that a search stands over
+-- the lists whose meaning a search holds
 abbrev pub lists_of : System → List (List Literal) → Listed → List (List Literal)
 lists_of system list first = system.first
 lists_of system list step = system.step
 lists_of system list bad = list
 
--- the search holds `first`, `step`, this list of bad states and these frames from number 1 on; that of number 0 is `first`
+-- the search holds lists that are met as `first`, `step` and this list of bad states are, and these frames from number 1 on;
+-- that of number 0 is `first`
 pub record IsHolding (system : System) (list : List (List Literal)) (frames : List (List (List Literal))) (g : Guarded) : Type 0 where
   pub well : IsWell g
   pub places : g.places ≡ places_of system
   pub count : length g.frames.items ≡ length frames
+  pub lists : Listed → List (List Literal)
+  pub alike : (which : Listed) → MeetAlike (places_of system) (lists_of system list which) (lists which)
   pub top : Listed → ℕ
   pub base : Listed → ℕ
   pub role : ℕ → Role
-  pub held : AreHeld (record { places = g.places; list = lists_of system list; frames = frames; guard = guard_of g; top = top; base = base; guard_at = guard_at g; role = role }) g.search.kept.vars (added_in g)
+  pub held : AreHeld (record { places = g.places; list = lists; frames = frames; guard = guard_of g; top = top; base = base; guard_at = guard_at g; role = role }) g.search.kept.vars (added_in g)
 
 -- the verdict is one on what the search holds, whatever that is
 abbrev pub Tells : Guarded → Beside → ℕ → List Literal → Verdict → Type 0

@@ -1,12 +1,17 @@
+//! A list as it goes into the search: made simpler, and with its own variables above the places.
+//!
 //! The variables 0 and 1 of a list are its own, as those above states and inputs are. Numbered apart from these places, they are
-//! renamed where the list goes into a search with others.
+//! renamed where the list goes into a search with others. [`simpler_apart`] is the main function: the search needs only what a list
+//! says of the places, so it gets a simpler one that says the same (`MeetAlike` of `specs/Guarding.antt`).
 ghost use Rattle.std.specs.Prelude.{◌≡◌, ◌<◌, ◌^◌, IfOk, All};
 ghost use Rattle.xs_frames.specs.Condition.{IsLow};
-ghost use Rattle.xs_frames.specs.Apart.{apart_literal, apart_clause, apart_list};
+ghost use Rattle.xs_frames.specs.Guarding.{MeetAlike};
+ghost use Rattle.xs_frames.specs.Apart.{apart_literal, apart_clause, apart_list, IsNear};
 
 use std::alloc::Global;
 use xs_lits::clause::{Clause, ClauseList};
 use xs_lits::lit::Lit;
+use xs_simplify::simplified;
 use xs_value::OutOfMemory;
 
 /// A literal with its variable apart from the places.
@@ -39,7 +44,7 @@ fn clause_apart(alloc: Global, places: u64, lits: &[Lit]) -> Result<Clause, OutO
 }
 
 /// A list with its variables apart from the places.
-pub fn list_apart(alloc: Global, places: u64, list: &[Clause]) -> Result<ClauseList, OutOfMemory>
+fn list_apart(alloc: Global, places: u64, list: &[Clause]) -> Result<ClauseList, OutOfMemory>
     requires places { places < 2 ^ 31 }
     requires low { All (All IsLow) list.now }
     ensures { IfOk result (λ l. l ≡ apart_list places list.now) }
@@ -49,4 +54,16 @@ pub fn list_apart(alloc: Global, places: u64, list: &[Clause]) -> Result<ClauseL
         apart.push(clause_apart(alloc, places, clause.lits())?)?;
     }
     Ok(apart)
+}
+
+/// A list that says the same of the places and is simpler, with its variables apart from the places.
+#[tactic(auto, using(crate::proofs::ApartLaws::simpler_near, crate::proofs::ApartLaws::simpler_alike))]
+pub fn simpler_apart(alloc: Global, places: u64, list: &[Clause]) -> Result<ClauseList, OutOfMemory>
+    requires places { places < 2 ^ 31 }
+    requires low { All (All IsLow) list.now }
+    ensures near { IfOk result (λ l. All (All IsNear) l) }
+    ensures alike { IfOk result (λ l. MeetAlike places (apart_list places list.now) l) }
+{
+    let simpler = simplified(alloc, places, list)?;
+    list_apart(alloc, places, simpler.as_slice())
 }

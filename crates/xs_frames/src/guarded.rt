@@ -1,8 +1,8 @@
 //! One search over the lists of a system and the clauses of frames, each under a guard of its own.
 //!
 //! A guard is a variable above those of states and inputs. The first states, the steps and the bad states that are
-//! asked about stand in the search as `guard of the list -> clause`, with their gates renamed, so that those of two
-//! lists never meet. A clause that holds in the frames up to a number is kept once, as `guard of that frame ->
+//! asked about are made simpler (`src/apart.rt`) and stand in the search as `guard of the list -> clause`, with their gates
+//! renamed, so that those of two lists never meet. A clause that holds in the frames up to a number is kept once, as `guard of that frame ->
 //! clause`, and each guard implies the next frame's: so under the guard of a frame just its clauses have to hold.
 //! The frame of number 0 is the list of the first states. Bad states and frames that are not asked about any more
 //! are retired: their guard is false from then on. What the search learns stays.
@@ -16,7 +16,7 @@ ghost use Rattle.xs_frames.specs.Roles.{renamed_literal, renamed_clause, under_l
 ghost use Rattle.xs_frames.specs.Guards.{unguarded};
 ghost use Rattle.xs_frames.specs.Guarding.{IsWell, IsHolding, IsGuardIn, HasRoomFor, IsEmpty, HasPut, HasWidened, HasNewBad, HasNewFrame, HasAsked, Tells, TakesBad, AddsBad, Puts, Grows, BeginsAgain, asked_guards};
 
-use crate::apart::list_apart;
+use crate::apart::simpler_apart;
 use crate::highest::highest;
 use std::alloc::Global;
 use xs_adviser::Panel;
@@ -128,8 +128,8 @@ impl Guarded {
         ensures { IfOk result (λ g. IsHolding (apart_system system.now) [] ([] ∷ []) g) }
     {
         let places = last_place(system);
-        let apart_first = list_apart(alloc, places, system.first.as_slice())?;
-        let apart_step = list_apart(alloc, places, system.step.as_slice())?;
+        let apart_first = simpler_apart(alloc, places, system.first.as_slice())?;
+        let apart_step = simpler_apart(alloc, places, system.step.as_slice())?;
         let first = highest(&apart_first).max(places) - places;
         let step = highest(&apart_step).max(places) - places;
         let mut held = Guarded::empty(alloc, places, places + 3 + first + step)?;
@@ -217,7 +217,7 @@ impl Guarded {
         ensures { OnOk result (TakesBad self.old self.new (apart_list self.old.places bad.now)) }
     {
         let alloc = *self.frames.allocator();
-        let apart_bad = list_apart(alloc, self.places, bad.as_slice())?;
+        let apart_bad = simpler_apart(alloc, self.places, bad.as_slice())?;
         self.renew_bad(panel)?;
         let base = self.vars;
         self.widen(highest(&apart_bad).max(self.places) - self.places, panel)?;

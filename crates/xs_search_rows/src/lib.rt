@@ -7,8 +7,8 @@
 //! by hand; what no clause says, as what an adviser suggests; and that nothing takes long.
 //!
 //! The modules from below: `clauses` has what the others share, clauses of plain numbers. Then come
-//! `literals`, `derivations`, `stores`, `circuits`, `words`, `advisers`, `choices`, `searches`, `lessons` and
-//! `frames`.
+//! `literals`, `derivations`, `stores`, `circuits`, `words`, `advisers`, `choices`, `searches`, `lessons`,
+//! `simpler` and `frames`.
 #![tactic(auto)]
 
 #[cfg(test)]
@@ -29,6 +29,8 @@ mod lessons;
 mod literals;
 #[cfg(test)]
 mod searches;
+#[cfg(test)]
+mod simpler;
 #[cfg(test)]
 mod stores;
 #[cfg(test)]

@@ -1,9 +1,10 @@
 -- Changes of a clause base, from those of its slots.
-use Rattle.std.proofs.Common.{◌≡◌, ℕ, ◌+◌, ◌<◌, ◌≤◌, List, [], ◌∷◌, ◌++◌, length, get_or, map, take, Some, refl, sym, ap, ◌∙◌, subst}
+use Rattle.std.proofs.Common.{◌≡◌, ℕ, ◌+◌, ◌<◌, ◌≤◌, List, [], ◌∷◌, ◌++◌, length, get_or, map, take, Some, All, refl, sym, ap, ◌∙◌, subst}
 use Rattle.std.proofs.lemmas.List.{append-nil, append_assoc, map_more, take_all}
 use Rattle.xs_lits.specs.Literal.{Literal, opposite}
+use Rattle.xs_lits.specs.Derivation.{IsUpTo}
 use Rattle.xs_lits.specs.Code.{code_of}
-use Rattle.xs_simplify.specs.Meeting.{IsOwn, AreMetAlike, HasNoNewVariable}
+use Rattle.xs_simplify.specs.Meeting.{IsOwn, AreMetAlike, HasNoHigherVariable}
 use Rattle.xs_simplify.specs.Slots.{Slot, AreNoted, IsSimpler, standing}
 use Rattle.xs_simplify.specs.Elimination.{resolvents}
 use Rattle.xs_simplify.specs.Changes.{slot_at, changed, dropped, shrunk, gathered, taken_out, resolvents_in, covered, entered}
@@ -12,7 +13,7 @@ use Rattle.xs_simplify.specs.Based.{IsSound, Becomes, Adds, AddsAll, TakesOut, A
 use Rattle.xs_simplify.specs.declared.base.Base.{Base}
 use Rattle.xs_simplify.proofs.SlotLaws.{noted_changed, dropped_lessens, shrunk_lessens, covered_lessens}
 use Rattle.xs_simplify.proofs.SimplerLaws.{simpler_itself, simpler_all, unit_law, subsumption_law, elimination_law}
-use Rattle.xs_simplify.proofs.ListLaws.{met_alike, no_new_variable}
+use Rattle.xs_simplify.proofs.ListLaws.{met_alike, no_higher_variable}
 
 -- a base is as simple as itself, and changes follow one another
 pub becomes_itself : (b : Base) → IsSound b → Becomes b b
@@ -92,12 +93,17 @@ is_entered places list a b cs e none is f = record { sound = f.sound; places = f
 entered_simpler : (places : ℕ) (list : List (List Literal)) (a b : Base) → IsEntered places list a → Becomes a b → IsSimpler places (map Some (entered list)) b.slots.items
 entered_simpler places list a b f g = subst (λ s. IsSimpler places s b.slots.items) f.slots (subst (λ n. IsSimpler n a.slots.items b.slots.items) f.places g.simpler)
 
--- from a list to the clauses that stand in what its base becomes
-pub simplified_same : (places : ℕ) (list : List (List Literal)) (a b : Base) → IsEntered places list a → Becomes a b → AreMetAlike places list (standing b.slots.items)
-simplified_same places list a b f g = met_alike places list b.slots.items (entered_simpler places list a b f g)
+-- from a list to the clauses that stand in what its base becomes, and to what is made of these
+pub simplified_same : (places : ℕ) (list left new : List (List Literal)) (a b : Base) → IsEntered places list a → Becomes a b → left ≡ standing b.slots.items → AreMetAlike places left new → AreMetAlike places list new
+simplified_same places list left new a b f g is same v =
+    let first = met_alike places list b.slots.items (entered_simpler places list a b f g) v in
+    let next = subst (λ s. AreMetAlike places s new) is same v in
+    (λ h. next.0 (first.0 h), λ h. first.1 (next.1 h))
 
-pub simplified_variables : (places : ℕ) (list : List (List Literal)) (a b : Base) → IsEntered places list a → Becomes a b → HasNoNewVariable list (standing b.slots.items)
-simplified_variables places list a b f g = no_new_variable places list b.slots.items (entered_simpler places list a b f g)
+pub simplified_low : (places : ℕ) (list left new : List (List Literal)) (a b : Base) → IsEntered places list a → Becomes a b → left ≡ standing b.slots.items → HasNoHigherVariable left new → HasNoHigherVariable list new
+simplified_low places list left new a b f g is low =
+    let first = no_higher_variable places list b.slots.items (entered_simpler places list a b f g) in
+    record { at = λ top up. low.at top (subst (All (All (IsUpTo top))) (sym is) (first.at top up)) }
 
 -- what is subsumed leaves all noted
 pub covered_noted : (occurrences : List (List ℕ)) (slots now : List Slot) (c : List Literal) (at : List ℕ) → now ≡ changed (covered c) slots at → AreNoted occurrences slots → AreNoted occurrences now

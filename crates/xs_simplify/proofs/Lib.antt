@@ -8,3 +8,5 @@ pub mod SlotSteps
 pub mod BaseLaws
 pub mod ListLaws
 pub mod EliminationLaw
+pub mod CompactMarks
+pub mod CompactLaws

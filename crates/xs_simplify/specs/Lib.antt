@@ -5,3 +5,4 @@ pub mod Slots
 pub mod Changes
 pub mod Occurring
 pub mod Based
+pub mod Compacting

@@ -1,6 +1,7 @@
 -- What a list of clauses says of its places, and when another list says the same.
-use Rattle.std.specs.Prelude.{◌≡◌, ℕ, ◌≤◌, ◌<◌, ◌↔◌, ◌⊎◌, List, IsTrue, Contains}
+use Rattle.std.specs.Prelude.{◌≡◌, ℕ, ◌≤◌, ◌<◌, ◌↔◌, ◌⊎◌, List, IsTrue, All}
 use Rattle.xs_lits.specs.Literal.{Literal}
+use Rattle.xs_lits.specs.Derivation.{IsUpTo}
 use Rattle.xs_lits.specs.Models.{TotalAssignment, all_true}
 
 -- a list whose variables other than its places are its own: some values that agree on the places make it true
@@ -13,18 +14,10 @@ pub record IsMet (places : ℕ) (list : List (List Literal)) (v : TotalAssignmen
 abbrev pub IsOwn : ℕ → ℕ → Type 0
 IsOwn places x = (x < 2) ⊎ (places < x)
 
--- the variable stands in the list
-pub record IsVariableOf (list : List (List Literal)) (x : ℕ) : Type 0 where
-  pub clause : List Literal
-  pub literal : Literal
-  pub listed : Contains list clause
-  pub has : Contains clause literal
-  pub is : literal.var ≡ x
-
 -- the two lists can be made true with the same values of the places
 abbrev pub AreMetAlike : ℕ → List (List Literal) → List (List Literal) → Type 0
 AreMetAlike places old new = (v : TotalAssignment) → IsMet places old v ↔ IsMet places new v
 
--- each variable of the new list is one of the old list
-abbrev pub HasNoNewVariable : List (List Literal) → List (List Literal) → Type 0
-HasNoNewVariable old new = (x : ℕ) → IsVariableOf new x → IsVariableOf old x
+-- where each variable of the old list is at most so high, so is each of the new list
+pub record HasNoHigherVariable (old new : List (List Literal)) : Type 0 where
+  pub at : (top : ℕ) → All (All (IsUpTo top)) old → All (All (IsUpTo top)) new

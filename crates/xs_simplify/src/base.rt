@@ -11,7 +11,7 @@ ghost use Rattle.xs_simplify.specs.Based.{IsSound, Becomes, Adds, AddsAll, Takes
 
 use crate::occurrences::Occurrences;
 use crate::resolving::resolve_all;
-use crate::slots::{cover_each, drop_each, gather, shrink_each, slot_covered};
+use crate::slots::{count_each, cover_each, drop_each, gather, shrink_each, slot_covered};
 use std::alloc::Global;
 use xs_lits::clause::{Clause, ClauseList};
 use xs_lits::lit::Lit;
@@ -53,11 +53,19 @@ impl Base {
         }
     }
 
-    // Whether the variable is no place.
-    fn is_own(&self, var: u64) -> bool
+    /// Whether the variable is no place.
+    pub fn is_own(&self, var: u64) -> bool
         ensures { IsTrue result ↔ IsOwn self.now.places var }
     {
         var < 2 || self.places < var
+    }
+
+    /// How many clauses have the variable of a literal.
+    pub fn uses(&self, lit: Lit) -> usize {
+        let opposite = lit.neg();
+        let with = count_each(&self.slots, self.occurrences.at(lit), lit);
+        let against = count_each(&self.slots, self.occurrences.at(opposite), opposite);
+        with.saturating_add(against)
     }
 
     /// Appends a clause.

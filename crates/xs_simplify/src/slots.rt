@@ -22,6 +22,17 @@ fn slot_has(slot: &Option<Clause>, lit: Lit) -> bool
     }
 }
 
+/// How many of these places have a clause with the literal.
+pub fn count_each(slots: &[Option<Clause>], at: &[usize], lit: Lit) -> usize {
+    let mut count: usize = 0;
+    for i in at {
+        if *i < slots.len() && slot_has(&slots[*i], lit) {
+            count = count.saturating_add(1);
+        }
+    }
+    count
+}
+
 // Takes the clause of a place out if it has the literal.
 #[tactic(auto, using(crate::proofs::SlotSteps::changed_past, crate::proofs::SlotSteps::changed_same, crate::proofs::SlotSteps::changed_to, crate::proofs::SlotSteps::dropped_has, crate::proofs::SlotSteps::dropped_lacks))]
 fn drop_at(slots: &mut Vec<Option<Clause>>, i: usize, lit: Lit)

@@ -1,8 +1,7 @@
-use Rattle.std.proofs.Common.{◌≡◌, ◌≤◌, ◌+◌, ◌-◌, ◌∙◌, ◌∷◌, [], ℕ, All, refl, sym, subst, ap, arith}
+use Rattle.std.proofs.Common.{◌≡◌, ◌≤◌, ◌+◌, ◌-◌, ◌∙◌, List, ℕ, All, refl, sym, subst, ap, arith}
 use Rattle.xs_lits.specs.declared.system.System.{System}
-use Rattle.xs_frames.specs.Apart.{apart_list, IsNear}
-use Rattle.xs_frames.specs.Guarding.{IsHolding, HasRoomFor}
-use Rattle.xs_frames.proofs.ApartLaws.{apart_is, near_list}
+use Rattle.xs_frames.specs.Apart.{apart_list, apart_system}
+use Rattle.xs_frames.specs.Guarding.{places_of, MeetAlike, HasRoomFor}
 use Rattle.xs_lits.specs.Literal.{Literal}
 use Rattle.xs_frames.proofs.AnswerLemmas.{lists_raised}
 use Rattle.xs_frames.proofs.GuardedLaws.{made_from, all_room}
@@ -15,29 +14,32 @@ returns c =
     let more : p ≤ c.max.result = grind arith in
     let reach_step : c.highest-2.result ≤ c.max-2.result = grind arith in
     let more_step : p ≤ c.max-2.result = grind arith in
-    let lists : System = record c.args.system.now { first = c.in_ok-apart_first.apart_first; step = c.in_ok-apart_step.apart_step } in
-    let first_is : c.in_ok-apart_first.apart_first ≡ apart_list p c.args.system.now.first = c.in_ok-apart_first.ensures ∙ ap (apart_list p) c.as_slice.ensures in
-    let step_is : c.in_ok-apart_step.apart_step ≡ apart_list p c.args.system.now.step = c.in_ok-apart_step.ensures ∙ ap (apart_list p) c.as_slice-2.ensures in
-    subst (λ (s : System). IsHolding s [] ([] ∷ []) c.fill-2.new.self) (apart_is c.args.system.now p c.in_ok-apart_first.apart_first c.in_ok-apart_step.apart_step c.last_place-places.ensures.value first_is step_is)
-    (made_from lists c.in_ok-held.held c.fill.new.self c.fill-2.new.self p (c.max.result - p) (c.max-2.result - p) c.new.result.var c.new-2.result.var c.last_place-places.ensures.value c.in_ok-held.ensures
+    let system = c.args.system.now in
+    let first_alike : MeetAlike p (apart_system system).first c.in_ok-apart_first.apart_first = alike p system system.first c.as_slice.result.now c.in_ok-apart_first.apart_first c.last_place-places.ensures.value c.as_slice.ensures c.in_ok-apart_first.ensures.alike in
+    let step_alike : MeetAlike p (apart_system system).step c.in_ok-apart_step.apart_step = alike p system system.step c.as_slice-2.result.now c.in_ok-apart_step.apart_step c.last_place-places.ensures.value c.as_slice-2.ensures c.in_ok-apart_step.ensures.alike in
+    made_from (apart_system system) c.in_ok-apart_first.apart_first c.in_ok-apart_step.apart_step c.in_ok-held.held c.fill.new.self c.fill-2.new.self p (c.max.result - p) (c.max-2.result - p) c.new.result.var c.new-2.result.var
+    c.last_place-places.ensures.value first_alike step_alike c.in_ok-held.ensures
     (lists_raised c.highest.result (p + (c.max.result - p)) c.in_ok-apart_first.apart_first (fits c.highest.result c.max.result p reach more) c.highest.ensures.up_to)
     (lists_raised c.highest-2.result (p + (c.max-2.result - p)) c.in_ok-apart_step.apart_step (fits c.highest-2.result c.max-2.result p reach_step more_step) c.highest-2.ensures.up_to)
-    (ap (λ (l : Literal). l.var) c.new.ensures) (ap (λ (l : Literal). l.var) c.new-2.ensures) c.in_ok-fill.ensures c.in_ok-fill-2.ensures)
+    (ap (λ (l : Literal). l.var) c.new.ensures) (ap (λ (l : Literal). l.var) c.new-2.ensures) c.in_ok-fill.ensures c.in_ok-fill-2.ensures
   where
+    alike : (p : ℕ) (system : System) (list now new : List (List Literal)) → p ≡ places_of system → now ≡ list → MeetAlike p (apart_list p now) new → MeetAlike p (apart_list (places_of system) list) new
+    alike p system list now new e f h = subst (λ (n : ℕ). MeetAlike p (apart_list n list) new) e (subst (λ (ls : List (List Literal)). MeetAlike p (apart_list p ls) new) f h)
+
     fits : (h m p : ℕ) → h ≤ m → p ≤ m → h ≤ p + (m - p)
     fits h m p a b = omega (arith, a, b)
 
 pub highest-requires : goal.highest-requires
-highest-requires c = subst (All (All IsNear)) (sym (c.in_ok-apart_first.ensures ∙ ap (apart_list c.last_place-places.result) c.as_slice.ensures)) (near_list c.last_place-places.result c.args.system.now.first c.last_place-places.ensures.low (λ k d lt j l in_clause. (c.requires.first k d lt j l in_clause).0))
+highest-requires c = c.in_ok-apart_first.ensures.near
 
 pub highest-requires-2 : goal.highest-requires-2
-highest-requires-2 c = subst (All (All IsNear)) (sym (c.in_ok-apart_step.ensures ∙ ap (apart_list c.last_place-places.result) c.as_slice-2.ensures)) (near_list c.last_place-places.result c.args.system.now.step c.last_place-places.ensures.low c.requires.step)
+highest-requires-2 c = c.in_ok-apart_step.ensures.near
 
 pub fill-requires-clause-low : goal.fill-requires-clause-low
-fill-requires-clause-low c = subst (All (All IsNear)) (sym (c.in_ok-apart_first.ensures ∙ ap (apart_list c.last_place-places.result) c.as_slice.ensures)) (near_list c.last_place-places.result c.args.system.now.first c.last_place-places.ensures.low (λ k d lt j l in_clause. (c.requires.first k d lt j l in_clause).0))
+fill-requires-clause-low c = c.in_ok-apart_first.ensures.near
 
 pub fill-requires-2-clause-low : goal.fill-requires-2-clause-low
-fill-requires-2-clause-low c = subst (All (All IsNear)) (sym (c.in_ok-apart_step.ensures ∙ ap (apart_list c.last_place-places.result) c.as_slice-2.ensures)) (near_list c.last_place-places.result c.args.system.now.step c.last_place-places.ensures.low c.requires.step)
+fill-requires-2-clause-low c = c.in_ok-apart_step.ensures.near
 
 sum : (h m p : ℕ) → h ≤ m → p ≤ m → h ≤ p + (m - p)
 sum h m p a b = omega (arith, a, b)

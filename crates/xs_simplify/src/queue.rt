@@ -1,0 +1,66 @@
+//! A queue of variables in which those with the fewest clauses come first.
+//!
+//! To eliminate such a variable costs the least and leaves the shortest resolvents. No proof depends on the order.
+use std::alloc::Global;
+use xs_lits::lit::Lit;
+use xs_value::OutOfMemory;
+
+/// From how many clauses on variables are no longer told apart.
+pub const MANY: usize = 64;
+
+/// How often a variable is put into a queue.
+pub const TRIES: u8 = 8;
+
+/// Variables, as their literals, by the number of their clauses.
+#[derive(Drop)]
+pub struct Queue {
+    buckets: Vec<Vec<Lit>>,
+    /// How often each variable was put in.
+    tries: Vec<u8>,
+}
+
+impl Queue {
+    /// The empty queue for variables below a number.
+    pub fn new(alloc: Global, variables: u64) -> Result<Queue, OutOfMemory> {
+        let mut buckets = Vec::new(alloc);
+        for _ in 0..MANY {
+            buckets.push(Vec::new(alloc))?;
+        }
+        let mut tries = Vec::new(alloc);
+        for _ in 0..variables {
+            tries.push(0)?;
+        }
+        Ok(Queue { buckets, tries })
+    }
+
+    // Counts that a variable is put in; answers whether it may be.
+    fn may_put(&mut self, var: usize) -> bool {
+        if var >= self.tries.len() || self.tries[var] >= TRIES {
+            return false;
+        }
+        self.tries[var] += 1;
+        true
+    }
+
+    /// Puts a variable in that has so many clauses, unless it was too often or there are none.
+    pub fn put(&mut self, lit: Lit, count: usize) -> Result<(), OutOfMemory> {
+        if count == 0 || !self.may_put(lit.var() as usize) {
+            return Ok(());
+        }
+        let at = count.min(MANY) - 1;
+        if at < self.buckets.len() {
+            self.buckets[at].push(lit)?;
+        }
+        Ok(())
+    }
+
+    /// Takes a variable out that has the fewest clauses.
+    pub fn pop(&mut self) -> Option<Lit> {
+        for at in 0..self.buckets.len() {
+            if let Some(lit) = self.buckets[at].pop() {
+                return Some(lit);
+            }
+        }
+        None
+    }
+}
