@@ -13,6 +13,11 @@ use Rattle.xs_type_laws.specs.Models.{IsTyped}
 use Rattle.xs_weave.specs.Faults.{Fault}
 use Rattle.xs_text_laws.specs.AnalysisText.{size_line}
 use Rattle.xs_text_laws.specs.Analysis.{told_ending}
+use Rattle.xs_cut_laws.specs.Problem.{problem_of}
+use Rattle.xs_cuts.specs.Answer.{IsEnd}
+use Rattle.xs_cuts.specs.declared.answer.End.{End}
+use Rattle.xs_cuts.specs.declared.answer.End.TheVariants.{Complete, Bounded}
+use Rattle.xs_report_laws.specs.Answered.{ending_of}
 use Rattle.xs_certificate_laws.specs.Certificate.{Certificate}
 use Rattle.xs_cause_laws.specs.Causes.{CommonCause}
 use Rattle.xs_cause_laws.specs.Staged.{with_causes, events_of}
@@ -23,11 +28,11 @@ use Rattle.xs_causes_reader.specs.declared.fault.CauseFault.TheVariants as cause
 use Rattle.xs_causes_reader.specs.Broken.{rule_of}
 use Rattle.xs_causes_reader.specs.Read.{AreRead, FaultSays}
 use Rattle.xs_loading.specs.declared.loaded.LoadedCase.{LoadedCase}
-use Rattle.xs_loading.specs.declared.status.InputFault.{InputFault as SharedFault}
-use Rattle.xs_loading.specs.declared.status.Refusal.{Refusal as SharedRefusal}
-use Rattle.xs_loading.specs.declared.status.Refusal.TheVariants as shared_refusal
-use Rattle.xs_loading.specs.declared.input.Stop.{Stop as SharedStop}
-use Rattle.xs_loading.specs.declared.input.Stop.TheVariants as shared_stop
+use Rattle.xs_loading.specs.declared.status.InputFault.{InputFault}
+use Rattle.xs_loading.specs.declared.status.Refusal.{Refusal}
+use Rattle.xs_loading.specs.declared.status.Refusal.TheVariants as refusal
+use Rattle.xs_loading.specs.declared.input.Stop.{Stop}
+use Rattle.xs_loading.specs.declared.input.Stop.TheVariants as stop
 use Rattle.xs_loading.specs.declared.wrong.Wrong.{Wrong}
 use Rattle.xs_loading.specs.declared.wrong.Wrong.TheVariants as wrong
 use Rattle.xs_loading.specs.Wrongs.{parse_wrong, IfRefused}
@@ -41,18 +46,13 @@ use Rattle.xs_loading.specs.Answered.{told_maybe, Told, Said}
 use Rattle.xs_certificate_file.specs.CertificateFiles.{RefusesCertificate, HoldsCertificate}
 use Rattle.xs_loading.proofs.SaidLaws.{says_in_part}
 use Rattle.xs_case_search.proofs.CaseKinds.{case_kinds, size_told}
-use Rattle.xs_reach_status.specs.declared.status.InputFault.{InputFault}
-use Rattle.xs_reach_status.specs.declared.status.Refusal.{Refusal}
-use Rattle.xs_reach_status.specs.declared.status.Refusal.TheVariants as refusal
-use Rattle.xs_reach_status.specs.declared.status.Status.{Status}
-use Rattle.xs_reach_status.specs.declared.stop.Stop.{Stop}
-use Rattle.xs_reach_status.specs.declared.stop.Stop.TheVariants as stop
-use Rattle.xs_reach_status.specs.Statuses.{stop_of}
-use Rattle.xs_reach_status.specs.Finished.{ended_with}
+use Rattle.xs_loading.specs.declared.status.Status.{Status}
+use Rattle.xs_loading.specs.declared.status.Status.TheVariants as status
+use Rattle.xs_loading.specs.Statuses.{ended_with, IsBoundedAt}
 use Rattle.xs_find_causes.specs.declared.staged.StagedEvent.{StagedEvent}
 use Rattle.xs_certificate_file.specs.declared.conclusion.Conclusion.{Conclusion}
 use Rattle.xs_certificate_file.specs.Conclusions.{ConcludesInPart}
-use Rattle.xs_find_causes.specs.Causes.{shared_fault, stop_at_causes, flat_in, modes_in, faults_in, extension_in, AreCausesOf, HoldsCauses, HasCauses, IsStagedOf, causes_in, staged_in, events_in, IsStagedEvent, CertifiesStaged, AcceptsStaged, HoldsStaged, AcceptsCauses, HasCheckedCauses, ChecksCausesInPart, LeavesCheck, IsCausesFinding, FindsCauses, HasFoundCauses, FindsCausesInPart, LeavesCauses, IsSomeCase}
+use Rattle.xs_find_causes.specs.Causes.{stop_at_causes, flat_in, modes_in, faults_in, extension_in, AreCausesOf, HoldsCauses, HasCauses, IsStagedOf, causes_in, staged_in, events_in, IsStagedEvent, CertifiesStaged, AcceptsStaged, HoldsStaged, AcceptsCauses, HasCheckedCauses, ChecksCausesInPart, LeavesCheck, IsCausesFinding, FindsCauses, HasFoundCauses, FindsCausesInPart, LeavesCauses, IsSomeCase}
 use Rattle.xs_find_causes.specs.Refusals.{broken_cause, stop_of_causes, IsRefusedCausesFile, KeepsLimits, BreaksStaged, whole_breaks, model_breaks, not_spelled, rule_broken, past_limit, RefusesBytes, RefusesCauses, causes_file, causes_bytes, RefusesStaged, at_model, at_faults, at_causes, at_top, BreaksLine, RefusesJudged, no_certificate, not_accepted, RefusesCauseCheck, at_staged, at_certificate}
 
 -- ---- why the work can't go on
@@ -60,10 +60,6 @@ use Rattle.xs_find_causes.specs.Refusals.{broken_cause, stop_of_causes, IsRefuse
 -- a stop at the one refusal is a stop at no other
 pub one_refusal : {x r : Refusal} → stop.Refused r ≡ stop.Refused x → r ≡ x
 one_refusal e = cc
-
--- a refusal of other verbs, taken over
-pub shared_refused : (s : SharedStop) (t : Stop) (r : Refusal) {x : SharedRefusal} → stop.Refused r ≡ t → t ≡ stop_of s → s ≡ shared_stop.Refused x → r ≡ refusal.Shared x
-shared_refused s t r {x} e told is = let all : stop.Refused r ≡ stop.Refused (refusal.Shared x) = e ∙ told ∙ ap stop_of is in one_refusal all
 
 -- what was said whole, or up to a failure, is a part of the text
 pub says_part : {A E : Type 0} (done : Result A E) (before mid now : Said) (bytes text : List ℕ) → mid ≡ before → bytes ≡ text → OnOk done (now ≡ said_more mid bytes) → OnErr done (SaysPrefix mid now bytes) →
@@ -82,9 +78,9 @@ no_desk_of_causes cause_fault.OutOfMemory e = cc
 
 -- something that may be wrong with other files too is refused
 record IsTold (w : Wrong) (r : Refusal) : Type 0 where
-  fault : SharedFault
+  fault : InputFault
   is : wrong.Refused fault ≡ w
-  told : r ≡ refusal.Causes (shared_fault fault)
+  told : r ≡ refusal.Causes fault
 
 told_at_causes : (w : Wrong) (r : Refusal) → stop.Refused r ≡ stop_at_causes w → IsTold w r
 told_at_causes (wrong.Refused fault) r e = record { fault = fault; is = refl; told = one_refusal e }
@@ -95,13 +91,13 @@ told_at_causes wrong.Memory r e = cc
 module _ (faults : List Fault) (w : ProgramTree) (m : FlatModel) (fs : List Mode) where
   pub refuses_bytes : (bytes : List ℕ) (f : CauseFault) (r : Refusal) → stop.Refused r ≡ stop_of_causes f → FaultSays faults w bytes f → RefusesBytes faults w m fs bytes r
   refuses_bytes bytes (cause_fault.Parse f) r e says =
-      let is = told_at_causes (parse_wrong f) r e in (shared_fault is.fault, is.told, not_spelled f is.fault says is.is refl)
+      let is = told_at_causes (parse_wrong f) r e in (is.fault, is.told, not_spelled f is.fault says is.is refl)
   refuses_bytes bytes (cause_fault.Broken rule number) r e says = (broken_cause (rule_of rule) number, one_refusal e, rule_broken (rule_of rule) number says refl)
   refuses_bytes bytes cause_fault.OutOfMemory r e says = cc
 
   pub refuses_limit : (bytes : List ℕ) (cs : List CommonCause) → AreRead faults w bytes cs → (wr : Wrong) (r : Refusal) → stop.Refused r ≡ stop_at_causes wr → IfRefused (BreaksStaged m fs cs) wr →
       RefusesBytes faults w m fs bytes r
-  refuses_limit bytes cs are (wrong.Refused fault) r e bad = (shared_fault fault, one_refusal e, past_limit cs fault are bad refl)
+  refuses_limit bytes cs are (wrong.Refused fault) r e bad = (fault, one_refusal e, past_limit cs fault are bad refl)
   refuses_limit bytes cs are wrong.Memory r e bad = cc
 
   pub file_refused : (told : Option (List NamedFile)) (name : Text) (r : Refusal) →
@@ -159,18 +155,18 @@ keeps_limits case cs n whole es is =
 -- ---- what the three files and the word come to
 
 module _ (model faults causes top : Text) where
-  pub staged_no_model : (told : Option (List NamedFile)) (r : Refusal) (s : SharedRefusal) → r ≡ refusal.Shared s → IfSome told (λ files. RefusesModel files model s) →
+  pub staged_no_model : (told : Option (List NamedFile)) (r : Refusal) → IfSome told (λ files. RefusesModel files model r) →
       IfSome told (λ files. RefusesStaged files model faults causes top r)
-  staged_no_model None r s e bad = tt
-  staged_no_model (Some files) r s e bad = at_model s e bad
+  staged_no_model None r bad = tt
+  staged_no_model (Some files) r bad = at_model bad
 
-  pub staged_no_faults : (told mid : Option (List NamedFile)) (p : ProgramTree) (r : Refusal) (s : SharedRefusal) → r ≡ refusal.Shared s → mid ≡ told → IfSome told (λ files. HoldsModel files model p) →
-      IfSome mid (λ files. RefusesFaults files faults p s) → IfSome told (λ files. RefusesStaged files model faults causes top r)
-  staged_no_faults told mid p r s e same holds bad = at_told told holds (subst (λ t. IfSome t (λ files. RefusesFaults files faults p s)) same bad) where
-    at_told : (t : Option (List NamedFile)) → IfSome t (λ files. HoldsModel files model p) → IfSome t (λ files. RefusesFaults files faults p s) →
+  pub staged_no_faults : (told mid : Option (List NamedFile)) (p : ProgramTree) (r : Refusal) → mid ≡ told → IfSome told (λ files. HoldsModel files model p) →
+      IfSome mid (λ files. RefusesFaults files faults p r) → IfSome told (λ files. RefusesStaged files model faults causes top r)
+  staged_no_faults told mid p r same holds bad = at_told told holds (subst (λ t. IfSome t (λ files. RefusesFaults files faults p r)) same bad) where
+    at_told : (t : Option (List NamedFile)) → IfSome t (λ files. HoldsModel files model p) → IfSome t (λ files. RefusesFaults files faults p r) →
         IfSome t (λ files. RefusesStaged files model faults causes top r)
     at_told None holds bad = tt
-    at_told (Some files) holds bad = at_faults p s e holds bad
+    at_told (Some files) holds bad = at_faults p holds bad
 
   pub staged_no_causes : (told mid : Option (List NamedFile)) (p : ProgramTree) (l : LoadedCase) (r : Refusal) → IsLoaded p l → mid ≡ told → IfSome told (λ files. HoldsCase files model faults (case_of p l)) →
       IfSome mid (λ files. RefusesCauses files causes (faults_in l) (extension_in l) (flat_in l) (modes_in l) r) → IfSome told (λ files. RefusesStaged files model faults causes top r)
@@ -184,11 +180,11 @@ module _ (model faults causes top : Text) where
       at_told None holds bad = tt
       at_told (Some files) holds bad = at_causes (case_of p l) holds bad
 
-  pub staged_no_top : (told : Option (List NamedFile)) (c : Case) (cs : List CommonCause) (r : Refusal) (s : SharedRefusal) → r ≡ refusal.Shared s → IfSome told (λ files. HoldsCase files model faults c) →
-      IfSome told (λ files. HasCauses files causes c cs) → KeepsLimits c.flat c.modes cs → (fault : SharedFault) × (s ≡ shared_refusal.Top fault) × IsWrongWord c.program top fault →
+  pub staged_no_top : (told : Option (List NamedFile)) (c : Case) (cs : List CommonCause) (r : Refusal) → IfSome told (λ files. HoldsCase files model faults c) →
+      IfSome told (λ files. HasCauses files causes c cs) → KeepsLimits c.flat c.modes cs → (fault : InputFault) × (r ≡ refusal.Top fault) × IsWrongWord c.program top fault →
       IfSome told (λ files. RefusesStaged files model faults causes top r)
-  staged_no_top None c cs r s e holds has keeps bad = tt
-  staged_no_top (Some files) c cs r s e holds has keeps bad = at_top c cs bad.0 (e ∙ ap (λ t. refusal.Shared t) bad.1) holds has keeps bad.2
+  staged_no_top None c cs r holds has keeps bad = tt
+  staged_no_top (Some files) c cs r holds has keeps bad = at_top c cs bad.0 bad.1 holds has keeps bad.2
 
   -- what is told of a case is told of the files that hold it
   pub staged_no_rest : (told mid : Option (List NamedFile)) (c : Case) (r : Refusal) → mid ≡ told → IfSome told (λ files. HoldsCase files model faults c) →
@@ -282,14 +278,14 @@ module _ (model faults causes top : Text) where
 
 -- the certificate of a file, judged over what was loaded
 module _ (l : StagedEvent) (name : Text) (told : Option (List NamedFile)) where
-  pub no_file : (r : Refusal) (s : SharedRefusal) → r ≡ refusal.Shared s → IfSome told (λ files. RefusesCertificate files name s) →
+  pub no_file : (r : Refusal) → IfSome told (λ files. RefusesCertificate files name r) →
       IfSome told (λ files. RefusesJudged files (staged_in l) (events_in l) (flat_tree l.loaded.top) name r)
-  no_file r s e bad = at_told told bad
+  no_file r bad = at_told told bad
     where
-      at_told : (t : Option (List NamedFile)) → IfSome t (λ files. RefusesCertificate files name s) →
+      at_told : (t : Option (List NamedFile)) → IfSome t (λ files. RefusesCertificate files name r) →
           IfSome t (λ files. RefusesJudged files (staged_in l) (events_in l) (flat_tree l.loaded.top) name r)
       at_told None bad = tt
-      at_told (Some files) bad = no_certificate s e bad
+      at_told (Some files) bad = no_certificate bad
 
   module _ (a : Certificate) (has : IfSome told (λ files. HoldsCertificate files name a)) where
     pub line_refused : (r : Refusal) → BreaksLine (staged_in l) (events_in l) (flat_tree l.loaded.top) a r →
@@ -307,3 +303,17 @@ module _ (l : StagedEvent) (name : Text) (told : Option (List NamedFile)) where
         at_told : (t : Option (List NamedFile)) → IfSome t (λ files. HoldsCertificate files name a) → IfSome t (λ files. AcceptsStaged files l name report)
         at_told None has = tt
         at_told (Some files) has = record { certificate = a; has_certificate = has; certifies = certifies; is = line }
+
+-- a search is bounded by its depth alone
+pub found_within : (l : StagedEvent) (depth : ℕ) (f : Conclusion) → IsCausesFinding l depth f → IsBoundedAt depth (ended_with (told_ending f.ending))
+found_within l depth f h k is = by_end h.analysis.end h.searched.answer.ends (sym (ap ended_with h.ends) ∙ is)
+  where
+    none : status.Done ≡ status.Bounded k → k ≡ depth
+    none e = cc
+
+    same : (j : ℕ) → status.Bounded j ≡ status.Bounded k → k ≡ j
+    same j e = cc
+
+    by_end : (end : End) → IsEnd (problem_of (staged_in l) (events_in l) (flat_tree l.loaded.top)) depth (length (events_in l)) h.searched.answer.found end → ended_with (ending_of end) ≡ status.Bounded k → k ≡ depth
+    by_end (Complete clauses) ends e = none e
+    by_end (Bounded j) ends e = same j e ∙ ends.0

@@ -22,9 +22,9 @@ use Rattle.xs_cause_laws.specs.Staged.{with_causes, events_of}
 use Rattle.xs_causes_reader.specs.CausesRead.{IsCauses}
 use Rattle.xs_causes_reader.specs.Read.{AreRead}
 use Rattle.xs_causes_reader.proofs.OneReading.{one_reading, one_broken, read_unbroken}
-use Rattle.xs_loading.specs.declared.status.InputFault.{InputFault as SharedFault}
+use Rattle.xs_loading.specs.declared.status.InputFault.{InputFault}
 use Rattle.xs_loading.specs.declared.status.Objection.TheVariants as objection
-use Rattle.xs_loading.specs.declared.status.Refusal.TheVariants as shared_refusal
+use Rattle.xs_loading.specs.declared.status.Refusal.TheVariants as refusal
 use Rattle.xs_loading.specs.Inputs.{RefusesFaults}
 use Rattle.xs_loading.specs.Cases.{Case, extension_of, HoldsCase, IsTopWord, IsWrongWord}
 use Rattle.xs_loading.specs.Tasks.{IsRefusedAbove, HasAtMost, IsTopTree}
@@ -39,25 +39,23 @@ use Rattle.xs_loading.proofs.OneCase.{case_not_refused, one_case}
 use Rattle.xs_loading.proofs.OneTop.{one_wrong_word, word_not_wrong}
 use Rattle.xs_loading.proofs.FilesWithin.{no_bytes_within, one_fault_above, same_bytes_within}
 use Rattle.xs_certificate_file.proofs.OneCertificate.{one_refused_certificate, held_certificate_not_refused, one_held_certificate, moved}
-use Rattle.xs_reach_status.specs.declared.status.InputFault.{InputFault}
-use Rattle.xs_reach_status.specs.declared.status.Refusal.{Refusal}
-use Rattle.xs_reach_status.specs.declared.status.Refusal.TheVariants as refusal
+use Rattle.xs_loading.specs.declared.status.Refusal.{Refusal}
 use Rattle.xs_find_causes.specs.declared.staged.StagedEvent.{StagedEvent}
-use Rattle.xs_find_causes.specs.Causes.{shared_fault, HoldsCauses, HasCauses, causes_in, staged_in, events_in, BreaksNoLine, HoldsStaged, AcceptsCauses}
-use Rattle.xs_find_causes.specs.Refusals.{broken_cause, IsRefusedCausesFile, KeepsLimits, BreaksStaged, whole_breaks, model_breaks, IsWrongCauses, not_spelled, rule_broken, past_limit, RefusesBytes, RefusesCauses, causes_file, causes_bytes, RefusesStaged, at_model, at_faults, at_causes, at_top, BreaksLine, at_line, RefusesJudged, no_certificate, not_accepted, RefusesCauseCheck, at_staged, at_certificate}
+use Rattle.xs_find_causes.specs.Causes.{HoldsCauses, HasCauses, causes_in, staged_in, events_in, BreaksNoLine, HoldsStaged, AcceptsCauses}
+use Rattle.xs_find_causes.specs.Refusals.{broken_cause, IsRefusedCausesFile, KeepsLimits, BreaksStaged, whole_breaks, model_breaks, IsWrongCauses, not_spelled, rule_broken, past_limit, RefusesBytes, RefusesCauses, causes_file, causes_bytes, RefusesStaged, at_model, at_faults, at_causes, at_top, HoldsCaused, BreaksLine, at_line, RefusesJudged, no_certificate, not_accepted, RefusesCauseCheck, at_staged, at_certificate}
 use Rattle.xs_find_causes.proofs.CausesLaws.{keeps_limits}
 
 -- ---- the limits of a staged model
 
 module _ (m : FlatModel) (fs : List Mode) (cs : List CommonCause) where
-  one_limit : (a b : SharedFault) → BreaksStaged m fs cs a → BreaksStaged m fs cs b → a ≡ b
+  one_limit : (a b : InputFault) → BreaksStaged m fs cs a → BreaksStaged m fs cs b → a ≡ b
   one_limit a b h g = told a h ∙ sym (told b g)
     where
-      told : (fault : SharedFault) → BreaksStaged m fs cs fault → fault ≡ kinds_fault too_large 0
+      told : (fault : InputFault) → BreaksStaged m fs cs fault → fault ≡ kinds_fault too_large 0
       told fault (whole_breaks passes is) = is
       told fault (model_breaks typed passes is) = is
 
-  kept_breaks_none : (a : SharedFault) → KeepsLimits m fs cs → BreaksStaged m fs cs a → ⊥
+  kept_breaks_none : (a : InputFault) → KeepsLimits m fs cs → BreaksStaged m fs cs a → ⊥
   kept_breaks_none a kept (whole_breaks passes is) = typed_has_none (with_history (with_causes m fs cs) (events_of m fs cs)) too_large 0 kept.whole passes
   kept_breaks_none a kept (model_breaks typed passes is) = typed_has_none (with_causes m fs cs) too_large 0 kept.typed passes
 
@@ -67,7 +65,7 @@ module _ (faults : List Fault) (w : ProgramTree) (m : FlatModel) (fs : List Mode
   one_wrong : (a b : InputFault) → IsWrongCauses faults w m fs bytes a → IsWrongCauses faults w m fs bytes b → a ≡ b
   one_wrong a b (not_spelled f x means e is) (not_spelled g y also d was) =
       is
-      ∙ ap shared_fault (one_refusal (same_reason IsCauses ⊥ bytes (λ deep. absurd deep) (reason IsCauses ⊥ bytes f x e means) (reason IsCauses ⊥ bytes g y d also)))
+      ∙ (one_refusal (same_reason IsCauses ⊥ bytes (λ deep. absurd deep) (reason IsCauses ⊥ bytes f x e means) (reason IsCauses ⊥ bytes g y d also)))
       ∙ sym was
   one_wrong a b (not_spelled f x means e is) (rule_broken q k broken was) =
       absurd (of_this_kind IsCauses ⊥ bytes broken.spelled.0 broken.spelled.1 (broken.written, broken.spelled.2) (λ deep. deep) (reason IsCauses ⊥ bytes f x e means))
@@ -82,7 +80,7 @@ module _ (faults : List Fault) (w : ProgramTree) (m : FlatModel) (fs : List Mode
       absurd (of_this_kind IsCauses ⊥ bytes read.spelled.0 read.spelled.1 (read.written, read.spelled.2) (λ deep. deep) (reason IsCauses ⊥ bytes g y d also))
   one_wrong a b (past_limit cs x read breaks is) (rule_broken q k broken was) = absurd (read_unbroken faults w bytes cs q k read broken)
   one_wrong a b (past_limit cs x read breaks is) (past_limit ds y other also was) =
-      is ∙ ap shared_fault (one_limit m fs cs x y breaks (subst (λ es. BreaksStaged m fs es y) (one_reading faults w bytes ds cs other read) also)) ∙ sym was
+      is ∙ (one_limit m fs cs x y breaks (subst (λ es. BreaksStaged m fs es y) (one_reading faults w bytes ds cs other read) also)) ∙ sym was
 
   read_not_wrong : (cs : List CommonCause) (a : InputFault) → AreRead faults w bytes cs → KeepsLimits m fs cs → IsWrongCauses faults w m fs bytes a → ⊥
   read_not_wrong cs a read kept (not_spelled f x means e is) =
@@ -94,7 +92,7 @@ module _ (faults : List Fault) (w : ProgramTree) (m : FlatModel) (fs : List Mode
 
 module _ (files : List NamedFile) (name : Text) where
   -- it is refused as other files are
-  as_above : (told : InputFault) → IsRefusedCausesFile files name told → (fault : SharedFault) × (told ≡ shared_fault fault) × IsRefusedAbove 1048576 files name fault
+  as_above : (told : InputFault) → IsRefusedCausesFile files name told → (fault : InputFault) × (told ≡ fault) × IsRefusedAbove 1048576 files name fault
   as_above told (inl h) = (_, h.0, inl (refl, h.1))
   as_above told (inr h) = (_, h.0, inr (refl, h.1))
 
@@ -102,7 +100,7 @@ module _ (files : List NamedFile) (name : Text) where
   one_file_fault a b h g =
       let x = as_above a h in
       let y = as_above b g in
-      x.1 ∙ ap shared_fault (one_fault_above 1048576 files name x.0 y.0 x.2 y.2) ∙ sym y.1
+      x.1 ∙ (one_fault_above 1048576 files name x.0 y.0 x.2 y.2) ∙ sym y.1
 
   refused_has_none : (a : InputFault) (bytes : List ℕ) → IsRefusedCausesFile files name a → HasAtMost 1048576 files name bytes → ⊥
   refused_has_none a bytes h has = let x = as_above a h in no_bytes_within 1048576 files name x.0 bytes x.2 has
@@ -147,47 +145,53 @@ module _ (files : List NamedFile) (model faults causes top : Text) where
       held_causes_not_refused files causes c.faults (extension_of c) c.flat c.modes cs r has kept (subst (λ k. RefusesCausesOf files causes k r) (one_case files model faults d c other held) bad)
 
   pub one_refused_staged : (r s : Refusal) → RefusesStaged files model faults causes top r → RefusesStaged files model faults causes top s → r ≡ s
-  one_refused_staged r s (at_model x is bad) (at_model y was also) = is ∙ ap (λ z. refusal.Shared z) (one_refused_model files model x y bad also) ∙ sym was
-  one_refused_staged r s (at_model x is bad) (at_faults p y was holds wrong) = absurd (held_not_refused files model p x holds bad)
-  one_refused_staged r s (at_model x is bad) (at_causes c held wrong) = absurd (held_not_refused files model c.program x held.program bad)
-  one_refused_staged r s (at_model x is bad) (at_top c cs f was held has kept wrong) = absurd (held_not_refused files model c.program x held.program bad)
-  one_refused_staged r s (at_faults p x is holds wrong) (at_model y was bad) = absurd (held_not_refused files model p y holds bad)
-  one_refused_staged r s (at_faults p x is holds wrong) (at_faults q y was other also) =
-      is
-      ∙ ap (λ z. refusal.Shared z)
-      (one_refused_faults files faults p holds.flat holds.lawful x y wrong (subst (λ u. RefusesFaults files faults u y) (one_held_model files model p q holds other) also))
-      ∙ sym was
-  one_refused_staged r s (at_faults p x is holds wrong) (at_causes c held bad) = absurd (case_not_refused files model faults c p x held (one_held_model files model p c.program holds held.program) wrong)
-  one_refused_staged r s (at_faults p x is holds wrong) (at_top c cs f was held has kept bad) =
-      absurd (case_not_refused files model faults c p x held (one_held_model files model p c.program holds held.program) wrong)
-  one_refused_staged r s (at_causes c held bad) (at_model y was gone) = absurd (held_not_refused files model c.program y held.program gone)
-  one_refused_staged r s (at_causes c held bad) (at_faults p y was holds wrong) = absurd (case_not_refused files model faults c p y held (one_held_model files model p c.program holds held.program) wrong)
+  one_refused_staged r s (at_model bad) (at_model also) = one_refused_model files model r s bad also
+  one_refused_staged r s (at_model bad) (at_faults p holds wrong) = absurd (held_not_refused files model p r holds bad)
+  one_refused_staged r s (at_model bad) (at_causes c held wrong) = absurd (held_not_refused files model c.program r held.program bad)
+  one_refused_staged r s (at_model bad) (at_top c cs f was held has kept wrong) = absurd (held_not_refused files model c.program r held.program bad)
+  one_refused_staged r s (at_faults p holds wrong) (at_model bad) = absurd (held_not_refused files model p s holds bad)
+  one_refused_staged r s (at_faults p holds wrong) (at_faults q other also) =
+      one_refused_faults files faults p holds.flat holds.lawful r s wrong (subst (λ u. RefusesFaults files faults u s) (one_held_model files model p q holds other) also)
+  one_refused_staged r s (at_faults p holds wrong) (at_causes c held bad) = absurd (case_not_refused files model faults c p r held (one_held_model files model p c.program holds held.program) wrong)
+  one_refused_staged r s (at_faults p holds wrong) (at_top c cs f was held has kept bad) =
+      absurd (case_not_refused files model faults c p r held (one_held_model files model p c.program holds held.program) wrong)
+  one_refused_staged r s (at_causes c held bad) (at_model gone) = absurd (held_not_refused files model c.program s held.program gone)
+  one_refused_staged r s (at_causes c held bad) (at_faults p holds wrong) = absurd (case_not_refused files model faults c p s held (one_held_model files model p c.program holds held.program) wrong)
   one_refused_staged r s (at_causes c held bad) (at_causes d other also) =
       one_refused_causes files causes c.faults (extension_of c) c.flat c.modes r s bad (subst (λ k. RefusesCausesOf files causes k s) (one_case files model faults d c other held) also)
   one_refused_staged r s (at_causes c held bad) (at_top d ds f was other have kept wrong) = absurd (causes_not_refused d c ds r other held have kept bad)
-  one_refused_staged r s (at_top c cs f is held has kept wrong) (at_model y was gone) = absurd (held_not_refused files model c.program y held.program gone)
-  one_refused_staged r s (at_top c cs f is held has kept wrong) (at_faults p y was holds bad) =
-      absurd (case_not_refused files model faults c p y held (one_held_model files model p c.program holds held.program) bad)
+  one_refused_staged r s (at_top c cs f is held has kept wrong) (at_model gone) = absurd (held_not_refused files model c.program s held.program gone)
+  one_refused_staged r s (at_top c cs f is held has kept wrong) (at_faults p holds bad) =
+      absurd (case_not_refused files model faults c p s held (one_held_model files model p c.program holds held.program) bad)
   one_refused_staged r s (at_top c cs f is held has kept wrong) (at_causes d other bad) = absurd (causes_not_refused c d cs s held other has kept bad)
   one_refused_staged r s (at_top c cs f is held has kept wrong) (at_top d ds g was other have also bad) =
       is
-      ∙ ap (λ z. refusal.Shared (shared_refusal.Top z))
+      ∙ ap (λ z. refusal.Top z)
       (one_wrong_word c.program held.program.lawful.accepted top f g wrong (subst (λ p. IsWrongWord p top g) (one_held_model files model c.program d.program held.program other.program) bad))
       ∙ sym was
 
   held_staged_not_refused : (c : Case) (cs : List CommonCause) (e : Formula) (r : Refusal) → HoldsCase files model faults c → HasCauses files causes c cs → KeepsLimitsOf c cs → IsTopWord c.program top e →
       RefusesStaged files model faults causes top r → ⊥
-  held_staged_not_refused c cs e r held has kept word (at_model y was gone) = held_not_refused files model c.program y held.program gone
-  held_staged_not_refused c cs e r held has kept word (at_faults p y was holds bad) = case_not_refused files model faults c p y held (one_held_model files model p c.program holds held.program) bad
+  held_staged_not_refused c cs e r held has kept word (at_model gone) = held_not_refused files model c.program r held.program gone
+  held_staged_not_refused c cs e r held has kept word (at_faults p holds bad) = case_not_refused files model faults c p r held (one_held_model files model p c.program holds held.program) bad
   held_staged_not_refused c cs e r held has kept word (at_causes d other bad) = causes_not_refused c d cs r held other has kept bad
   held_staged_not_refused c cs e r held has kept word (at_top d ds g was other have also bad) =
       word_not_wrong c.program held.program.lawful.accepted top e g word (subst (λ p. IsWrongWord p top g) (one_held_model files model c.program d.program held.program other.program) bad)
 
-  -- what was loaded is not refused
-  pub staged_not_refused : (l : StagedEvent) (r : Refusal) → HoldsStaged files model faults causes top l → RefusesStaged files model faults causes top r → ⊥
-  staged_not_refused l r h bad =
-      held_staged_not_refused (case_in l.loaded) (causes_in l) h.staged.event.event.top r h.holds h.has_causes (keeps_limits l.loaded.case (causes_in l) _ _ _ h.staged.staged)
-      (subst (λ t. IsTopWord (case_in l.loaded).program t h.staged.event.event.top) h.is_word h.staged.event.event.is_word) bad
+  pub caused_not_refused : (r : Refusal) → HoldsCaused files model faults causes top → RefusesStaged files model faults causes top r → ⊥
+  caused_not_refused r h bad = held_staged_not_refused h.c h.cs h.event r h.holds h.has_causes h.keeps h.is_event bad
+
+  -- what was loaded is such
+  pub staged_of_caused : (l : StagedEvent) → HoldsStaged files model faults causes top l → HoldsCaused files model faults causes top
+  staged_of_caused l h = record {
+    c = case_in l.loaded;
+    cs = causes_in l;
+    event = h.staged.event.event.top;
+    holds = h.holds;
+    has_causes = h.has_causes;
+    keeps = keeps_limits l.loaded.case (causes_in l) _ _ _ h.staged.staged;
+    is_event = subst (λ t. IsTopWord (case_in l.loaded).program t h.staged.event.event.top) h.is_word h.staged.event.event.is_word;
+  }
 
 -- ---- certificates
 
@@ -197,19 +201,19 @@ module _ (m : FlatModel) (es : List Mode) (tree : Tree FlatLeaf) where
       let same =
       one_objection (List (List Value)) (GivesTrace m) (IsFlatTrace m) (ReachesTop m tree) (HasFailedNumber m es) (subject_of (with_history m es) m es tree) a line other rule second bad also in
       is
-      ∙ ap (λ n. refusal.Shared (shared_refusal.NotAccepted (objection.Line n (number_of rule)))) same.0
-      ∙ ap (λ q. refusal.Shared (shared_refusal.NotAccepted (objection.Line other (number_of q)))) same.1
+      ∙ ap (λ n. refusal.NotAccepted (objection.Line n (number_of rule))) same.0
+      ∙ ap (λ q. refusal.NotAccepted (objection.Line other (number_of q))) same.1
       ∙ sym was
 
   module _ (files : List NamedFile) (name : Text) where
     one_judged : (r s : Refusal) → RefusesJudged files m es tree name r → RefusesJudged files m es tree name s → r ≡ s
-    one_judged r s (no_certificate x is bad) (no_certificate y was also) = is ∙ ap (λ z. refusal.Shared z) (one_refused_certificate files name x y bad also) ∙ sym was
-    one_judged r s (no_certificate x is bad) (not_accepted a holds line) = absurd (held_certificate_not_refused files name a x holds bad)
-    one_judged r s (not_accepted a holds line) (no_certificate y was bad) = absurd (held_certificate_not_refused files name a y holds bad)
+    one_judged r s (no_certificate bad) (no_certificate also) = one_refused_certificate files name r s bad also
+    one_judged r s (no_certificate bad) (not_accepted a holds line) = absurd (held_certificate_not_refused files name a r holds bad)
+    one_judged r s (not_accepted a holds line) (no_certificate bad) = absurd (held_certificate_not_refused files name a s holds bad)
     one_judged r s (not_accepted a holds line) (not_accepted b have also) = one_line a r s line (subst (λ d. BreaksLine m es tree d s) (one_held_certificate files name b a have holds) also)
 
     unbroken_not_refused : (a : Certificate) (r : Refusal) → HoldsCertificate files name a → BreaksNoLine m es tree a → RefusesJudged files m es tree name r → ⊥
-    unbroken_not_refused a r holds none (no_certificate x is bad) = held_certificate_not_refused files name a x holds bad
+    unbroken_not_refused a r holds none (no_certificate bad) = held_certificate_not_refused files name a r holds bad
     unbroken_not_refused a r holds none (not_accepted b have line) = by_line (subst (λ d. BreaksLine m es tree d r) (one_held_certificate files name b a have holds) line)
       where
         by_line : BreaksLine m es tree a r → ⊥
@@ -233,17 +237,21 @@ module _ (files : List NamedFile) (model faults causes top cert : Text) where
   one_cause_check r s (at_certificate c cs e t held has kept word is wrong) (at_certificate d ds f u other have also word' is' bad) =
       one_judged (with_causes c.flat c.modes cs) (events_of c.flat c.modes cs) t files cert r s wrong (judged_there c d cs ds e f t u s held has word is other have word' is' bad)
 
-  pub accepted_cause_check : (report : Text) (r : Refusal) → AcceptsCauses files model faults causes top cert report → RefusesCauseCheck files model faults causes top cert r → ⊥
-  accepted_cause_check report r h (at_staged bad) = staged_not_refused files model faults causes top h.loaded r h.holds bad
-  accepted_cause_check report r h (at_certificate c cs e t held has kept word is bad) =
-      let l : StagedEvent = h.loaded in
-      let event = h.holds.staged.event.event in
+  -- what was loaded is refused for no line where its certificate breaks no rule
+  pub unbroken_cause_check : (l : StagedEvent) (a : Certificate) (r : Refusal) → HoldsStaged files model faults causes top l → HoldsCertificate files cert a →
+      BreaksNoLine (staged_in l) (events_in l) (flat_tree l.loaded.top) a → RefusesCauseCheck files model faults causes top cert r → ⊥
+  unbroken_cause_check l a r holds has none (at_staged bad) = caused_not_refused files model faults causes top r (staged_of_caused files model faults causes top l holds) bad
+  unbroken_cause_check l a r holds has none (at_certificate c cs e t held have kept word is bad) =
+      let event = holds.staged.event.event in
       let there =
-      judged_there (case_in l.loaded) c (causes_in l) cs event.top e (flat_tree l.loaded.top) t r h.holds.holds h.holds.has_causes
-      (subst (λ x. IsTopWord (case_in l.loaded).program x event.top) h.holds.is_word event.is_word) event.is_tree held has word is bad in
-      let models = h.holds.staged.staged.model in
-      let events = h.holds.staged.staged.events in
+      judged_there (case_in l.loaded) c (causes_in l) cs event.top e (flat_tree l.loaded.top) t r holds.holds holds.has_causes
+      (subst (λ x. IsTopWord (case_in l.loaded).program x event.top) holds.is_word event.is_word) event.is_tree held have word is bad in
+      let models = holds.staged.staged.model in
+      let events = holds.staged.staged.events in
       let brought : RefusesJudged files (staged_in l) (events_in l) (flat_tree l.loaded.top) cert r =
       subst (λ n. RefusesJudged files n (events_in l) (flat_tree l.loaded.top) cert r) (sym models)
       (subst (λ es. RefusesJudged files (with_causes (case_in l.loaded).flat (case_in l.loaded).modes (causes_in l)) es (flat_tree l.loaded.top) cert r) (sym events) there) in
-      unbroken_not_refused (staged_in l) (events_in l) (flat_tree l.loaded.top) files cert h.accepts.certificate r h.accepts.has_certificate h.accepts.certifies.unbroken brought
+      unbroken_not_refused (staged_in l) (events_in l) (flat_tree l.loaded.top) files cert a r has none brought
+
+  pub accepted_cause_check : (report : Text) (r : Refusal) → AcceptsCauses files model faults causes top cert report → RefusesCauseCheck files model faults causes top cert r → ⊥
+  accepted_cause_check report r h bad = unbroken_cause_check h.loaded h.accepts.certificate r h.holds h.accepts.has_certificate h.accepts.certifies.unbroken bad

@@ -60,7 +60,7 @@ use Rattle.xs_reach_laws.proofs.Shown.{accepted_certifies}
 use Rattle.xs_reach_laws.proofs.Answered.{answers_caused}
 use Rattle.xs_loading.specs.declared.loaded.LoadedCase.{LoadedCase}
 use Rattle.xs_loading.specs.declared.status.Objection.TheVariants as objection
-use Rattle.xs_loading.specs.declared.status.Refusal.TheVariants as shared_refusal
+use Rattle.xs_loading.specs.declared.status.Refusal.TheVariants as refusal
 use Rattle.xs_loading.specs.Cases.{Case, extension_of}
 use Rattle.xs_loading.specs.Loaded.{case_of, IsLoaded}
 use Rattle.xs_case_search.specs.Searches.{IsSearched}
@@ -68,8 +68,7 @@ use Rattle.xs_case_search.proofs.Analysable.{model_of_case, case_searchable}
 use Rattle.xs_loading.proofs.FlatLimits.{flat_typed}
 use Rattle.xs_loading.proofs.LoadedLaws.{same_counts, loaded_evaluable}
 use Rattle.xs_loading.proofs.TopLaws.{have_models}
-use Rattle.xs_reach_status.specs.declared.status.Refusal.{Refusal}
-use Rattle.xs_reach_status.specs.declared.status.Refusal.TheVariants as refusal
+use Rattle.xs_loading.specs.declared.status.Refusal.{Refusal}
 use Rattle.xs_find_causes.specs.declared.staged.StagedEvent.{StagedEvent}
 use Rattle.xs_find_causes.specs.Causes.{modes_in, flat_in, faults_in, extension_in, cause_path, AreToldEvents, IsSomeCase, AreCausesOf, causes_in, staged_in, events_in, IsStagedEvent, CertifiesStaged}
 use Rattle.xs_find_causes.specs.Refusals.{BreaksLine, at_line}
@@ -171,10 +170,10 @@ module _ (l : StagedEvent) (is : IsStagedEvent l) where
       read top.names top.kinds).0
 
   -- what is told of a certificate is told of it over the staged model
-  pub event_not_accepted : (a : Certificate) (line number : ℕ) (r : Refusal) → r ≡ refusal.Shared (shared_refusal.NotAccepted (objection.Line line number)) →
+  pub event_not_accepted : (a : Certificate) (line number : ℕ) (r : Refusal) → r ≡ (refusal.NotAccepted (objection.Line line number)) →
       IsObjectionOf (matter_of l.full.model l.typed.model l.events l.loaded.top a) line number → BreaksLine (staged_in l) (events_in l) tree a r
   event_not_accepted a line number r told bad =
-      at_line line bad.rule (told ∙ ap (λ n. refusal.Shared (shared_refusal.NotAccepted (objection.Line line n))) (sym bad.has_number))
+      at_line line bad.rule (told ∙ ap (λ n. (refusal.NotAccepted (objection.Line line n))) (sym bad.has_number))
       (subst
       (λ whole. IsObjection (List (List Value)) (GivesTrace (staged_in l)) (IsFlatTrace (staged_in l)) (ReachesTop (staged_in l) tree) (HasFailedNumber (staged_in l) (events_in l))
       (subject_of whole (staged_in l) (events_in l) tree) a line bad.rule)

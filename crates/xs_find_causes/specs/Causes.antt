@@ -34,7 +34,7 @@ use Rattle.xs_causes_reader.specs.Read.{AreRead}
 use Rattle.xs_reach_laws.specs.CausedLaws.{AreNamed}
 use Rattle.xs_reach_laws.specs.Shown.{CertifiesCauses, IsCausedAnalysis}
 use Rattle.xs_loading.specs.declared.loaded.LoadedCase.{LoadedCase}
-use Rattle.xs_loading.specs.declared.status.InputFault.{InputFault as SharedFault}
+use Rattle.xs_loading.specs.declared.status.InputFault.{InputFault}
 use Rattle.xs_loading.specs.declared.wrong.Wrong.{Wrong}
 use Rattle.xs_loading.specs.declared.wrong.Wrong.TheVariants as wrong
 use Rattle.xs_loading.specs.Cases.{Case, extension_of, HoldsCase, IsTopWord}
@@ -45,25 +45,20 @@ use Rattle.xs_loading.specs.LoadedEvents.{case_in, IsEvent}
 use Rattle.xs_case_search.specs.Searches.{IsSearched, HasCertificate}
 use Rattle.xs_loading.specs.Answered.{told_maybe, Told, Said}
 use Rattle.xs_certificate_file.specs.CertificateFiles.{HoldsCertificate}
-use Rattle.xs_reach_status.specs.declared.status.InputFault.{InputFault}
-use Rattle.xs_reach_status.specs.declared.status.Part.TheVariants as part
-use Rattle.xs_reach_status.specs.declared.status.Refusal.TheVariants as refusal
-use Rattle.xs_reach_status.specs.declared.stop.Stop.{Stop}
-use Rattle.xs_reach_status.specs.declared.stop.Stop.TheVariants as stop
+use Rattle.xs_loading.specs.declared.status.Part.TheVariants as part
+use Rattle.xs_loading.specs.declared.status.Refusal.TheVariants as refusal
+use Rattle.xs_loading.specs.declared.input.Stop.{Stop}
+use Rattle.xs_loading.specs.declared.input.Stop.TheVariants as stop
 use Rattle.xs_find_causes.specs.declared.staged.StagedCase.{StagedCase}
 use Rattle.xs_find_causes.specs.declared.staged.StagedEvent.{StagedEvent}
 use Rattle.xs_certificate_file.specs.declared.conclusion.Conclusion.{Conclusion}
 use Rattle.xs_certificate_file.specs.Conclusions.{ConcludesInPart}
-use Rattle.xs_reach_status.specs.declared.status.Status.{Status}
-use Rattle.xs_reach_status.specs.Finished.{ended_with}
-
--- a fault that other files have too, told of the causes
-abbrev pub shared_fault : SharedFault → InputFault
-shared_fault fault = record { part = part.Shared fault.part; number = fault.number; place = fault.place }
+use Rattle.xs_loading.specs.declared.status.Status.{Status}
+use Rattle.xs_loading.specs.Statuses.{ended_with}
 
 -- the end of the work where something is wrong with the causes that may be wrong with other files too
 abbrev pub stop_at_causes : Wrong → Stop
-stop_at_causes (wrong.Refused fault) = stop.Refused (refusal.Causes (shared_fault fault))
+stop_at_causes (wrong.Refused fault) = stop.Refused (refusal.Causes fault)
 stop_at_causes wrong.Memory = stop.Memory
 
 -- the faults of what was loaded, as modes of its flat model

@@ -26,10 +26,10 @@ use Rattle.xs_causes_reader.specs.declared.fault.CauseFault.TheVariants as cause
 use Rattle.xs_causes_reader.specs.Broken.{rule_of}
 use Rattle.xs_causes_reader.specs.CausesRead.{IsCauses}
 use Rattle.xs_causes_reader.specs.Read.{AreRead, BreakRule}
-use Rattle.xs_loading.specs.declared.status.InputFault.{InputFault as SharedFault}
+use Rattle.xs_loading.specs.declared.status.InputFault.{InputFault}
 use Rattle.xs_loading.specs.declared.status.Objection.TheVariants as objection
-use Rattle.xs_loading.specs.declared.status.Refusal.{Refusal as SharedRefusal}
-use Rattle.xs_loading.specs.declared.status.Refusal.TheVariants as shared_refusal
+use Rattle.xs_loading.specs.declared.status.Refusal.{Refusal}
+use Rattle.xs_loading.specs.declared.status.Refusal.TheVariants as refusal
 use Rattle.xs_loading.specs.declared.wrong.Wrong.TheVariants as wrong
 use Rattle.xs_loading.specs.Statuses.{absent, too_long}
 use Rattle.xs_loading.specs.Wrongs.{parse_wrong, kinds_fault}
@@ -37,13 +37,10 @@ use Rattle.xs_loading.specs.Inputs.{RefusesModel, HoldsModel, RefusesFaults}
 use Rattle.xs_loading.specs.Cases.{Case, extension_of, HoldsCase, IsTopWord, IsWrongWord}
 use Rattle.xs_loading.specs.Tasks.{HasAtMost, IsTopTree}
 use Rattle.xs_certificate_file.specs.CertificateFiles.{RefusesCertificate, HoldsCertificate}
-use Rattle.xs_reach_status.specs.declared.status.InputFault.{InputFault}
-use Rattle.xs_reach_status.specs.declared.status.Part.TheVariants as part
-use Rattle.xs_reach_status.specs.declared.status.Refusal.{Refusal}
-use Rattle.xs_reach_status.specs.declared.status.Refusal.TheVariants as refusal
-use Rattle.xs_reach_status.specs.declared.stop.Stop.{Stop}
-use Rattle.xs_reach_status.specs.declared.stop.Stop.TheVariants as stop
-use Rattle.xs_find_causes.specs.Causes.{shared_fault, stop_at_causes, HasCauses}
+use Rattle.xs_loading.specs.declared.status.Part.TheVariants as part
+use Rattle.xs_loading.specs.declared.input.Stop.{Stop}
+use Rattle.xs_loading.specs.declared.input.Stop.TheVariants as stop
+use Rattle.xs_find_causes.specs.Causes.{stop_at_causes, HasCauses}
 
 -- the rules of causes, by their numbers
 abbrev pub cause_number : CauseRule → ℕ
@@ -68,7 +65,7 @@ stop_of_causes cause_fault.OutOfMemory = stop.Memory
 -- the file of causes is not there, or has more than 1,048,576 bytes
 abbrev pub IsRefusedCausesFile : List NamedFile → Text → InputFault → Type 0
 IsRefusedCausesFile files name told =
-    ((told ≡ shared_fault absent) × (file_of files name ≡ None)) ⊎ ((told ≡ shared_fault too_long) × (1048576 < length (content_of files name)))
+    ((told ≡ absent) × (file_of files name ≡ None)) ⊎ ((told ≡ too_long) × (1048576 < length (content_of files name)))
 
 -- the staged model passes no limit, with the history of its events and without
 pub record KeepsLimits (m : FlatModel) (fs : List Mode) (cs : List CommonCause) : Type 0 where
@@ -77,7 +74,7 @@ pub record KeepsLimits (m : FlatModel) (fs : List Mode) (cs : List CommonCause) 
 
 -- It passes that of size with the history of its events, or else without. No other rule of kinds can be broken where the model breaks
 -- none, so that the limit's rule is told, at place 0.
-pub data BreaksStaged (m : FlatModel) (fs : List Mode) (cs : List CommonCause) (fault : SharedFault) : Type 0 where
+pub data BreaksStaged (m : FlatModel) (fs : List Mode) (cs : List CommonCause) (fault : InputFault) : Type 0 where
   whole_breaks : IsFault (with_history (with_causes m fs cs) (events_of m fs cs)) too_large 0 → fault ≡ kinds_fault too_large 0 → BreaksStaged m fs cs fault
   model_breaks : IsTyped (with_history (with_causes m fs cs) (events_of m fs cs)) → IsFault (with_causes m fs cs) too_large 0 → fault ≡ kinds_fault too_large 0 → BreaksStaged m fs cs fault
 
@@ -85,9 +82,9 @@ pub data BreaksStaged (m : FlatModel) (fs : List Mode) (cs : List CommonCause) (
 -- faults: they spell no causes; or the first rule is told that a cause breaks, with the cause's number; or the staged model passes a
 -- limit.
 pub data IsWrongCauses (faults : List Fault) (w : ProgramTree) (m : FlatModel) (fs : List Mode) (bytes : List ℕ) (told : InputFault) : Type 0 where
-  not_spelled : (f : ParseFault) (fault : SharedFault) → FaultMeans IsCauses ⊥ bytes f → wrong.Refused fault ≡ parse_wrong f → told ≡ shared_fault fault → IsWrongCauses faults w m fs bytes told
+  not_spelled : (f : ParseFault) (fault : InputFault) → FaultMeans IsCauses ⊥ bytes f → wrong.Refused fault ≡ parse_wrong f → told ≡ fault → IsWrongCauses faults w m fs bytes told
   rule_broken : (rule : CauseRule) (number : ℕ) → BreakRule faults w bytes rule number → told ≡ broken_cause rule number → IsWrongCauses faults w m fs bytes told
-  past_limit : (cs : List CommonCause) (fault : SharedFault) → AreRead faults w bytes cs → BreaksStaged m fs cs fault → told ≡ shared_fault fault → IsWrongCauses faults w m fs bytes told
+  past_limit : (cs : List CommonCause) (fault : InputFault) → AreRead faults w bytes cs → BreaksStaged m fs cs fault → told ≡ fault → IsWrongCauses faults w m fs bytes told
 
 -- the bytes of causes are refused for what is wrong with them
 abbrev pub RefusesBytes : List Fault → ProgramTree → FlatModel → List Mode → List ℕ → Refusal → Type 0
@@ -101,21 +98,32 @@ pub data RefusesCauses (files : List NamedFile) (name : Text) (faults : List Fau
 -- The model is refused; or it holds, and the instructions are; or these hold too, and the causes are; or the causes hold and their
 -- staged model passes no limit, and the top event is refused.
 pub data RefusesStaged (files : List NamedFile) (model faults causes top : Text) (r : Refusal) : Type 0 where
-  at_model : (s : SharedRefusal) → r ≡ refusal.Shared s → RefusesModel files model s → RefusesStaged files model faults causes top r
-  at_faults : (p : ProgramTree) (s : SharedRefusal) → r ≡ refusal.Shared s → HoldsModel files model p → RefusesFaults files faults p s → RefusesStaged files model faults causes top r
+  at_model : RefusesModel files model r → RefusesStaged files model faults causes top r
+  at_faults : (p : ProgramTree) → HoldsModel files model p → RefusesFaults files faults p r → RefusesStaged files model faults causes top r
   at_causes : (c : Case) → HoldsCase files model faults c → RefusesCauses files causes c.faults (extension_of c) c.flat c.modes r → RefusesStaged files model faults causes top r
-  at_top : (c : Case) (cs : List CommonCause) (fault : SharedFault) → r ≡ refusal.Shared (shared_refusal.Top fault) → HoldsCase files model faults c → HasCauses files causes c cs →
+  at_top : (c : Case) (cs : List CommonCause) (fault : InputFault) → r ≡ (refusal.Top fault) → HoldsCase files model faults c → HasCauses files causes c cs →
       KeepsLimits c.flat c.modes cs → IsWrongWord c.program top fault → RefusesStaged files model faults causes top r
+
+-- the files hold a case and causes of it whose staged model passes no limit, and the word spells an event of the case: nothing is to
+-- be refused
+pub record HoldsCaused (files : List NamedFile) (model faults causes top : Text) : Type 0 where
+  pub c : Case
+  pub cs : List CommonCause
+  pub event : Formula
+  pub holds : HoldsCase files model faults c
+  pub has_causes : HasCauses files causes c cs
+  pub keeps : KeepsLimits c.flat c.modes cs
+  pub is_event : IsTopWord c.program top event
 
 -- the certificate breaks a rule over a model with its events and a top event: the first line where one is broken, and the first rule
 -- there, are told
 pub data BreaksLine (m : FlatModel) (es : List Mode) (tree : Tree FlatLeaf) (a : Certificate) (r : Refusal) : Type 0 where
-  at_line : (line : ℕ) (rule : Rule) → r ≡ refusal.Shared (shared_refusal.NotAccepted (objection.Line line (number_of rule))) →
+  at_line : (line : ℕ) (rule : Rule) → r ≡ (refusal.NotAccepted (objection.Line line (number_of rule))) →
       IsObjection (List (List Value)) (GivesTrace m) (IsFlatTrace m) (ReachesTop m tree) (HasFailedNumber m es) (subject_of (with_history m es) m es tree) a line rule → BreaksLine m es tree a r
 
 -- the file of a certificate is refused, its text, or a line
 pub data RefusesJudged (files : List NamedFile) (m : FlatModel) (es : List Mode) (tree : Tree FlatLeaf) (name : Text) (r : Refusal) : Type 0 where
-  no_certificate : (s : SharedRefusal) → r ≡ refusal.Shared s → RefusesCertificate files name s → RefusesJudged files m es tree name r
+  no_certificate : RefusesCertificate files name r → RefusesJudged files m es tree name r
   not_accepted : (a : Certificate) → HoldsCertificate files name a → BreaksLine m es tree a r → RefusesJudged files m es tree name r
 
 -- The model, the instructions, the causes or the top event is refused; or these hold and the staged model passes no limit, and the

@@ -7,12 +7,13 @@ ghost use Rattle.xs_tree.specs.ModelTree.{flat_tree};
 ghost use Rattle.xs_cert.specs.Seen.{seen};
 ghost use Rattle.xs_check.specs.Fit.{IsCheckable};
 ghost use Rattle.xs_cuts.specs.declared.answer.End.TheVariants as ends;
+ghost use Rattle.xs_text_laws.specs.Analysis.{told_ending};
 ghost use Rattle.xs_tree.specs.Told.{told_trace};
 ghost use Rattle.xs_case_search.specs.Found.{IsCertificateFor};
 ghost use Rattle.xs_case_search.specs.Searches.{IsSearched, HasCertificate};
-ghost use Rattle.xs_reach_status.specs.declared.status.Refusal.{Refusal};
-ghost use Rattle.xs_reach_status.specs.declared.stop.Stop.TheVariants as stop;
-ghost use Rattle.xs_reach_status.specs.Finished.{IsFinished};
+ghost use Rattle.xs_loading.specs.declared.status.Refusal.{Refusal};
+ghost use Rattle.xs_loading.specs.declared.input.Stop.TheVariants as stop;
+ghost use Rattle.xs_loading.specs.Statuses.{ended_with, IsBoundedAt, IsFinished};
 ghost use Rattle.xs_find_causes.specs.Causes.{staged_in, events_in, IsStagedEvent, CertifiesStaged, AcceptsStaged, AcceptsCauses, HasCheckedCauses, LeavesCheck, IsCausesFinding, FindsCauses, HasFoundCauses, LeavesCauses};
 ghost use Rattle.xs_find_causes.specs.Refusals.{RefusesStaged, BreaksLine, RefusesJudged, RefusesCauseCheck};
 
@@ -26,12 +27,12 @@ use xs_certificate_file::conclusion::{Conclusion, conclude};
 use xs_check::{Judged, check};
 use xs_cuts::answer::{Analysis, End};
 use xs_desk::{Desk, say_whole};
-use xs_reach_status::status::{Status, ended_as};
-use xs_reach_status::stop::Stop;
-use xs_reach_words::{CheckCauses, FindCauses};
+use xs_loading::input::Stop;
+use xs_loading::status::{Status, ended_as};
 use xs_report::print_analysis;
 use xs_scope::items::number_of;
 use xs_value::{ByteList, OutOfMemory};
+use xs_words::{CheckCauses, FindCauses};
 
 /// A search gives each symbol a number below this. A model of three files within their limits has far fewer.
 const MOST_SYMBOLS: usize = 2_147_483_648;
@@ -44,10 +45,12 @@ pub fn find_causes<D: Desk>(
     asked: &FindCauses,
     panel: &mut Panel,
 ) -> Result<Status, Stop>
+    requires { asked.now.depth ≤ 1000000000 }
     ensures ok { IfOk result (λ s. IfSome (D.files desk.old) (λ files.
         HasFoundCauses files asked.now.model.now asked.now.faults.now asked.now.causes.now asked.now.top.now asked.now.cert.now asked.now.depth s
         (D.files desk.old) (D.files desk.new) (D.said desk.old) (D.said desk.new))) }
     ensures finished { IfOk result IsFinished }
+    ensures depth { IfOk result (IsBoundedAt asked.now.depth) }
     ensures refused { (r : Refusal) → IsErrOf result (stop.Refused r) →
         IfSome (D.files desk.old) (λ files. RefusesStaged files asked.now.model.now asked.now.faults.now asked.now.causes.now asked.now.top.now r) }
     ensures untouched { (r : Refusal) → IsErrOf result (stop.Refused r) →
@@ -99,6 +102,7 @@ fn prepare_causes<D: Desk>(
 ) -> Result<Conclusion, Stop>
     ensures ok { IfOk result (λ found. IfSome (D.files desk.old) (λ files.
         FindsCauses files asked.now.model.now asked.now.faults.now asked.now.causes.now asked.now.top.now asked.now.depth found)) }
+    ensures depth { IfOk result (λ found. IsBoundedAt asked.now.depth (ended_with (told_ending found.ending))) }
     ensures refused { (r : Refusal) → IsErrOf result (stop.Refused r) →
         IfSome (D.files desk.old) (λ files. RefusesStaged files asked.now.model.now asked.now.faults.now asked.now.causes.now asked.now.top.now r) }
     ensures failed { IsErrOf result stop.Desk → Rose (D.faults desk.old) (D.faults desk.new) }
@@ -197,7 +201,7 @@ fn judge(alloc: Global, staged: &StagedEvent, certificate: &Certificate) -> Resu
     )?;
     match judged {
         Judged::Yes => Ok(()),
-        Judged::No(line, rule) => Err(Stop::from(line_stop(line, rule))),
+        Judged::No(line, rule) => Err(line_stop(line, rule)),
     }
 }
 

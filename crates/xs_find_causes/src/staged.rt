@@ -13,10 +13,10 @@ ghost use Rattle.xs_loading.specs.Loaded.{case_of, IsLoaded, IsTopIn};
 ghost use Rattle.xs_tree.specs.ProgramTree.{Text, program_tree};
 ghost use Rattle.xs_tree.specs.ModelTree.{model_tree, flat_tree};
 ghost use Rattle.xs_causes_reader.specs.Broken.{rule_of};
-ghost use Rattle.xs_reach_status.specs.declared.status.Refusal.{Refusal};
-ghost use Rattle.xs_reach_status.specs.declared.status.Refusal.TheVariants as refusal;
-ghost use Rattle.xs_reach_status.specs.declared.status.InputFault.{InputFault};
-ghost use Rattle.xs_reach_status.specs.declared.stop.Stop.TheVariants as stop;
+ghost use Rattle.xs_loading.specs.declared.status.Refusal.{Refusal};
+ghost use Rattle.xs_loading.specs.declared.status.Refusal.TheVariants as refusal;
+ghost use Rattle.xs_loading.specs.declared.status.InputFault.{InputFault};
+ghost use Rattle.xs_loading.specs.declared.input.Stop.TheVariants as stop;
 ghost use Rattle.xs_find_causes.specs.Causes.{stop_at_causes, flat_in, modes_in, faults_in, extension_in, IsSomeCase, AreCausesOf, HoldsCauses, HasCauses, IsStagedCase, IsStagedEvent};
 ghost use Rattle.xs_find_causes.specs.Refusals.{cause_number, stop_of_causes, IsRefusedCausesFile, BreaksStaged, RefusesBytes, RefusesCauses, RefusesStaged};
 
@@ -25,13 +25,12 @@ use xs_causes_reader::{CauseFault, CauseRule, read_causes};
 use xs_desk::{Desk, DeskFault, read_whole};
 use xs_flat::with_history;
 use xs_loading::event::LoadedEvent;
+use xs_loading::input::Stop;
 use xs_loading::loaded::{LoadedCase, load_case, typed_whole};
 use xs_loading::model::{LoadedModel, load_model};
-use xs_loading::status as shared;
+use xs_loading::status::{InputFault, Part, Refusal};
 use xs_loading::top::load_top;
 use xs_loading::wrong::Wrong;
-use xs_reach_status::status::{InputFault, Part, Refusal};
-use xs_reach_status::stop::Stop;
 use xs_staging::{CauseList, with_causes};
 use xs_tree::Expr;
 use xs_tree::model::{FaultList, Flat};
@@ -144,7 +143,7 @@ fn load_causes_and_top<D: Desk>(
         Ok(top) => Ok(StagedTop { staged, top }),
         Err(stop) => {
             discard_case(staged);
-            Err(Stop::from(stop))
+            Err(stop)
         }
     }
 }
@@ -193,8 +192,8 @@ fn read_causes_file<D: Desk>(alloc: Global, desk: &mut D, name: &str) -> Result<
 {
     match read_whole(alloc, desk, name, LIMIT) {
         Ok(bytes) => Ok(bytes),
-        Err(DeskFault::Absent) => Err(refused(Part::Shared(shared::Part::Absent), 1, 0)),
-        Err(DeskFault::TooLong) => Err(refused(Part::Shared(shared::Part::Length), 1, LIMIT)),
+        Err(DeskFault::Absent) => Err(refused(Part::Absent, 1, 0)),
+        Err(DeskFault::TooLong) => Err(refused(Part::Length, 1, LIMIT)),
         Err(DeskFault::Failed) => Err(Stop::Desk),
         Err(DeskFault::OutOfMemory) => Err(Stop::Memory),
     }
@@ -262,7 +261,7 @@ fn causes_stop(wrong: Wrong) -> Stop
     ensures { result ≡ stop_at_causes wrong }
 {
     match wrong {
-        Wrong::Refused(fault) => refused(Part::Shared(fault.part), fault.number, fault.place),
+        Wrong::Refused(fault) => refused(fault.part, fault.number, fault.place),
         Wrong::Memory => Stop::Memory,
     }
 }

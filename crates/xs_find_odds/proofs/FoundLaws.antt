@@ -43,7 +43,7 @@ use Rattle.xs_case_search.specs.Found.{EndsBy}
 use Rattle.xs_loading.specs.LoadedEvents.{IsAnalysable}
 use Rattle.xs_case_search.proofs.Analysable.{model_of_case, case_counts}
 use Rattle.xs_loading.proofs.ListedLaws.{are_listed, named_lines}
-use Rattle.xs_reach_status.specs.Reports.{sets_text, ending_line}
+use Rattle.xs_find_odds.specs.Reports.{sets_text, ending_line}
 use Rattle.xs_find_odds.specs.Odds.{AreBounded, IsOddsFinding}
 use Rattle.xs_encode_laws.proofs.SetLaws.{each_kept}
 

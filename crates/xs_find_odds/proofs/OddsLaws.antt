@@ -1,51 +1,48 @@
 -- From the parts of the work on bounds to what it comes to.
-use Rattle.std.proofs.Common.{◌≡◌, ℕ, List, Option, Some, None, IfSome, length, subst, ap, ◌∙◌, Result, Ok, Err}
-use Rattle.std.specs.Prelude.{OnErr}
-use Rattle.xs_reach_status.specs.declared.stop.Stop.{Stop}
+use Rattle.std.proofs.Common.{◌≡◌, sym, ℕ, List, Option, Some, None, IfSome, length, subst, ap, ◌∙◌}
 use Rattle.xs_desk.specs.declared.files.NamedFile.{NamedFile}
 use Rattle.xs_desk.specs.Desk.{said_more, SaysPrefix}
 use Rattle.xs_tree.specs.ProgramTree.{Text, ProgramTree}
 use Rattle.xs_odds.specs.Marks.{HasProbabilities}
-use Rattle.xs_loading.specs.declared.status.Refusal.{Refusal as SharedRefusal}
-use Rattle.xs_loading.specs.declared.status.Refusal.TheVariants as shared_refusal
-use Rattle.xs_loading.specs.declared.status.InputFault.{InputFault as SharedFault}
+use Rattle.xs_loading.specs.declared.status.Refusal.{Refusal}
+use Rattle.xs_loading.specs.declared.status.Refusal.TheVariants as refusal
+use Rattle.xs_loading.specs.declared.status.InputFault.{InputFault}
 use Rattle.xs_loading.specs.Inputs.{RefusesModel, HoldsModel, RefusesFaults}
 use Rattle.xs_loading.specs.Cases.{Case, HoldsCase, IsTopWord, IsWrongWord}
-use Rattle.xs_case_search.specs.Found.{IsFound}
+use Rattle.xs_case_search.specs.Found.{IsFound, EndsBy}
 use Rattle.xs_loading.specs.Answered.{Said}
 use Rattle.xs_loading.specs.LoadedEvents.{case_in}
-use Rattle.xs_reach_status.specs.declared.status.Refusal.{Refusal}
-use Rattle.xs_reach_status.specs.declared.status.Refusal.TheVariants as refusal
-use Rattle.xs_reach_status.specs.declared.status.Status.{Status}
+use Rattle.xs_loading.specs.declared.status.Status.{Status}
+use Rattle.xs_loading.specs.declared.status.Status.TheVariants as status
 use Rattle.xs_find_odds.specs.declared.odds.Marked.{Marked}
 use Rattle.xs_find_odds.specs.declared.odds.FoundOdds.{FoundOdds}
-use Rattle.xs_text_laws.specs.Analysis.{told_ending}
-use Rattle.xs_reach_status.specs.Finished.{ended_with}
+use Rattle.xs_text_laws.specs.Analysis.{told_ending, Ending, complete, bounded}
+use Rattle.xs_loading.specs.Statuses.{ended_with, IsBoundedAt}
 use Rattle.xs_find_odds.specs.Odds.{RefusesOdds, at_model, at_faults, at_mark, at_top, RefusesMark, IsMarked, IsOddsFinding, FindsOdds, HasOdds, SaysOddsInPart}
 
 module _ (model faults top : Text) where
-  pub odds_no_model : (told : Option (List NamedFile)) (r : Refusal) (s : SharedRefusal) → r ≡ refusal.Shared s → IfSome told (λ files. RefusesModel files model s) →
+  pub odds_no_model : (told : Option (List NamedFile)) (r : Refusal) → IfSome told (λ files. RefusesModel files model r) →
       IfSome told (λ files. RefusesOdds files model faults top r)
-  odds_no_model None r s e bad = tt
-  odds_no_model (Some files) r s e bad = at_model s e bad
+  odds_no_model None r bad = tt
+  odds_no_model (Some files) r bad = at_model bad
 
-  pub odds_no_faults : (told mid : Option (List NamedFile)) (p : ProgramTree) (r : Refusal) (s : SharedRefusal) → r ≡ refusal.Shared s → mid ≡ told → IfSome told (λ files. HoldsModel files model p) →
-      IfSome mid (λ files. RefusesFaults files faults p s) → IfSome told (λ files. RefusesOdds files model faults top r)
-  odds_no_faults told mid p r s e same holds bad = at_told told holds (subst (λ t. IfSome t (λ files. RefusesFaults files faults p s)) same bad) where
-    at_told : (t : Option (List NamedFile)) → IfSome t (λ files. HoldsModel files model p) → IfSome t (λ files. RefusesFaults files faults p s) →
+  pub odds_no_faults : (told mid : Option (List NamedFile)) (p : ProgramTree) (r : Refusal) → mid ≡ told → IfSome told (λ files. HoldsModel files model p) →
+      IfSome mid (λ files. RefusesFaults files faults p r) → IfSome told (λ files. RefusesOdds files model faults top r)
+  odds_no_faults told mid p r same holds bad = at_told told holds (subst (λ t. IfSome t (λ files. RefusesFaults files faults p r)) same bad) where
+    at_told : (t : Option (List NamedFile)) → IfSome t (λ files. HoldsModel files model p) → IfSome t (λ files. RefusesFaults files faults p r) →
         IfSome t (λ files. RefusesOdds files model faults top r)
     at_told None holds bad = tt
-    at_told (Some files) holds bad = at_faults p s e holds bad
+    at_told (Some files) holds bad = at_faults p holds bad
 
   pub odds_no_mark : (told : Option (List NamedFile)) (c : Case) (r : Refusal) → IfSome told (λ files. HoldsCase files model faults c) → RefusesMark c r →
       IfSome told (λ files. RefusesOdds files model faults top r)
   odds_no_mark None c r holds wrong = tt
   odds_no_mark (Some files) c r holds wrong = at_mark c wrong.0 wrong.1 wrong.2 holds wrong.3
 
-  pub odds_no_top : (told : Option (List NamedFile)) (c : Case) (r : Refusal) (s : SharedRefusal) → r ≡ refusal.Shared s → IfSome told (λ files. HoldsCase files model faults c) →
-      HasProbabilities c.instructions → (fault : SharedFault) × (s ≡ shared_refusal.Top fault) × IsWrongWord c.program top fault → IfSome told (λ files. RefusesOdds files model faults top r)
-  odds_no_top None c r s e holds all wrong = tt
-  odds_no_top (Some files) c r s e holds all wrong = at_top c wrong.0 (e ∙ ap (λ t. refusal.Shared t) wrong.1) holds all wrong.2
+  pub odds_no_top : (told : Option (List NamedFile)) (c : Case) (r : Refusal) → IfSome told (λ files. HoldsCase files model faults c) →
+      HasProbabilities c.instructions → (fault : InputFault) × (r ≡ refusal.Top fault) × IsWrongWord c.program top fault → IfSome told (λ files. RefusesOdds files model faults top r)
+  odds_no_top None c r holds all wrong = tt
+  odds_no_top (Some files) c r holds all wrong = at_top c wrong.0 wrong.1 holds all wrong.2
 
   -- what was found of a case that the files hold
   pub finds_odds : (told : Option (List NamedFile)) (l : Marked) (depth : ℕ) (f : FoundOdds) → IfSome told (λ files. HoldsCase files model faults (case_in l.loaded)) → IsMarked l →
@@ -82,7 +79,16 @@ module _ (model faults top : Text) where
   odds_in_part None depth f said now found says = tt
   odds_in_part (Some files) depth f said now found says = record { analysis = found.analysis; report = f.report; answer = found.answer; part = says }
 
--- what holds however a call ends holds where it is stopped
-pub on_stop : (r : Result Status Stop) (P : Type 0) → P → OnErr r P
-on_stop (Ok s) P h = tt
-on_stop (Err e) P h = h
+-- a search is bounded by its depth alone
+pub found_within : (c : Case) (word : Text) (depth : ℕ) (odds : List ℕ) (f : FoundOdds) → IsOddsFinding c word depth odds f → IsBoundedAt depth (ended_with (told_ending f.ending))
+found_within c word depth odds f h k is = by_ending h.analysis.ending h.found.ends (sym (ap ended_with h.ends) ∙ is)
+  where
+    none : status.Done ≡ status.Bounded k → k ≡ depth
+    none e = cc
+
+    same : (j : ℕ) → status.Bounded j ≡ status.Bounded k → k ≡ j
+    same j e = cc
+
+    by_ending : (ending : Ending) → EndsBy c h.event (length c.faults) depth h.analysis.sets ending → ended_with ending ≡ status.Bounded k → k ≡ depth
+    by_ending complete ends e = none e
+    by_ending (bounded j) ends e = same j e ∙ ends.0

@@ -6,17 +6,17 @@ use Rattle.xs_tree.specs.Trace.{Each}
 use Rattle.xs_fei.specs.Instructions.{InstructionTree}
 use Rattle.xs_odds.specs.declared.mode_marks.MarkFault.{MarkFault}
 use Rattle.xs_odds.specs.Marks.{IsFirstMarkFault, HasProbabilities}
-use Rattle.xs_report_laws.specs.ExtendedTraces.{Analysis}
-use Rattle.xs_loading.specs.declared.status.Refusal.TheVariants as shared_refusal
+use Rattle.xs_loading.specs.declared.status.Refusal.TheVariants as refusal
 use Rattle.xs_loading.specs.Inputs.{RefusesFaults}
 use Rattle.xs_loading.specs.Cases.{IsWrongWord}
 use Rattle.xs_loading.proofs.OneExtending.{one_refused_faults}
 use Rattle.xs_loading.proofs.OneModelFault.{one_refused_model, held_not_refused, one_held_model}
 use Rattle.xs_loading.proofs.OneCase.{case_not_refused, one_case}
 use Rattle.xs_loading.proofs.OneTop.{one_wrong_word, word_not_wrong}
-use Rattle.xs_reach_status.specs.declared.status.Refusal.{Refusal}
-use Rattle.xs_reach_status.specs.declared.status.Refusal.TheVariants as refusal
-use Rattle.xs_find_odds.specs.Odds.{mark_refusal, RefusesOdds, at_model, at_faults, at_mark, at_top, IsOddsAnswer}
+use Rattle.xs_loading.specs.declared.status.Refusal.{Refusal}
+use Rattle.xs_loading.specs.declared.status.Status.{Status}
+use Rattle.xs_loading.specs.Answered.{Said}
+use Rattle.xs_find_odds.specs.Odds.{mark_refusal, RefusesOdds, at_model, at_faults, at_mark, at_top, HoldsMarked, HasOdds}
 use Rattle.std.proofs.lemmas.Option.{same_Some as same_first}
 
 module _ {A : Type 0} where
@@ -49,42 +49,43 @@ no_mark i f n all h = not_first h.before f h.after (subst (Each (λ o. o ≡ Non
 
 module _ (files : List NamedFile) (model faults top : Text) where
   pub one_refused_odds : (r s : Refusal) → RefusesOdds files model faults top r → RefusesOdds files model faults top s → r ≡ s
-  one_refused_odds r s (at_model x is bad) (at_model y was also) = is ∙ ap (λ z. refusal.Shared z) (one_refused_model files model x y bad also) ∙ sym was
-  one_refused_odds r s (at_model x is bad) (at_faults p y was holds wrong) = absurd (held_not_refused files model p x holds bad)
-  one_refused_odds r s (at_model x is bad) (at_mark c f n was held mark) = absurd (held_not_refused files model c.program x held.program bad)
-  one_refused_odds r s (at_model x is bad) (at_top c f was held all wrong) = absurd (held_not_refused files model c.program x held.program bad)
-  one_refused_odds r s (at_faults p x is holds wrong) (at_model y was bad) = absurd (held_not_refused files model p y holds bad)
-  one_refused_odds r s (at_faults p x is holds wrong) (at_faults q y was other also) =
-      is
-      ∙ ap (λ z. refusal.Shared z)
-      (one_refused_faults files faults p holds.flat holds.lawful x y wrong (subst (λ u. RefusesFaults files faults u y) (one_held_model files model p q holds other) also))
-      ∙ sym was
-  one_refused_odds r s (at_faults p x is holds wrong) (at_mark c f n was held mark) =
-      absurd (case_not_refused files model faults c p x held (one_held_model files model p c.program holds held.program) wrong)
-  one_refused_odds r s (at_faults p x is holds wrong) (at_top c f was held all bad) =
-      absurd (case_not_refused files model faults c p x held (one_held_model files model p c.program holds held.program) wrong)
-  one_refused_odds r s (at_mark c f n is held mark) (at_model y was gone) = absurd (held_not_refused files model c.program y held.program gone)
-  one_refused_odds r s (at_mark c f n is held mark) (at_faults p y was holds wrong) =
-      absurd (case_not_refused files model faults c p y held (one_held_model files model p c.program holds held.program) wrong)
+  one_refused_odds r s (at_model bad) (at_model also) = one_refused_model files model r s bad also
+  one_refused_odds r s (at_model bad) (at_faults p holds wrong) = absurd (held_not_refused files model p r holds bad)
+  one_refused_odds r s (at_model bad) (at_mark c f n was held mark) = absurd (held_not_refused files model c.program r held.program bad)
+  one_refused_odds r s (at_model bad) (at_top c f was held all wrong) = absurd (held_not_refused files model c.program r held.program bad)
+  one_refused_odds r s (at_faults p holds wrong) (at_model bad) = absurd (held_not_refused files model p s holds bad)
+  one_refused_odds r s (at_faults p holds wrong) (at_faults q other also) =
+      one_refused_faults files faults p holds.flat holds.lawful r s wrong (subst (λ u. RefusesFaults files faults u s) (one_held_model files model p q holds other) also)
+  one_refused_odds r s (at_faults p holds wrong) (at_mark c f n was held mark) =
+      absurd (case_not_refused files model faults c p r held (one_held_model files model p c.program holds held.program) wrong)
+  one_refused_odds r s (at_faults p holds wrong) (at_top c f was held all bad) =
+      absurd (case_not_refused files model faults c p r held (one_held_model files model p c.program holds held.program) wrong)
+  one_refused_odds r s (at_mark c f n is held mark) (at_model gone) = absurd (held_not_refused files model c.program s held.program gone)
+  one_refused_odds r s (at_mark c f n is held mark) (at_faults p holds wrong) =
+      absurd (case_not_refused files model faults c p s held (one_held_model files model p c.program holds held.program) wrong)
   one_refused_odds r s (at_mark c f n is held mark) (at_mark d g k was other also) =
       is ∙ one_mark c.instructions f g n k mark (subst (λ e. IsFirstMarkFault e.instructions g k) (one_case files model faults d c other held) also) ∙ sym was
   one_refused_odds r s (at_mark c f n is held mark) (at_top d g was other all bad) =
       absurd (no_mark c.instructions f n (subst (λ e. HasProbabilities e.instructions) (one_case files model faults d c other held) all) mark)
-  one_refused_odds r s (at_top c f is held all wrong) (at_model y was gone) = absurd (held_not_refused files model c.program y held.program gone)
-  one_refused_odds r s (at_top c f is held all wrong) (at_faults p y was holds bad) =
-      absurd (case_not_refused files model faults c p y held (one_held_model files model p c.program holds held.program) bad)
+  one_refused_odds r s (at_top c f is held all wrong) (at_model gone) = absurd (held_not_refused files model c.program s held.program gone)
+  one_refused_odds r s (at_top c f is held all wrong) (at_faults p holds bad) =
+      absurd (case_not_refused files model faults c p s held (one_held_model files model p c.program holds held.program) bad)
   one_refused_odds r s (at_top c f is held all wrong) (at_mark d g k was other mark) =
       absurd (no_mark d.instructions g k (subst (λ e. HasProbabilities e.instructions) (one_case files model faults c d held other) all) mark)
   one_refused_odds r s (at_top c f is held all wrong) (at_top d g was other also bad) =
       is
-      ∙ ap (λ z. refusal.Shared (shared_refusal.Top z))
+      ∙ ap (λ z. refusal.Top z)
       (one_wrong_word c.program held.program.lawful.accepted top f g wrong (subst (λ p. IsWrongWord p top g) (one_held_model files model c.program d.program held.program other.program) bad))
       ∙ sym was
 
-  pub odds_not_refused : (depth : ℕ) (a : Analysis) (report : Text) (r : Refusal) → IsOddsAnswer files model faults top depth a report → RefusesOdds files model faults top r → ⊥
-  odds_not_refused depth a report r h (at_model y was gone) = held_not_refused files model h.c.program y h.holds.program gone
-  odds_not_refused depth a report r h (at_faults p y was holds bad) = case_not_refused files model faults h.c p y h.holds (one_held_model files model p h.c.program holds h.holds.program) bad
-  odds_not_refused depth a report r h (at_mark d g k was other mark) =
+  pub marked_not_refused : (r : Refusal) → HoldsMarked files model faults top → RefusesOdds files model faults top r → ⊥
+  marked_not_refused r h (at_model gone) = held_not_refused files model h.c.program r h.holds.program gone
+  marked_not_refused r h (at_faults p holds bad) = case_not_refused files model faults h.c p r h.holds (one_held_model files model p h.c.program holds h.holds.program) bad
+  marked_not_refused r h (at_mark d g k was other mark) =
       no_mark d.instructions g k (subst (λ e. HasProbabilities e.instructions) (one_case files model faults h.c d h.holds other) h.all) mark
-  odds_not_refused depth a report r h (at_top d g was other also bad) =
+  marked_not_refused r h (at_top d g was other also bad) =
       word_not_wrong h.c.program h.holds.program.lawful.accepted top h.event g h.is_event (subst (λ p. IsWrongWord p top g) (one_held_model files model h.c.program d.program h.holds.program other.program) bad)
+
+  -- what was found was of such files
+  pub odds_of_marked : (depth : ℕ) (s : Status) (said now : Said) → HasOdds files model faults top depth s said now → HoldsMarked files model faults top
+  odds_of_marked depth s said now h = record { c = h.answer.c; holds = h.answer.holds; all = h.answer.all; event = h.answer.event; is_event = h.answer.is_event }

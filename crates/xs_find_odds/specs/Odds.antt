@@ -12,22 +12,20 @@ use Rattle.xs_odds.specs.Bounds.{Bounds, bound_of, bound_sum, slack_of, exact_su
 use Rattle.xs_odds.specs.OddsText.{odds_text}
 use Rattle.xs_text_laws.specs.Analysis.{told_ending}
 use Rattle.xs_report_laws.specs.ExtendedTraces.{Analysis}
-use Rattle.xs_loading.specs.declared.status.InputFault.{InputFault as SharedFault}
-use Rattle.xs_loading.specs.declared.status.Refusal.{Refusal as SharedRefusal}
-use Rattle.xs_loading.specs.declared.status.Refusal.TheVariants as shared_refusal
+use Rattle.xs_loading.specs.declared.status.InputFault.{InputFault}
+use Rattle.xs_loading.specs.declared.status.Refusal.{Refusal}
+use Rattle.xs_loading.specs.declared.status.Refusal.TheVariants as refusal
 use Rattle.xs_loading.specs.Inputs.{RefusesModel, HoldsModel, RefusesFaults}
 use Rattle.xs_loading.specs.Cases.{Case, HoldsCase, IsTopWord, IsWrongWord}
 use Rattle.xs_loading.specs.Answered.{Said, faults_text, bits_of}
 use Rattle.xs_case_search.specs.Found.{IsFound}
 use Rattle.xs_loading.specs.LoadedEvents.{case_in, IsEvent}
-use Rattle.xs_reach_status.specs.declared.status.Part.TheVariants as part
-use Rattle.xs_reach_status.specs.declared.status.Refusal.{Refusal}
-use Rattle.xs_reach_status.specs.declared.status.Refusal.TheVariants as refusal
-use Rattle.xs_reach_status.specs.declared.status.Status.{Status}
+use Rattle.xs_loading.specs.declared.status.Part.TheVariants as part
+use Rattle.xs_loading.specs.declared.status.Status.{Status}
 use Rattle.xs_find_odds.specs.declared.odds.Marked.{Marked}
 use Rattle.xs_find_odds.specs.declared.odds.FoundOdds.{FoundOdds}
-use Rattle.xs_reach_status.specs.Reports.{sets_text, ending_line}
-use Rattle.xs_reach_status.specs.Finished.{ended_with}
+use Rattle.xs_find_odds.specs.Reports.{sets_text, ending_line}
+use Rattle.xs_loading.specs.Statuses.{ended_with}
 
 -- the number of the rule that a mark breaks
 abbrev pub mark_rule : MarkFault → ℕ
@@ -41,12 +39,20 @@ mark_refusal fault item = refusal.Faults (record { part = part.Mark; number = ma
 -- The model is refused; or it holds, and the instructions are; or these hold too, and the first mode whose mark is no probability
 -- is told; or all marks are probabilities, and the top event is refused.
 pub data RefusesOdds (files : List NamedFile) (model faults top : Text) (r : Refusal) : Type 0 where
-  at_model : (s : SharedRefusal) → r ≡ refusal.Shared s → RefusesModel files model s → RefusesOdds files model faults top r
-  at_faults : (p : ProgramTree) (s : SharedRefusal) → r ≡ refusal.Shared s → HoldsModel files model p → RefusesFaults files faults p s → RefusesOdds files model faults top r
+  at_model : RefusesModel files model r → RefusesOdds files model faults top r
+  at_faults : (p : ProgramTree) → HoldsModel files model p → RefusesFaults files faults p r → RefusesOdds files model faults top r
   at_mark : (c : Case) (fault : MarkFault) (item : ℕ) → r ≡ mark_refusal fault item → HoldsCase files model faults c → IsFirstMarkFault c.instructions fault item →
       RefusesOdds files model faults top r
-  at_top : (c : Case) (fault : SharedFault) → r ≡ refusal.Shared (shared_refusal.Top fault) → HoldsCase files model faults c → HasProbabilities c.instructions → IsWrongWord c.program top fault →
+  at_top : (c : Case) (fault : InputFault) → r ≡ (refusal.Top fault) → HoldsCase files model faults c → HasProbabilities c.instructions → IsWrongWord c.program top fault →
       RefusesOdds files model faults top r
+
+-- the files hold a case whose modes all have probabilities, and the word spells an event of it: nothing is to be refused
+pub record HoldsMarked (files : List NamedFile) (model faults top : Text) : Type 0 where
+  pub c : Case
+  pub holds : HoldsCase files model faults c
+  pub all : HasProbabilities c.instructions
+  pub event : Formula
+  pub is_event : IsTopWord c.program top event
 
 -- the mark of the first mode that has no probability is told
 abbrev pub RefusesMark : Case → Refusal → Type 0

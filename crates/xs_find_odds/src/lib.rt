@@ -9,3 +9,4 @@
 #![tactic(auto)]
 
 pub mod odds;
+mod report;

@@ -1,7 +1,7 @@
 //! Bounds on the probabilities of minimal cut sets, by the marks of modes.
 //!
 //! The main function is [`find_odds`]. All files are read and judged in [`prepare_odds`], which also searches; then the report is said.
-ghost use Rattle.std.specs.Prelude.{◌≡◌, ◌≤◌, ◌<◌, ◌++◌, ◌⊎◌, OnErr, All, length, map, IfOk, IfSome, IsErrOf};
+ghost use Rattle.std.specs.Prelude.{◌≡◌, ◌≤◌, ◌<◌, ◌++◌, ◌⊎◌, All, length, map, IfOk, IfSome, IsErrOf};
 ghost use Rattle.xs_desk.specs.Desk.{Rose};
 ghost use Rattle.xs_tree.specs.ProgramTree.{ProgramTree};
 ghost use Rattle.xs_tree.specs.ModelTree.{model_tree, name_of_fault};
@@ -14,12 +14,13 @@ ghost use Rattle.xs_type_laws.specs.Costs.{state_bits};
 ghost use Rattle.xs_loading.specs.Loaded.{case_of, IsLoaded};
 ghost use Rattle.xs_loading.specs.LoadedEvents.{case_in};
 ghost use Rattle.xs_loading.specs.Cases.{HoldsCase};
-ghost use Rattle.xs_reach_status.specs.declared.status.Refusal.{Refusal};
-ghost use Rattle.xs_reach_status.specs.declared.stop.Stop.TheVariants as stop;
-ghost use Rattle.xs_reach_status.specs.Reports.{sets_text, ending_line};
-ghost use Rattle.xs_reach_status.specs.Finished.{IsFinished};
+ghost use Rattle.xs_loading.specs.declared.status.Refusal.{Refusal};
+ghost use Rattle.xs_loading.specs.declared.input.Stop.TheVariants as stop;
+ghost use Rattle.xs_find_odds.specs.Reports.{sets_text, ending_line};
+ghost use Rattle.xs_loading.specs.Statuses.{ended_with, IsBoundedAt, IsFinished};
 ghost use Rattle.xs_find_odds.specs.Odds.{mark_rule, mark_refusal, RefusesOdds, RefusesMark, IsMarked, IsOddsFinding, FindsOdds, HasOdds, SaysOddsInPart};
 
+use crate::report::{append_ending, append_sets};
 use std::alloc::Global;
 use xs_adviser::Panel;
 use xs_case_search::search::{analysed, size_of};
@@ -27,16 +28,15 @@ use xs_case_search::told;
 use xs_cuts::answer::Analysis;
 use xs_desk::{Desk, say_whole};
 use xs_loading::event::LoadedEvent;
+use xs_loading::input::Stop;
 use xs_loading::loaded::{LoadedCase, load_case};
 use xs_loading::model::load_model;
+use xs_loading::status::{InputFault, Part, Refusal, Status, ended_as};
 use xs_loading::top::load_top;
 use xs_odds::{MarkFault, OddsFault, OddsList, marks, print_odds};
-use xs_reach_status::report::{append_ending, append_sets};
-use xs_reach_status::status::{InputFault, Part, Refusal, Status, ended_as};
-use xs_reach_status::stop::Stop;
-use xs_reach_words::FindOdds;
 use xs_report::print_faults;
 use xs_value::{ByteList, Ending, OutOfMemory};
+use xs_words::FindOdds;
 
 /// A case with a top event and its word, the units of each of its faults, and how far it is to be searched.
 #[derive(Drop)]
@@ -61,14 +61,17 @@ pub fn find_odds<D: Desk>(
     asked: &FindOdds,
     panel: &mut Panel,
 ) -> Result<Status, Stop>
+    requires { asked.now.depth ≤ 1000000000 }
     ensures ok { IfOk result (λ s. IfSome (D.files desk.old) (λ files.
         HasOdds files asked.now.model.now asked.now.faults.now asked.now.top.now asked.now.depth s (D.said desk.old) (D.said desk.new))) }
     ensures finished { IfOk result IsFinished }
+    ensures depth { IfOk result (IsBoundedAt asked.now.depth) }
     ensures refused { (r : Refusal) → IsErrOf result (stop.Refused r) →
         IfSome (D.files desk.old) (λ files. RefusesOdds files asked.now.model.now asked.now.faults.now asked.now.top.now r) }
     ensures silent { (r : Refusal) → IsErrOf result (stop.Refused r) → D.said desk.new ≡ D.said desk.old }
-    ensures left { OnErr result ((D.said desk.new ≡ D.said desk.old) ⊎ IfSome (D.files desk.old) (λ files.
-        SaysOddsInPart files asked.now.model.now asked.now.faults.now asked.now.top.now asked.now.depth (D.said desk.old) (D.said desk.new))) }
+    // However it ends, nothing was said, or a part of that.
+    ensures left { (D.said desk.new ≡ D.said desk.old) ⊎ IfSome (D.files desk.old) (λ files.
+        SaysOddsInPart files asked.now.model.now asked.now.faults.now asked.now.top.now asked.now.depth (D.said desk.old) (D.said desk.new)) }
     ensures failed { IsErrOf result stop.Desk → Rose (D.faults desk.old) (D.faults desk.new) }
     ensures files { D.files desk.new ≡ D.files desk.old }
     ensures later { D.faults desk.old ≤ D.faults desk.new }
@@ -88,6 +91,7 @@ fn prepare_odds<D: Desk>(
 ) -> Result<FoundOdds, Stop>
     ensures ok { IfOk result (λ found. IfSome (D.files desk.old) (λ files.
         FindsOdds files asked.now.model.now asked.now.faults.now asked.now.top.now asked.now.depth found)) }
+    ensures depth { IfOk result (λ found. IsBoundedAt asked.now.depth (ended_with (told_ending found.ending))) }
     ensures refused { (r : Refusal) → IsErrOf result (stop.Refused r) →
         IfSome (D.files desk.old) (λ files. RefusesOdds files asked.now.model.now asked.now.faults.now asked.now.top.now r) }
     ensures failed { IsErrOf result stop.Desk → Rose (D.faults desk.old) (D.faults desk.new) }
@@ -196,7 +200,7 @@ fn search_marked(
 }
 
 /// The lines of the faults, of the sets, of their bounds, and of how the analysis ended.
-#[tactic(auto, using(xs_reach_status::proofs::TextLaws::text_rules))]
+#[tactic(auto, using(xs_loading::proofs::ReportLaws::report_rules))]
 fn report_of(
     alloc: Global,
     case: &LoadedCase,

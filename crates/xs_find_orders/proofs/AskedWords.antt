@@ -4,16 +4,13 @@ use Rattle.std.specs.Prelude.{codes, nat_eq, IsTrue}
 use Rattle.std.proofs.lemmas.Bool.{eq-eqb}
 use Rattle.xs_right_laws.specs.Sets.{has_number}
 use Rattle.xs_words.specs.declared.choice.Kind.TheVariants as kind
-use Rattle.xs_words.specs.Commands.{Text, Given}
+use Rattle.xs_words.specs.Commands.{Text, Given, orders, check_orders}
 use Rattle.xs_words.specs.Sets.{number_of, numbers_of, Each}
-use Rattle.xs_words.specs.Table.{kind_in}
-use Rattle.xs_words.specs.Meaning.{Gives, GivesNumber, AreLawful}
+use Rattle.xs_words.specs.Table.{kind_in, options_of}
+use Rattle.xs_words.specs.Meaning.{Gives, GivesNumber, AreLawful, Makes, finds_orders, checks_orders, IsOfPair, IsOneOf, not_of_set, both_one, IsInside, AreInside}
 use Rattle.xs_words.proofs.ValueLemmas.{fits_given}
-use Rattle.xs_reach_words.specs.declared.verb.Verb.{Verb}
-use Rattle.xs_reach_words.specs.declared.verb.Verb.TheVariants as verb
-use Rattle.xs_reach_words.specs.Commands.{Command, orders, check_orders}
-use Rattle.xs_reach_words.specs.Table.{options_of}
-use Rattle.xs_reach_words.specs.Meaning.{Makes, finds_causes, checks_causes, finds_orders, checks_orders, finds_odds, IsOfPair, IsOneOf, not_of_set, both_one, IsInside, AreInside}
+use Rattle.xs_words.specs.declared.verb.Verb.{Verb}
+use Rattle.xs_words.specs.declared.verb.Verb.TheVariants as verb
 use Rattle.xs_find_orders.specs.Pairs.{IsPair, IsAskedPair, OrdersAskPairs, ChecksAskPairs}
 
 -- a pair of the list that gives an option this value, and what holds of each pair
@@ -68,42 +65,6 @@ record GivesPair (pairs : List Given) (set : Text) (first second : ℕ) : Type 0
   has_first : GivesNumber pairs (codes "--first") first
   has_second : GivesNumber pairs (codes "--second") second
 
-of_orders : (pairs : List Given) (v : Verb) (c : Command) → Makes pairs v c → (model faults top set : Text) (first second depth : ℕ) (cert : Text) → c ≡ orders model faults top set first second depth cert →
-    (v ≡ verb.Orders) × GivesPair pairs set first second
-of_orders pairs v c (finds_causes m f k t d x a b o p q r) model faults top set first second depth cert e = cc
-of_orders pairs v c (checks_causes m f k t x a b o p q) model faults top set first second depth cert e = cc
-of_orders pairs v c (finds_orders m f t s i j d x a b o p q r u w) model faults top set first second depth cert e =
-    let one : s ≡ set = cc in
-    let two : i ≡ first = cc in
-    let three : j ≡ second = cc in (
-      refl,
-      record {
-        has_set = subst (λ y. Gives pairs (codes "--set") y) one p;
-        has_first = subst (λ y. GivesNumber pairs (codes "--first") y) two q;
-        has_second = subst (λ y. GivesNumber pairs (codes "--second") y) three r;
-      },
-    )
-of_orders pairs v c (checks_orders m f t s i j k x a b o p q r u w) model faults top set first second depth cert e = cc
-of_orders pairs v c (finds_odds m f t d a b o p) model faults top set first second depth cert e = cc
-
-of_checks : (pairs : List Given) (v : Verb) (c : Command) → Makes pairs v c → (model faults top set : Text) (first second : ℕ) (claim cert : Text) → c ≡ check_orders model faults top set first second claim cert →
-    (v ≡ verb.CheckOrders) × GivesPair pairs set first second
-of_checks pairs v c (finds_causes m f k t d x a b o p q r) model faults top set first second claim cert e = cc
-of_checks pairs v c (checks_causes m f k t x a b o p q) model faults top set first second claim cert e = cc
-of_checks pairs v c (finds_orders m f t s i j d x a b o p q r u w) model faults top set first second claim cert e = cc
-of_checks pairs v c (checks_orders m f t s i j k x a b o p q r u w) model faults top set first second claim cert e =
-    let one : s ≡ set = cc in
-    let two : i ≡ first = cc in
-    let three : j ≡ second = cc in (
-      refl,
-      record {
-        has_set = subst (λ y. Gives pairs (codes "--set") y) one p;
-        has_first = subst (λ y. GivesNumber pairs (codes "--first") y) two q;
-        has_second = subst (λ y. GivesNumber pairs (codes "--second") y) three r;
-      },
-    )
-of_checks pairs v c (finds_odds m f t d a b o p) model faults top set first second claim cert e = cc
-
 asked_pair : (v : Verb) (pairs : List Given) (set : Text) (first second : ℕ) → kind_in (options_of v) (codes "--set") ≡ Some kind.Set → AreLawful (options_of v) pairs → AreInside pairs → GivesPair pairs set first second →
     IsAskedPair set first second
 asked_pair v pairs set first second known lawful inside g =
@@ -112,16 +73,16 @@ asked_pair v pairs set first second known lawful inside g =
       pair = words_pair pairs set g.has_first.value g.has_second.value g.has_set g.has_first.given g.has_second.given inside first second g.has_first.is g.has_second.is;
     }
 
-set_known : (v : Verb) → (v ≡ verb.Orders) ⊎ (v ≡ verb.CheckOrders) → kind_in (options_of v) (codes "--set") ≡ Some kind.Set
-set_known v (inl e) = subst (λ x. kind_in (options_of x) (codes "--set") ≡ Some kind.Set) (sym e) refl
-set_known v (inr e) = subst (λ x. kind_in (options_of x) (codes "--set") ≡ Some kind.Set) (sym e) refl
-
 pub orders_ask : OrdersAskPairs
-orders_ask words model faults top set first second depth cert means =
-    let of = of_orders means.pairs means.verb (orders model faults top set first second depth cert) means.makes model faults top set first second depth cert refl in
-    asked_pair means.verb means.pairs set first second (set_known means.verb (inl of.0)) means.lawful means.inside of.1
+orders_ask words model faults top set first second depth cert means = by_verb means.verb means.makes means.lawful
+  where
+    by_verb : (v : _) → Makes means.pairs v (orders model faults top set first second depth cert) → AreLawful (options_of v) means.pairs → IsAskedPair set first second
+    by_verb v (finds_orders _ _ _ _ _ _ _ _ m f t s i j d k) lawful =
+        asked_pair verb.Orders means.pairs set first second refl lawful means.inside (record { has_set = s; has_first = i; has_second = j })
 
 pub checks_ask : ChecksAskPairs
-checks_ask words model faults top set first second claim cert means =
-    let of = of_checks means.pairs means.verb (check_orders model faults top set first second claim cert) means.makes model faults top set first second claim cert refl in
-    asked_pair means.verb means.pairs set first second (set_known means.verb (inr of.0)) means.lawful means.inside of.1
+checks_ask words model faults top set first second claim cert means = by_verb means.verb means.makes means.lawful
+  where
+    by_verb : (v : _) → Makes means.pairs v (check_orders model faults top set first second claim cert) → AreLawful (options_of v) means.pairs → IsAskedPair set first second
+    by_verb v (checks_orders _ _ _ _ _ _ _ _ m f t s i j q k) lawful =
+        asked_pair verb.CheckOrders means.pairs set first second refl lawful means.inside (record { has_set = s; has_first = i; has_second = j })

@@ -27,21 +27,17 @@ use Rattle.xs_check.specs.declared.judged.Judged.{Judged}
 use Rattle.xs_orders.specs.declared.Relation.{Relation}
 use Rattle.xs_reach_laws.proofs.Refuted.{accepted_refute}
 use Rattle.xs_report_laws.specs.ExtendedTraces.{complete}
-use Rattle.xs_loading.specs.declared.input.Stop.{Stop as SharedStop}
-use Rattle.xs_loading.specs.declared.input.Stop.TheVariants as shared_stop
-use Rattle.xs_loading.specs.declared.status.Refusal.{Refusal as SharedRefusal}
-use Rattle.xs_loading.specs.declared.status.Refusal.TheVariants as shared_refusal
+use Rattle.xs_loading.specs.declared.input.Stop.{Stop}
+use Rattle.xs_loading.specs.declared.input.Stop.TheVariants as stop
+use Rattle.xs_loading.specs.declared.status.Refusal.{Refusal}
+use Rattle.xs_loading.specs.declared.status.Refusal.TheVariants as refusal
 use Rattle.xs_loading.specs.declared.status.Objection.TheVariants as objection
 use Rattle.xs_loading.specs.Cases.{HoldsCase, IsTopWord}
 use Rattle.xs_certificate_file.specs.CertificateFiles.{RefusesCertificate, HoldsCertificate}
 use Rattle.xs_loading.specs.Answered.{Said}
 use Rattle.xs_loading.specs.LoadedEvents.{case_in}
 use Rattle.xs_words.specs.Sets.{numbers_of}
-use Rattle.xs_reach_status.specs.declared.status.Refusal.{Refusal}
-use Rattle.xs_reach_status.specs.declared.status.Refusal.TheVariants as refusal
-use Rattle.xs_reach_status.specs.declared.status.Status.TheVariants as status
-use Rattle.xs_reach_status.specs.declared.stop.Stop.TheVariants as stop
-use Rattle.xs_reach_status.specs.Statuses.{stop_of}
+use Rattle.xs_loading.specs.declared.status.Status.TheVariants as status
 use Rattle.xs_find_orders.specs.declared.pair.PairWords.{PairWords}
 use Rattle.xs_find_orders.specs.declared.pair.StagedCase.{StagedCase}
 use Rattle.xs_find_orders.specs.Pairs.{IsAsked, IsStagedCase, RefusesPair}
@@ -50,15 +46,15 @@ use Rattle.xs_find_orders.specs.Claimed.{SpeaksFor, staged_in, against_in}
 use Rattle.xs_find_orders.proofs.AskedLaws.{the_faults, are_faults, holds_pair, holds_asked, at_stage, claim_of_class}
 
 -- a line that breaks a rule, as a refusal
-pub line_refused : (line rule : ℕ) (t : SharedStop) (r : Refusal) → t ≡ shared_stop.Refused (shared_refusal.NotAccepted (objection.Line line rule)) → stop_of t ≡ stop.Refused r →
-    r ≡ refusal.Shared (shared_refusal.NotAccepted (objection.Line line rule))
-line_refused line rule t r is e = let both : stop.Refused (refusal.Shared (shared_refusal.NotAccepted (objection.Line line rule))) ≡ stop.Refused r = sym (ap stop_of is) ∙ e in sym (one_refusal _ r both)
+pub line_refused : (line rule : ℕ) (t : Stop) (r : Refusal) → t ≡ stop.Refused (refusal.NotAccepted (objection.Line line rule)) → t ≡ stop.Refused r →
+    r ≡ refusal.NotAccepted (objection.Line line rule)
+line_refused line rule t r is e = let both : stop.Refused (refusal.NotAccepted (objection.Line line rule)) ≡ stop.Refused r = sym is ∙ e in sym (one_refusal _ r both)
   where
     one_refusal : (a b : Refusal) → stop.Refused a ≡ stop.Refused b → a ≡ b
     one_refusal a b e = cc
 
-pub line_no_desk : (line rule : ℕ) (t : SharedStop) → t ≡ shared_stop.Refused (shared_refusal.NotAccepted (objection.Line line rule)) → stop_of t ≡ stop.Desk → ⊥
-line_no_desk line rule t is e = let both : stop.Refused (refusal.Shared (shared_refusal.NotAccepted (objection.Line line rule))) ≡ stop.Desk = sym (ap stop_of is) ∙ e in cc
+pub line_no_desk : (line rule : ℕ) (t : Stop) → t ≡ stop.Refused (refusal.NotAccepted (objection.Line line rule)) → t ≡ stop.Desk → ⊥
+line_no_desk line rule t is e = let both : stop.Refused (refusal.NotAccepted (objection.Line line rule)) ≡ stop.Desk = sym is ∙ e in cc
 
 -- what is found of a certificate for a model without faults
 pub judged_alone : (m : Model) (e : Expr Flat) (x : Written) (faults : List FaultOf) → faults ≡ [] → (done : Result Judged OutOfMemory) → IfOk done (IsJudgedUnlisted (matter_of m m faults e (seen x))) →
@@ -80,7 +76,7 @@ module _ (s : StagedCase) (is : IsStagedCase s) (claim : Option Relation) (e : T
       (record { own = searchable.own; is_subject = subject_is; certified = record { one_each = checkable.one_each; accepted = accepted }; no_set = empty })
 
   -- or one that breaks a rule
-  pub claim_refused : (line number : ℕ) (r : Refusal) → r ≡ refusal.Shared (shared_refusal.NotAccepted (objection.Line line number)) → IsObjectionUnlisted (staged_matter m e (seen x)) line number →
+  pub claim_refused : (line number : ℕ) (r : Refusal) → r ≡ (refusal.NotAccepted (objection.Line line number)) → IsObjectionUnlisted (staged_matter m e (seen x)) line number →
       RefusesClaim (staged_of (case_in s.loaded) s.asked.first s.asked.second) (against_of (case_in s.loaded) s.set.items s.asked.first s.asked.second (flat_tree s.loaded.top) claim) (seen x) r
   claim_refused line number r told bad = at_stage s is (λ m e. RefusesClaim m e (seen x) r) claim e speaks (at_line line number told bad)
 
@@ -99,10 +95,10 @@ module _ (s : StagedCase) (is : IsStagedCase s) (claim : Option Relation) (a : C
 
 -- what the file of a certificate comes to
 module _ (cert : Text) (m : FlatModel) (e : Tree FlatLeaf) where
-  pub file_unread : (told : Option (List NamedFile)) (r : Refusal) (t : SharedRefusal) → r ≡ refusal.Shared t → IfSome told (λ files. RefusesCertificate files cert t) →
+  pub file_unread : (told : Option (List NamedFile)) (r : Refusal) → IfSome told (λ files. RefusesCertificate files cert r) →
       IfSome told (λ files. RefusesFile files cert m e r)
-  file_unread None r t is bad = tt
-  file_unread (Some files) r t is bad = unread t is bad
+  file_unread None r bad = tt
+  file_unread (Some files) r bad = unread bad
 
   pub file_unfit : (told : Option (List NamedFile)) (a : Certificate) (r : Refusal) → IfSome told (λ files. HoldsCertificate files cert a) → RefusesClaim m e a r → IfSome told (λ files. RefusesFile files cert m e r)
   file_unfit None a r has bad = tt
@@ -137,8 +133,8 @@ module _ (w : PairWords) (claim cert : Text) where
 
     file_refused : (files : List NamedFile) (r : Refusal) → HoldsCase files w.model.now w.faults.now (case_in s.loaded) →
         RefusesFile files cert (staged_of (case_in s.loaded) w.first w.second) (against_of (case_in s.loaded) (numbers_of w.set.now) w.first w.second (flat_tree s.loaded.top) (claim_in claim)) r → Refuses files r
-    file_refused files r holds (unread t told bad) =
-        no_certificate (case_in s.loaded) is.event.event.top t told (holds_asked s is files w (numbers_of w.set.now) same numbers holds) word_spelled bad
+    file_refused files r holds (unread bad) =
+        no_certificate (case_in s.loaded) is.event.event.top (holds_asked s is files w (numbers_of w.set.now) same numbers holds) word_spelled bad
     file_refused files r holds (unfit a has bad) =
         not_accepted (case_in s.loaded) is.event.event.top (flat_tree s.loaded.top) a (holds_asked s is files w (numbers_of w.set.now) same numbers holds) word_spelled is.event.event.is_tree has bad
 

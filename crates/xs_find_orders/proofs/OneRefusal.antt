@@ -13,17 +13,19 @@ use Rattle.xs_encode_laws.specs.FlatTraces.{IsNumbered, ReachesTop, HasFailedNum
 use Rattle.xs_extend_laws.proofs.Splits.{one_split, none_broken}
 use Rattle.xs_text_laws.specs.Given.{GivesTrace}
 use Rattle.xs_certificate_laws.specs.Accepted.{number_of}
+use Rattle.xs_certificate_laws.specs.Certified.{IsCertified}
 use Rattle.xs_certificate_laws.specs.Certificate.{Certificate}
 use Rattle.xs_certificate_laws.proofs.Objections.{one_objection, accepted_has_none}
 use Rattle.xs_check.specs.Found.{IsObjectionOf, IsObjectionUnlisted, of_another, of_its_set}
 use Rattle.xs_reach_laws.specs.Laws.{IsFaultNumber}
 use Rattle.xs_certificate_laws.specs.Subject.{subject_of}
-use Rattle.xs_loading.specs.declared.status.InputFault.{InputFault as SharedFault}
+use Rattle.xs_loading.specs.declared.status.InputFault.{InputFault}
 use Rattle.xs_loading.specs.declared.status.Objection.TheVariants as objection
-use Rattle.xs_loading.specs.declared.status.Refusal.{Refusal as SharedRefusal}
-use Rattle.xs_loading.specs.declared.status.Refusal.TheVariants as shared_refusal
+use Rattle.xs_loading.specs.declared.status.Refusal.{Refusal}
+use Rattle.xs_loading.specs.declared.status.Refusal.TheVariants as refusal
 use Rattle.xs_loading.specs.Answered.{Told, Said}
 use Rattle.xs_loading.specs.Cases.{Case, HoldsCase, IsTopWord, IsWrongWord}
+use Rattle.xs_loading.specs.Tasks.{IsTopTree}
 use Rattle.xs_certificate_file.specs.CertificateFiles.{HoldsCertificate}
 use Rattle.xs_loading.specs.Inputs.{RefusesModel, HoldsModel, RefusesFaults}
 use Rattle.xs_loading.proofs.OneCase.{case_not_refused, one_case}
@@ -31,11 +33,9 @@ use Rattle.xs_certificate_file.proofs.OneCertificate.{one_refused_certificate, h
 use Rattle.xs_loading.proofs.OneExtending.{one_refused_faults}
 use Rattle.xs_loading.proofs.OneModelFault.{one_refused_model, held_not_refused, one_held_model}
 use Rattle.xs_loading.proofs.OneTop.{one_wrong_word, word_not_wrong}
-use Rattle.xs_reach_status.specs.declared.status.Refusal.{Refusal}
-use Rattle.xs_reach_status.specs.declared.status.Refusal.TheVariants as refusal
-use Rattle.xs_reach_status.specs.declared.status.Status.{Status}
-use Rattle.xs_find_orders.specs.Pairs.{IsFirstOutside, outside_refusal, HoldsPair, RefusesPair, at_model, at_faults, at_set, at_stage, at_top}
-use Rattle.xs_find_orders.specs.Orders.{staged_of, against_of, claim_in, staged_matter, RefusesClaim, at_line, IsAcceptedClaim, RefusesCheck, no_pair, no_certificate, not_accepted, AcceptsOrder, HasOrder, HasCheckedOrder}
+use Rattle.xs_loading.specs.declared.status.Status.{Status}
+use Rattle.xs_find_orders.specs.Pairs.{IsFirstOutside, outside_refusal, HoldsPair, HoldsPairEvent, RefusesPair, at_model, at_faults, at_set, at_stage, at_top}
+use Rattle.xs_find_orders.specs.Orders.{staged_of, against_of, claim_in, staged_matter, RefusesClaim, at_line, RefusesCheck, no_pair, no_certificate, not_accepted, AcceptsOrder, HasOrder}
 
 -- ---- one number outside, and one rule of kinds
 
@@ -55,10 +55,10 @@ module _ (n : ℕ) where
 -- ---- a pair
 
 module _ (files : List NamedFile) (model faults : Text) where
-  no_model : (c : Case) (a : SharedRefusal) → HoldsCase files model faults c → RefusesModel files model a → ⊥
+  no_model : (c : Case) (a : Refusal) → HoldsCase files model faults c → RefusesModel files model a → ⊥
   no_model c a held bad = held_not_refused files model c.program a held.program bad
 
-  no_faults : (c : Case) (p : ProgramTree) (a : SharedRefusal) → HoldsCase files model faults c → HoldsModel files model p → RefusesFaults files faults p a → ⊥
+  no_faults : (c : Case) (p : ProgramTree) (a : Refusal) → HoldsCase files model faults c → HoldsModel files model p → RefusesFaults files faults p a → ⊥
   no_faults c p a held holds bad = case_not_refused files model faults c p a held (one_held_model files model p c.program holds held.program) bad
 
   -- what is so of one case that the files hold is so of another
@@ -75,7 +75,7 @@ module _ (files : List NamedFile) (model faults top : Text) (set : List ℕ) (fi
   abbrev BreaksIn : Case → Type 0
   BreaksIn c = IsFault (staged_of c first second) too_large 0
 
-  abbrev WrongIn : SharedFault → Case → Type 0
+  abbrev WrongIn : InputFault → Case → Type 0
   WrongIn fault c = IsWrongWord c.program top fault
 
   abbrev Holds : Case → Type 0
@@ -89,53 +89,54 @@ module _ (files : List NamedFile) (model faults top : Text) (set : List ℕ) (fi
   apart_stage c d held other typed breaks = typed_has_none (staged_of c first second) too_large 0 typed (of_case files model faults BreaksIn c d held other breaks)
 
   pub one_refused_pair : (r s : Refusal) → RefusesPair files model faults top set first second r → RefusesPair files model faults top set first second s → r ≡ s
-  one_refused_pair r s (at_model a is bad) (at_model b was also) = is ∙ ap (λ t. refusal.Shared t) (one_refused_model files model a b bad also) ∙ sym was
-  one_refused_pair r s (at_model a is bad) (at_faults p b was holds wrong) = absurd (held_not_refused files model p a holds bad)
-  one_refused_pair r s (at_model a is bad) (at_set d k was other out) = absurd (no_model files model faults d a other bad)
-  one_refused_pair r s (at_model a is bad) (at_stage d was other numbered breaks) = absurd (no_model files model faults d a other bad)
-  one_refused_pair r s (at_model a is bad) (at_top d b was other numbered typed wrong) = absurd (no_model files model faults d a other bad)
-  one_refused_pair r s (at_faults p a is holds bad) (at_model b was wrong) = absurd (held_not_refused files model p b holds wrong)
-  one_refused_pair r s (at_faults p a is holds bad) (at_faults q b was other also) =
-      is
-      ∙ ap (λ t. refusal.Shared t)
-      (one_refused_faults files faults p holds.flat holds.lawful a b bad (subst (λ u. RefusesFaults files faults u b) (one_held_model files model p q holds other) also))
-      ∙ sym was
-  one_refused_pair r s (at_faults p a is holds bad) (at_set d k was other out) = absurd (no_faults files model faults d p a other holds bad)
-  one_refused_pair r s (at_faults p a is holds bad) (at_stage d was other numbered breaks) = absurd (no_faults files model faults d p a other holds bad)
-  one_refused_pair r s (at_faults p a is holds bad) (at_top d b was other numbered typed wrong) = absurd (no_faults files model faults d p a other holds bad)
-  one_refused_pair r s (at_set c k is held out) (at_model b was bad) = absurd (no_model files model faults c b held bad)
-  one_refused_pair r s (at_set c k is held out) (at_faults p b was holds bad) = absurd (no_faults files model faults c p b held holds bad)
+  one_refused_pair r s (at_model bad) (at_model also) = one_refused_model files model r s bad also
+  one_refused_pair r s (at_model bad) (at_faults p holds wrong) = absurd (held_not_refused files model p r holds bad)
+  one_refused_pair r s (at_model bad) (at_set d k was other out) = absurd (no_model files model faults d r other bad)
+  one_refused_pair r s (at_model bad) (at_stage d was other numbered breaks) = absurd (no_model files model faults d r other bad)
+  one_refused_pair r s (at_model bad) (at_top d b was other numbered typed wrong) = absurd (no_model files model faults d r other bad)
+  one_refused_pair r s (at_faults p holds bad) (at_model wrong) = absurd (held_not_refused files model p s holds wrong)
+  one_refused_pair r s (at_faults p holds bad) (at_faults q other also) =
+      one_refused_faults files faults p holds.flat holds.lawful r s bad (subst (λ u. RefusesFaults files faults u s) (one_held_model files model p q holds other) also)
+  one_refused_pair r s (at_faults p holds bad) (at_set d k was other out) = absurd (no_faults files model faults d p r other holds bad)
+  one_refused_pair r s (at_faults p holds bad) (at_stage d was other numbered breaks) = absurd (no_faults files model faults d p r other holds bad)
+  one_refused_pair r s (at_faults p holds bad) (at_top d b was other numbered typed wrong) = absurd (no_faults files model faults d p r other holds bad)
+  one_refused_pair r s (at_set c k is held out) (at_model bad) = absurd (no_model files model faults c s held bad)
+  one_refused_pair r s (at_set c k is held out) (at_faults p holds bad) = absurd (no_faults files model faults c p s held holds bad)
   one_refused_pair r s (at_set c k is held out) (at_set d l was other also) =
       is ∙ ap outside_refusal (one_outside (length c.faults) set k l out (of_case files model faults (OutsideIn l) c d held other also)) ∙ sym was
   one_refused_pair r s (at_set c k is held out) (at_stage d was other numbered breaks) = absurd (apart_set d c k other held numbered out)
   one_refused_pair r s (at_set c k is held out) (at_top d b was other numbered typed wrong) = absurd (apart_set d c k other held numbered out)
-  one_refused_pair r s (at_stage c is held numbered breaks) (at_model b was bad) = absurd (no_model files model faults c b held bad)
-  one_refused_pair r s (at_stage c is held numbered breaks) (at_faults p b was holds bad) = absurd (no_faults files model faults c p b held holds bad)
+  one_refused_pair r s (at_stage c is held numbered breaks) (at_model bad) = absurd (no_model files model faults c s held bad)
+  one_refused_pair r s (at_stage c is held numbered breaks) (at_faults p holds bad) = absurd (no_faults files model faults c p s held holds bad)
   one_refused_pair r s (at_stage c is held numbered breaks) (at_set d l was other out) = absurd (apart_set c d l held other numbered out)
   one_refused_pair r s (at_stage c is held numbered breaks) (at_stage d was other numbered' also) = is ∙ sym was
   one_refused_pair r s (at_stage c is held numbered breaks) (at_top d b was other numbered' typed wrong) = absurd (apart_stage d c other held typed breaks)
-  one_refused_pair r s (at_top c a is held numbered typed wrong) (at_model b was bad) = absurd (no_model files model faults c b held bad)
-  one_refused_pair r s (at_top c a is held numbered typed wrong) (at_faults p b was holds bad) = absurd (no_faults files model faults c p b held holds bad)
+  one_refused_pair r s (at_top c a is held numbered typed wrong) (at_model bad) = absurd (no_model files model faults c s held bad)
+  one_refused_pair r s (at_top c a is held numbered typed wrong) (at_faults p holds bad) = absurd (no_faults files model faults c p s held holds bad)
   one_refused_pair r s (at_top c a is held numbered typed wrong) (at_set d l was other out) = absurd (apart_set c d l held other numbered out)
   one_refused_pair r s (at_top c a is held numbered typed wrong) (at_stage d was other numbered' breaks) = absurd (apart_stage c d held other typed breaks)
   one_refused_pair r s (at_top c a is held numbered typed wrong) (at_top d b was other numbered' typed' also) =
       is
-      ∙ ap (λ f. refusal.Shared (shared_refusal.Top f))
+      ∙ ap (λ f. refusal.Top f)
       (one_wrong_word c.program held.program.lawful.accepted top a b wrong (of_case files model faults (WrongIn b) c d held other also))
       ∙ sym was
 
   -- nothing of a pair that holds is refused, where the word spells an event
   pub pair_not_refused : (c : Case) (e : Formula) (r : Refusal) → HoldsPair files model faults set first second c → IsTopWord c.program top e → RefusesPair files model faults top set first second r → ⊥
-  pair_not_refused c e r held word (at_model a is bad) = no_model files model faults c a held.holds bad
-  pair_not_refused c e r held word (at_faults p a is holds bad) = no_faults files model faults c p a held.holds holds bad
+  pair_not_refused c e r held word (at_model bad) = no_model files model faults c r held.holds bad
+  pair_not_refused c e r held word (at_faults p holds bad) = no_faults files model faults c p r held.holds holds bad
   pair_not_refused c e r held word (at_set d k is other out) = apart_set c d k held.holds other held.numbered out
   pair_not_refused c e r held word (at_stage d is other numbered breaks) = apart_stage c d held.holds other held.typed breaks
   pair_not_refused c e r held word (at_top d a is other numbered typed wrong) =
       word_not_wrong c.program held.holds.program.lawful.accepted top e a word (of_case files model faults (WrongIn a) c d held.holds other wrong)
 
-  pub order_not_refused : (depth : ℕ) (cert : Text) (st : Status) (before after : Told) (said now : Said) (r : Refusal) → HasOrder files model faults top set first second depth cert st before after said now →
-      RefusesPair files model faults top set first second r → ⊥
-  order_not_refused depth cert st before after said now r h bad = pair_not_refused h.c h.found.event r h.holds h.found.is_event bad
+  pub event_not_refused : (r : Refusal) → HoldsPairEvent files model faults top set first second → RefusesPair files model faults top set first second r → ⊥
+  event_not_refused r h bad = pair_not_refused h.c h.event r h.holds h.is_event bad
+
+  -- an order was found of such files
+  pub order_of_event : (depth : ℕ) (cert : Text) (st : Status) (before after : Told) (said now : Said) → HasOrder files model faults top set first second depth cert st before after said now →
+      HoldsPairEvent files model faults top set first second
+  order_of_event depth cert st before after said now h = record { c = h.c; holds = h.holds; event = h.found.event; is_event = h.found.is_event }
 
 -- ---- a certificate
 
@@ -159,17 +160,18 @@ module _ (m : FlatModel) (e : Tree FlatLeaf) (a : Certificate) where
   one_refused_claim r s (at_line line number is bad) (at_line other rule was also) =
       let same = one_unlisted line number other rule bad also in
       is
-      ∙ ap (λ n. refusal.Shared (shared_refusal.NotAccepted (objection.Line n number))) same.0
-      ∙ ap (λ n. refusal.Shared (shared_refusal.NotAccepted (objection.Line other n))) same.1
+      ∙ ap (λ n. refusal.NotAccepted (objection.Line n number)) same.0
+      ∙ ap (λ n. refusal.NotAccepted (objection.Line other n)) same.1
       ∙ sym was
 
-  accepted_has_no_unlisted : (line number : ℕ) → IsAcceptedClaim m e a → IsObjectionUnlisted (staged_matter m e a) line number → ⊥
-  accepted_has_no_unlisted line number accepted (of_another l n o early) =
-      accepted_has_none (List (List Value)) (GivesTrace m) (IsFlatTrace m) (ReachesTop m e) (HasFailedNumber m []) (subject_of m m [] e) a l o.rule accepted.certified.accepted o.objection
-  accepted_has_no_unlisted line number accepted (of_its_set some late) = some accepted.no_set
+  module _ (certified : IsCertified m [] e (GivesTrace m) (subject_of m m [] e) a) (no_set : a.sets ≡ []) where
+    certified_has_no_unlisted : (line number : ℕ) → IsObjectionUnlisted (staged_matter m e a) line number → ⊥
+    certified_has_no_unlisted line number (of_another l n o early) =
+        accepted_has_none (List (List Value)) (GivesTrace m) (IsFlatTrace m) (ReachesTop m e) (HasFailedNumber m []) (subject_of m m [] e) a l o.rule certified.accepted o.objection
+    certified_has_no_unlisted line number (of_its_set some late) = some no_set
 
-  accepted_not_refused : (r : Refusal) → IsAcceptedClaim m e a → RefusesClaim m e a r → ⊥
-  accepted_not_refused r accepted (at_line line number is bad) = accepted_has_no_unlisted line number accepted bad
+    certified_not_refused : (r : Refusal) → RefusesClaim m e a r → ⊥
+    certified_not_refused r (at_line line number is bad) = certified_has_no_unlisted line number bad
 
 module _ (files : List NamedFile) (model faults top : Text) (set : List ℕ) (first second : ℕ) (claim cert : Text) where
   abbrev Refuses : Refusal → Type 0
@@ -184,26 +186,30 @@ module _ (files : List NamedFile) (model faults top : Text) (set : List ℕ) (fi
 
   pub one_refused_check : (r s : Refusal) → Refuses r → Refuses s → r ≡ s
   one_refused_check r s (no_pair bad) (no_pair also) = one_refused_pair files model faults top set first second r s bad also
-  one_refused_check r s (no_pair bad) (no_certificate d f b was other word unread) = absurd (pair_not_refused files model faults top set first second d f r other word bad)
+  one_refused_check r s (no_pair bad) (no_certificate d f other word unread) = absurd (pair_not_refused files model faults top set first second d f r other word bad)
   one_refused_check r s (no_pair bad) (not_accepted d f u b other word is holds line) = absurd (pair_not_refused files model faults top set first second d f r other word bad)
-  one_refused_check r s (no_certificate c e a is held word bad) (no_pair also) = absurd (pair_not_refused files model faults top set first second c e s held word also)
-  one_refused_check r s (no_certificate c e a is held word bad) (no_certificate d f b was other word' also) =
-      is ∙ ap (λ t. refusal.Shared t) (one_refused_certificate files cert a b bad also) ∙ sym was
-  one_refused_check r s (no_certificate c e a is held word bad) (not_accepted d f u b other word' was holds line) = absurd (held_certificate_not_refused files cert b a holds bad)
+  one_refused_check r s (no_certificate c e held word bad) (no_pair also) = absurd (pair_not_refused files model faults top set first second c e s held word also)
+  one_refused_check r s (no_certificate c e held word bad) (no_certificate d f other word' also) =
+      one_refused_certificate files cert r s bad also
+  one_refused_check r s (no_certificate c e held word bad) (not_accepted d f u b other word' was holds line) = absurd (held_certificate_not_refused files cert b r holds bad)
   one_refused_check r s (not_accepted c e t a held word is has line) (no_pair also) = absurd (pair_not_refused files model faults top set first second c e s held word also)
-  one_refused_check r s (not_accepted c e t a held word is has line) (no_certificate d f b was other word' bad) = absurd (held_certificate_not_refused files cert a b has bad)
+  one_refused_check r s (not_accepted c e t a held word is has line) (no_certificate d f other word' bad) = absurd (held_certificate_not_refused files cert a s has bad)
   one_refused_check r s (not_accepted c e t a held word is has line) (not_accepted d f u b other word' was holds also) =
       one_refused_claim (staged_of c first second) (against_of c set first second t (claim_in claim)) a r s line
       (same_certificate a b s c t has holds (moved files model faults top cert (RefusesIn b s) c d e f t u held.holds word is other.holds word' was also))
 
-  -- nothing is refused where a claim is accepted
-  pub accepts_not_refused : (r : Refusal) → AcceptsOrder files model faults top set first second claim cert → Refuses r → ⊥
-  accepts_not_refused r h (no_pair bad) = pair_not_refused files model faults top set first second h.c h.event r h.holds h.is_event bad
-  accepts_not_refused r h (no_certificate d f b is other word bad) = held_certificate_not_refused files cert h.accepts.certificate b h.accepts.has_certificate bad
-  accepts_not_refused r h (not_accepted d f u b other word is holds line) =
-      accepted_not_refused (staged_of h.c first second) (against_of h.c set first second h.tree (claim_in claim)) h.accepts.certificate r h.accepts.accepted
-      (same_certificate h.accepts.certificate b r h.c h.tree h.accepts.has_certificate holds
-      (moved files model faults top cert (RefusesIn b r) h.c d h.event f h.tree u h.holds.holds h.is_event h.is_tree other.holds word is line))
+  -- nothing is refused where a certificate without sets breaks no rule
+  pub certified_check : (c : Case) (e : Formula) (t : Tree FlatLeaf) (a : Certificate) (r : Refusal) → HoldsPair files model faults set first second c → IsTopWord c.program top e → IsTopTree c e t →
+      HoldsCertificate files cert a →
+      IsCertified (staged_of c first second) [] (against_of c set first second t (claim_in claim)) (GivesTrace (staged_of c first second))
+      (subject_of (staged_of c first second) (staged_of c first second) [] (against_of c set first second t (claim_in claim))) a →
+      a.sets ≡ [] → Refuses r → ⊥
+  certified_check c e t a r held word is has certified none (no_pair bad) = pair_not_refused files model faults top set first second c e r held word bad
+  certified_check c e t a r held word is has certified none (no_certificate d f other word' bad) = held_certificate_not_refused files cert a r has bad
+  certified_check c e t a r held word is has certified none (not_accepted d f u b other word' is' holds line) =
+      certified_not_refused (staged_of c first second) (against_of c set first second t (claim_in claim)) a certified none r
+      (same_certificate a b r c t has holds (moved files model faults top cert (RefusesIn b r) c d e f t u held.holds word is other.holds word' is' line))
 
-  pub checked_not_refused : (st : Status) (said now : Said) (r : Refusal) → HasCheckedOrder files model faults top set first second claim cert st said now → Refuses r → ⊥
-  checked_not_refused st said now r h bad = accepts_not_refused r h.accepts bad
+  pub accepts_not_refused : (r : Refusal) → AcceptsOrder files model faults top set first second claim cert → Refuses r → ⊥
+  accepts_not_refused r h bad =
+      certified_check h.c h.event h.tree h.accepts.certificate r h.holds h.is_event h.is_tree h.accepts.has_certificate h.accepts.accepted.certified h.accepts.accepted.no_set bad

@@ -40,8 +40,9 @@ use Rattle.xs_case_search.proofs.Certifying.{spells_written}
 use Rattle.xs_loading.specs.Cases.{Case, HoldsCase}
 use Rattle.xs_loading.specs.Answered.{Told, Said, told_maybe, WritesPrefixMaybe}
 use Rattle.xs_loading.specs.LoadedEvents.{case_in}
-use Rattle.xs_reach_status.specs.declared.status.Status.{Status}
-use Rattle.xs_reach_status.specs.Finished.{ended_with}
+use Rattle.xs_loading.specs.declared.status.Status.{Status}
+use Rattle.xs_loading.specs.declared.status.Status.TheVariants as status
+use Rattle.xs_loading.specs.Statuses.{ended_with, IsBoundedAt}
 use Rattle.xs_find_orders.specs.declared.pair.PairWords.{PairWords}
 use Rattle.xs_find_orders.specs.declared.pair.StagedCase.{StagedCase}
 use Rattle.xs_find_orders.specs.declared.searched.Searched.{Searched}
@@ -282,3 +283,18 @@ trace_found s claim depth r search trace at =
 pub some_trace : (ts : List (List (List Numbered))) (b : Bool) → (IsTrue b ↔ (length ts ≡ 0)) → b ≡ false → 0 < length ts
 some_trace [] b tells e = let bad : true ≡ false = sym (tells.1 refl) ∙ e in cc
 some_trace (t ∷ ts) b tells e = omega arith
+
+-- a search is bounded by its depth alone
+pub concluded_within : (s : StagedCase) (depth : ℕ) (k : Conclusion) → IsConclusion s depth k → IsBoundedAt depth (ended_with (told_ending k.ending))
+concluded_within s depth k h n is = by_order h.found.order h.found.ending h.found.ends_by (sym (ap ended_with h.ends) ∙ is)
+  where
+    none : status.Done ≡ status.Bounded n → n ≡ depth
+    none e = cc
+
+    same : (j : ℕ) → status.Bounded j ≡ status.Bounded n → n ≡ j
+    same j e = cc
+
+    by_order : (order : Order) (ending : Ending) → EndsOrder (case_in s.loaded) s.set.items s.asked.first s.asked.second h.found.tree depth order ending → ended_with ending ≡ status.Bounded n → n ≡ depth
+    by_order order complete ends e = none e
+    by_order (claimed claim) (bounded j) ends e = same j e ∙ ends.0
+    by_order (either values others) (bounded j) ends e = absurd ends

@@ -17,9 +17,9 @@ use Rattle.xs_orders.specs.Stage.{stage}
 use Rattle.xs_orders.specs.KindLaws.{AreFaultNumbers}
 use Rattle.xs_orders.proofs.StageKinds.{stage_size_alone}
 use Rattle.xs_reach_laws.specs.Laws.{IsFaultNumber}
-use Rattle.xs_loading.specs.declared.status.Refusal.{Refusal as SharedRefusal}
-use Rattle.xs_loading.specs.declared.status.Refusal.TheVariants as shared_refusal
-use Rattle.xs_loading.specs.declared.status.InputFault.{InputFault as SharedFault}
+use Rattle.xs_loading.specs.declared.status.Refusal.{Refusal}
+use Rattle.xs_loading.specs.declared.status.Refusal.TheVariants as refusal
+use Rattle.xs_loading.specs.declared.status.InputFault.{InputFault}
 use Rattle.xs_loading.specs.declared.input.Input.TheVariants as input
 use Rattle.xs_loading.specs.declared.wrong.Wrong.{Wrong}
 use Rattle.xs_loading.specs.declared.wrong.Wrong.TheVariants as wrongs
@@ -31,11 +31,8 @@ use Rattle.xs_loading.specs.Cases.{Case, HoldsCase, IsWrongWord}
 use Rattle.xs_loading.specs.Loaded.{case_of, IsLoaded}
 use Rattle.xs_loading.proofs.LoadedLaws.{same_counts}
 use Rattle.xs_case_search.proofs.CaseKinds.{case_kinds, size_told}
-use Rattle.xs_reach_status.specs.declared.status.Refusal.{Refusal}
-use Rattle.xs_reach_status.specs.declared.status.Refusal.TheVariants as refusal
-use Rattle.xs_reach_status.specs.declared.stop.Stop.{Stop}
-use Rattle.xs_reach_status.specs.declared.stop.Stop.TheVariants as stops
-use Rattle.xs_reach_status.specs.Statuses.{stop_of}
+use Rattle.xs_loading.specs.declared.input.Stop.{Stop}
+use Rattle.xs_loading.specs.declared.input.Stop.TheVariants as stops
 use Rattle.xs_find_orders.specs.Pairs.{IsFirstOutside, stage_refusal, RefusesStage, outside, unlawful, RefusesPair, at_model, at_faults, at_set, at_stage, at_top}
 use Rattle.xs_flat_laws.proofs.Conditions.{each_join}
 
@@ -70,11 +67,11 @@ one_stop a r s is e = let both : stops.Refused a ≡ stops.Refused r = sym is �
     same a r e = cc
 
 -- which refusal a staged model that is wrong gives
-pub stage_refused : (P : SharedFault → Type 0) (w : Wrong) (r : Refusal) → stop_of (stop_at input.Faults w) ≡ stops.Refused r → IfRefused P w → (fault : SharedFault) × (r ≡ stage_refusal fault) × P fault
+pub stage_refused : (P : InputFault → Type 0) (w : Wrong) (r : Refusal) → stop_at input.Faults w ≡ stops.Refused r → IfRefused P w → (fault : InputFault) × (r ≡ stage_refusal fault) × P fault
 stage_refused P (wrongs.Refused fault) r e bad = let same : stage_refusal fault ≡ r = cc in (fault, sym same, bad)
 stage_refused P wrongs.Memory r e bad = cc
 
-pub stage_no_desk : (w : Wrong) → stop_of (stop_at input.Faults w) ≡ stops.Desk → ⊥
+pub stage_no_desk : (w : Wrong) → stop_at input.Faults w ≡ stops.Desk → ⊥
 stage_no_desk (wrongs.Refused fault) e = cc
 stage_no_desk wrongs.Memory e = cc
 
@@ -90,16 +87,16 @@ module _ (model faults top : Text) (set : List ℕ) (first second : ℕ) where
   abbrev Refuses : List NamedFile → Refusal → Type 0
   Refuses files r = RefusesPair files model faults top set first second r
 
-  pub pair_no_model : (told : Option (List NamedFile)) (r : Refusal) (s : SharedRefusal) → r ≡ refusal.Shared s → IfSome told (λ files. RefusesModel files model s) → IfSome told (λ files. Refuses files r)
-  pair_no_model None r s e bad = tt
-  pair_no_model (Some files) r s e bad = at_model s e bad
+  pub pair_no_model : (told : Option (List NamedFile)) (r : Refusal) → IfSome told (λ files. RefusesModel files model r) → IfSome told (λ files. Refuses files r)
+  pair_no_model None r bad = tt
+  pair_no_model (Some files) r bad = at_model bad
 
-  pub pair_no_faults : (told mid : Option (List NamedFile)) (p : ProgramTree) (r : Refusal) (s : SharedRefusal) → r ≡ refusal.Shared s → mid ≡ told → IfSome told (λ files. HoldsModel files model p) →
-      IfSome mid (λ files. RefusesFaults files faults p s) → IfSome told (λ files. Refuses files r)
-  pair_no_faults told mid p r s e same holds bad = at_told told holds (subst (λ t. IfSome t (λ files. RefusesFaults files faults p s)) same bad) where
-    at_told : (t : Option (List NamedFile)) → IfSome t (λ files. HoldsModel files model p) → IfSome t (λ files. RefusesFaults files faults p s) → IfSome t (λ files. Refuses files r)
+  pub pair_no_faults : (told mid : Option (List NamedFile)) (p : ProgramTree) (r : Refusal) → mid ≡ told → IfSome told (λ files. HoldsModel files model p) →
+      IfSome mid (λ files. RefusesFaults files faults p r) → IfSome told (λ files. Refuses files r)
+  pair_no_faults told mid p r same holds bad = at_told told holds (subst (λ t. IfSome t (λ files. RefusesFaults files faults p r)) same bad) where
+    at_told : (t : Option (List NamedFile)) → IfSome t (λ files. HoldsModel files model p) → IfSome t (λ files. RefusesFaults files faults p r) → IfSome t (λ files. Refuses files r)
     at_told None holds bad = tt
-    at_told (Some files) holds bad = at_faults p s e holds bad
+    at_told (Some files) holds bad = at_faults p holds bad
 
   pub pair_no_stage : (told : Option (List NamedFile)) (p : ProgramTree) (l : LoadedCase) (r : Refusal) → IsLoaded p l → IfSome told (λ files. HoldsCase files model faults (case_of p l)) →
       RefusesStage l.limited set first second r → IfSome told (λ files. Refuses files r)
@@ -124,9 +121,9 @@ module _ (model faults top : Text) (set : List ℕ) (first second : ℕ) where
         let told = size_told (stage c.flat c.modes first second) fault breaks (λ rule item. stage_size_alone c.flat c.modes first second are numbers rule item) in
         at_stage c (e ∙ ap stage_refusal told.1) holds (subst (λ n. IsNumbered n set) same numbered) told.0
 
-  pub pair_no_top : (told : Option (List NamedFile)) (p : ProgramTree) (l : LoadedCase) (r : Refusal) (s : SharedRefusal) → r ≡ refusal.Shared s → IsLoaded p l →
+  pub pair_no_top : (told : Option (List NamedFile)) (p : ProgramTree) (l : LoadedCase) (r : Refusal) → IsLoaded p l →
       IfSome told (λ files. HoldsCase files model faults (case_of p l)) → IsNumbered (length l.limited.faults) set → IsTyped (stage (case_of p l).flat (case_of p l).modes first second) →
-      (fault : SharedFault) × (s ≡ shared_refusal.Top fault) × IsWrongWord p top fault → IfSome told (λ files. Refuses files r)
-  pair_no_top None p l r s e loaded holds numbered typed wrong = tt
-  pair_no_top (Some files) p l r s e loaded holds numbered typed wrong =
-      at_top (case_of p l) wrong.0 (e ∙ ap (λ t. refusal.Shared t) wrong.1) holds (subst (λ n. IsNumbered n set) (sym (count_of_faults p l loaded)) numbered) typed wrong.2
+      (fault : InputFault) × (r ≡ refusal.Top fault) × IsWrongWord p top fault → IfSome told (λ files. Refuses files r)
+  pair_no_top None p l r loaded holds numbered typed wrong = tt
+  pair_no_top (Some files) p l r loaded holds numbered typed wrong =
+      at_top (case_of p l) wrong.0 wrong.1 holds (subst (λ n. IsNumbered n set) (sym (count_of_faults p l loaded)) numbered) typed wrong.2

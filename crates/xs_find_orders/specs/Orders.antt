@@ -28,19 +28,17 @@ use Rattle.xs_orders.specs.Relations.{HasRelation}
 use Rattle.xs_orders.specs.Stage.{stage, against}
 use Rattle.xs_reach_laws.specs.OrdersExtendedLaws.{FaultStands, IsSuch}
 use Rattle.xs_report_laws.specs.ExtendedTraces.{Ending, complete, bounded}
-use Rattle.xs_loading.specs.declared.status.Refusal.{Refusal as SharedRefusal}
-use Rattle.xs_loading.specs.declared.status.Refusal.TheVariants as shared_refusal
+use Rattle.xs_loading.specs.declared.status.Refusal.{Refusal}
+use Rattle.xs_loading.specs.declared.status.Refusal.TheVariants as refusal
 use Rattle.xs_loading.specs.declared.status.Objection.TheVariants as objection
 use Rattle.xs_loading.specs.Cases.{Case, IsTopWord}
 use Rattle.xs_loading.specs.Tasks.{IsTopTree}
 use Rattle.xs_loading.specs.Answered.{Told, Said}
 use Rattle.xs_case_search.specs.Found.{IsCertificateFor}
 use Rattle.xs_certificate_file.specs.CertificateFiles.{RefusesCertificate, HoldsCertificate}
-use Rattle.xs_reach_status.specs.declared.status.Refusal.{Refusal}
-use Rattle.xs_reach_status.specs.declared.status.Refusal.TheVariants as refusal
-use Rattle.xs_reach_status.specs.declared.status.Status.{Status}
-use Rattle.xs_reach_status.specs.declared.status.Status.TheVariants as status
-use Rattle.xs_reach_status.specs.Finished.{ended_with}
+use Rattle.xs_loading.specs.declared.status.Status.{Status}
+use Rattle.xs_loading.specs.declared.status.Status.TheVariants as status
+use Rattle.xs_loading.specs.Statuses.{ended_with}
 use Rattle.xs_find_orders.specs.Pairs.{HoldsPair, RefusesPair}
 
 -- What is found of the order of two faults: that no trace reaches the event with exactly the set, or that each has a relation; or two
@@ -204,7 +202,7 @@ staged_matter m e a = record { model = m; modes = []; top = e; subject = subject
 
 -- the certificate breaks a rule, where listing a set breaks the last one
 pub data RefusesClaim (m : FlatModel) (e : Tree FlatLeaf) (a : Certificate) (r : Refusal) : Type 0 where
-  at_line : (line number : ℕ) → r ≡ refusal.Shared (shared_refusal.NotAccepted (objection.Line line number)) → IsObjectionUnlisted (staged_matter m e a) line number → RefusesClaim m e a r
+  at_line : (line number : ℕ) → r ≡ (refusal.NotAccepted (objection.Line line number)) → IsObjectionUnlisted (staged_matter m e a) line number → RefusesClaim m e a r
 
 -- it is accepted for the staged model, and lists no set
 pub record IsAcceptedClaim (m : FlatModel) (e : Tree FlatLeaf) (a : Certificate) : Type 0 where
@@ -215,7 +213,7 @@ pub record IsAcceptedClaim (m : FlatModel) (e : Tree FlatLeaf) (a : Certificate)
 
 -- the file of a certificate holds none, or one that breaks a rule
 pub data RefusesFile (files : List NamedFile) (cert : Text) (m : FlatModel) (e : Tree FlatLeaf) (r : Refusal) : Type 0 where
-  unread : (s : SharedRefusal) → r ≡ refusal.Shared s → RefusesCertificate files cert s → RefusesFile files cert m e r
+  unread : RefusesCertificate files cert r → RefusesFile files cert m e r
   unfit : (a : Certificate) → HoldsCertificate files cert a → RefusesClaim m e a r → RefusesFile files cert m e r
 
 -- or one that is accepted
@@ -228,8 +226,8 @@ pub record AcceptsFile (files : List NamedFile) (cert : Text) (m : FlatModel) (e
 -- file of the certificate, or a line of it.
 pub data RefusesCheck (files : List NamedFile) (model faults top : Text) (set : List ℕ) (first second : ℕ) (claim cert : Text) (r : Refusal) : Type 0 where
   no_pair : RefusesPair files model faults top set first second r → RefusesCheck files model faults top set first second claim cert r
-  no_certificate : (c : Case) (event : Formula) (s : SharedRefusal) → r ≡ refusal.Shared s → HoldsPair files model faults set first second c → IsTopWord c.program top event →
-      RefusesCertificate files cert s → RefusesCheck files model faults top set first second claim cert r
+  no_certificate : (c : Case) (event : Formula) → HoldsPair files model faults set first second c → IsTopWord c.program top event →
+      RefusesCertificate files cert r → RefusesCheck files model faults top set first second claim cert r
   not_accepted : (c : Case) (event : Formula) (tree : Tree FlatLeaf) (a : Certificate) → HoldsPair files model faults set first second c → IsTopWord c.program top event → IsTopTree c event tree →
       HoldsCertificate files cert a → RefusesClaim (staged_of c first second) (against_of c set first second tree (claim_in claim)) a r →
       RefusesCheck files model faults top set first second claim cert r

@@ -1,7 +1,7 @@
 -- A set of faults with two of them, and the extension staged for these two.
 use Rattle.std.specs.Prelude.{◌≡◌, ◌≢◌, ℕ, ◌+◌, IsTrue, List, [], ◌∷◌, ◌++◌, length, map}
 use Rattle.xs_desk.specs.declared.files.NamedFile.{NamedFile}
-use Rattle.xs_tree.specs.ProgramTree.{Text, ProgramTree}
+use Rattle.xs_tree.specs.ProgramTree.{Text, Formula, ProgramTree}
 use Rattle.xs_tree.specs.ModelTree.{model_tree}
 use Rattle.xs_flat_laws.specs.FaultModes.{mode_of}
 use Rattle.xs_right_laws.specs.Sets.{has_number}
@@ -12,21 +12,18 @@ use Rattle.xs_types.specs.declared.typed.Typed.{Typed}
 use Rattle.xs_orders.specs.Stage.{stage}
 use Rattle.xs_reach_laws.specs.Laws.{IsFaultNumber}
 use Rattle.xs_words.specs.Sets.{numbers_of, IsSet}
-use Rattle.xs_reach_words.specs.Commands.{orders, check_orders}
-use Rattle.xs_reach_words.specs.Meaning.{Means}
-use Rattle.xs_loading.specs.declared.status.InputFault.{InputFault as SharedFault}
-use Rattle.xs_loading.specs.declared.status.Part.TheVariants as shared_part
-use Rattle.xs_loading.specs.declared.status.Refusal.{Refusal as SharedRefusal}
-use Rattle.xs_loading.specs.declared.status.Refusal.TheVariants as shared_refusal
+use Rattle.xs_words.specs.Commands.{orders, check_orders}
+use Rattle.xs_words.specs.Meaning.{Means}
+use Rattle.xs_loading.specs.declared.status.InputFault.{InputFault}
+use Rattle.xs_loading.specs.declared.status.Part.TheVariants as part
+use Rattle.xs_loading.specs.declared.status.Refusal.{Refusal}
+use Rattle.xs_loading.specs.declared.status.Refusal.TheVariants as refusal
 use Rattle.xs_loading.specs.declared.loaded.Limited.{Limited}
 use Rattle.xs_loading.specs.Inputs.{RefusesModel, HoldsModel, RefusesFaults}
 use Rattle.xs_loading.specs.Wrongs.{kinds_fault}
 use Rattle.xs_loading.specs.Wholes.{BreaksKinds}
-use Rattle.xs_loading.specs.Cases.{Case, HoldsCase, IsWrongWord}
+use Rattle.xs_loading.specs.Cases.{Case, HoldsCase, IsTopWord, IsWrongWord}
 use Rattle.xs_loading.specs.LoadedEvents.{IsEvent}
-use Rattle.xs_reach_status.specs.declared.status.Part.TheVariants as part
-use Rattle.xs_reach_status.specs.declared.status.Refusal.{Refusal}
-use Rattle.xs_reach_status.specs.declared.status.Refusal.TheVariants as refusal
 use Rattle.xs_find_orders.specs.declared.pair.PairWords.{PairWords}
 use Rattle.xs_find_orders.specs.declared.pair.StagedCase.{StagedCase}
 
@@ -53,17 +50,17 @@ pub record IsFirstOutside (faults : ℕ) (set : List ℕ) (position : ℕ) : Typ
 
 -- a number of the set is that of no fault
 abbrev pub outside_refusal : ℕ → Refusal
-outside_refusal position = refusal.Set (record { part = part.Shared shared_part.Count; number = 1; place = position })
+outside_refusal position = refusal.Set (record { part = part.Count; number = 1; place = position })
 
 -- the instructions are refused for what only the staged model breaks
-abbrev pub stage_refusal : SharedFault → Refusal
-stage_refusal fault = refusal.Shared (shared_refusal.Faults fault)
+abbrev pub stage_refusal : InputFault → Refusal
+stage_refusal fault = (refusal.Faults fault)
 
 -- A number of the set is that of no fault; or all are, and so the two, and the model staged for these is refused by a rule of kinds, or
 -- by its limit of size.
 pub data RefusesStage (limited : Limited) (set : List ℕ) (first second : ℕ) (r : Refusal) : Type 0 where
   outside : (position : ℕ) → r ≡ outside_refusal position → IsFirstOutside (length limited.faults) set position → RefusesStage limited set first second r
-  unlawful : (fault : SharedFault) → r ≡ stage_refusal fault → IsNumbered (length limited.faults) set → IsFaultNumber (length limited.faults) first → IsFaultNumber (length limited.faults) second →
+  unlawful : (fault : InputFault) → r ≡ stage_refusal fault → IsNumbered (length limited.faults) set → IsFaultNumber (length limited.faults) first → IsFaultNumber (length limited.faults) second →
       BreaksKinds (stage (model_tree limited.typed.model) (map mode_of limited.faults) first second) fault → RefusesStage limited set first second r
 
 -- The files hold a case; the numbers of the set are those of its faults; and the model staged for the two breaks no rule of kinds.
@@ -75,14 +72,21 @@ pub record HoldsPair (files : List NamedFile) (model faults : Text) (set : List 
 -- What a pair of faults of a set is refused for, in the order of the work: the model; the instructions; a number of the set; the
 -- limit of size of the staged model, which breaks no other rule of kinds; and the top event.
 pub data RefusesPair (files : List NamedFile) (model faults top : Text) (set : List ℕ) (first second : ℕ) (r : Refusal) : Type 0 where
-  at_model : (s : SharedRefusal) → r ≡ refusal.Shared s → RefusesModel files model s → RefusesPair files model faults top set first second r
-  at_faults : (p : ProgramTree) (s : SharedRefusal) → r ≡ refusal.Shared s → HoldsModel files model p → RefusesFaults files faults p s → RefusesPair files model faults top set first second r
+  at_model : RefusesModel files model r → RefusesPair files model faults top set first second r
+  at_faults : (p : ProgramTree) → HoldsModel files model p → RefusesFaults files faults p r → RefusesPair files model faults top set first second r
   at_set : (c : Case) (position : ℕ) → r ≡ outside_refusal position → HoldsCase files model faults c → IsFirstOutside (length c.faults) set position →
       RefusesPair files model faults top set first second r
   at_stage : (c : Case) → r ≡ stage_refusal (kinds_fault too_large 0) → HoldsCase files model faults c → IsNumbered (length c.faults) set →
       IsFault (stage c.flat c.modes first second) too_large 0 → RefusesPair files model faults top set first second r
-  at_top : (c : Case) (fault : SharedFault) → r ≡ refusal.Shared (shared_refusal.Top fault) → HoldsCase files model faults c → IsNumbered (length c.faults) set →
+  at_top : (c : Case) (fault : InputFault) → r ≡ (refusal.Top fault) → HoldsCase files model faults c → IsNumbered (length c.faults) set →
       IsTyped (stage c.flat c.modes first second) → IsWrongWord c.program top fault → RefusesPair files model faults top set first second r
+
+-- the files hold a case with the two faults, and the word spells an event of it: nothing is to be refused
+pub record HoldsPairEvent (files : List NamedFile) (model faults top : Text) (set : List ℕ) (first second : ℕ) : Type 0 where
+  pub c : Case
+  pub holds : HoldsPair files model faults set first second c
+  pub event : Formula
+  pub is_event : IsTopWord c.program top event
 
 -- the set is of an extension's faults, and the model is the extension's staged for two of them
 pub record IsStaged (limited : Limited) (set : List ℕ) (first second : ℕ) (made : Typed) : Type 0 where

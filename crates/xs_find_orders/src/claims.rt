@@ -10,9 +10,9 @@ ghost use Rattle.xs_check.specs.Fit.{IsCheckable};
 ghost use Rattle.xs_check.specs.Found.{IsJudgedUnlisted};
 ghost use Rattle.xs_loading.specs.LoadedEvents.{case_in};
 ghost use Rattle.xs_words.specs.Sets.{numbers_of};
-ghost use Rattle.xs_reach_status.specs.declared.status.Refusal.{Refusal};
-ghost use Rattle.xs_reach_status.specs.declared.stop.Stop.TheVariants as stop;
-ghost use Rattle.xs_reach_status.specs.Finished.{IsFinished};
+ghost use Rattle.xs_loading.specs.declared.status.Refusal.{Refusal};
+ghost use Rattle.xs_loading.specs.declared.input.Stop.TheVariants as stop;
+ghost use Rattle.xs_loading.specs.Statuses.{IsFinished};
 ghost use Rattle.xs_find_orders.specs.Pairs.{IsAskedPair, IsStagedCase};
 ghost use Rattle.xs_find_orders.specs.Orders.{RefusesCheck, AcceptsOrder, HasCheckedOrder, RefusesFile, AcceptsFile, RefusesClaim, IsAcceptedClaim, claim_in, staged_of, against_of, staged_matter};
 ghost use Rattle.xs_find_orders.specs.Claimed.{staged_in, against_in};
@@ -24,13 +24,13 @@ use xs_cert::Certificate;
 use xs_certificate_file::certificate::{line_stop, load_certificate};
 use xs_check::{Judged, check_unlisted};
 use xs_desk::{Desk, say_whole};
+use xs_loading::input::Stop;
+use xs_loading::status::Status;
 use xs_orders::Relation;
-use xs_reach_status::status::Status;
-use xs_reach_status::stop::Stop;
-use xs_reach_words::CheckOrders;
 use xs_tree::Expr;
 use xs_tree::model::Flat;
 use xs_value::OutOfMemory;
+use xs_words::CheckOrders;
 
 /// Judges a certificate of an order, and says that it is accepted.
 pub fn check_orders<D: Desk>(
@@ -42,6 +42,7 @@ pub fn check_orders<D: Desk>(
         HasCheckedOrder files asked.now.model.now asked.now.faults.now asked.now.top.now
         (numbers_of asked.now.set.now) asked.now.first asked.now.second asked.now.claim.now asked.now.cert.now
         s (D.said desk.old) (D.said desk.new))) }
+    ensures ends { IfOk result (λ s. s ≡ Status.Done) }
     ensures finished { IfOk result IsFinished }
     ensures refused { (r : Refusal) → IsErrOf result (stop.Refused r) →
         IsAskedPair asked.now.set.now asked.now.first asked.now.second → IfSome (D.files desk.old) (λ files.
@@ -153,7 +154,7 @@ fn judge(
     let top = expression(alloc, staged, claim)?;
     match judged(alloc, staged, &top, certificate)? {
         Judged::Yes => Ok(()),
-        Judged::No(line, rule) => Err(Stop::from(line_stop(line, rule))),
+        Judged::No(line, rule) => Err(line_stop(line, rule)),
     }
 }
 

@@ -6,11 +6,12 @@ ghost use Rattle.std.specs.Prelude.{◌≡◌, ◌≤◌, ◌⊎◌, ℕ, Some, 
 ghost use Rattle.xs_desk.specs.Desk.{Rose};
 ghost use Rattle.xs_tree.specs.ModelTree.{flat_tree};
 ghost use Rattle.xs_cuts.specs.declared.answer.End.TheVariants as ends;
+ghost use Rattle.xs_text_laws.specs.Analysis.{told_ending};
 ghost use Rattle.xs_loading.specs.LoadedEvents.{case_in};
 ghost use Rattle.xs_words.specs.Sets.{numbers_of};
-ghost use Rattle.xs_reach_status.specs.declared.status.Refusal.{Refusal};
-ghost use Rattle.xs_reach_status.specs.declared.stop.Stop.TheVariants as stop;
-ghost use Rattle.xs_reach_status.specs.Finished.{IsFinished};
+ghost use Rattle.xs_loading.specs.declared.status.Refusal.{Refusal};
+ghost use Rattle.xs_loading.specs.declared.input.Stop.TheVariants as stop;
+ghost use Rattle.xs_loading.specs.Statuses.{ended_with, IsBoundedAt, IsFinished};
 ghost use Rattle.xs_find_orders.specs.Pairs.{IsAskedPair, RefusesPair, IsStagedCase};
 ghost use Rattle.xs_find_orders.specs.Orders.{CertifiesClaim, HasOrder, OrdersInPart};
 ghost use Rattle.xs_find_orders.specs.Claimed.{IsSearchOf, IsTraceAgainst, IsToldBy, HasClaimCertificate, IsConclusion, ConcludesFrom, relation_in};
@@ -25,11 +26,11 @@ use xs_cert::write;
 use xs_certificate_file::conclusion::{Conclusion, conclude};
 use xs_cuts::answer::End;
 use xs_desk::Desk;
+use xs_loading::input::Stop;
+use xs_loading::status::{Status, ended_as};
 use xs_orders::Relation;
-use xs_reach_status::status::{Status, ended_as};
-use xs_reach_status::stop::Stop;
-use xs_reach_words::FindOrders;
 use xs_value::{ByteList, Ending, MomentList, OutOfMemory, TraceList};
+use xs_words::FindOrders;
 
 /// Searches for the order of the two faults, writes a certificate of a complete answer, and says the line of the pair.
 pub fn find_orders<D: Desk>(
@@ -43,6 +44,7 @@ pub fn find_orders<D: Desk>(
         (numbers_of asked.now.set.now) asked.now.first asked.now.second asked.now.depth asked.now.cert.now
         s (D.files desk.old) (D.files desk.new) (D.said desk.old) (D.said desk.new))) }
     ensures finished { IfOk result IsFinished }
+    ensures depth { IfOk result (IsBoundedAt asked.now.depth) }
     ensures refused { (r : Refusal) → IsErrOf result (stop.Refused r) →
         IsAskedPair asked.now.set.now asked.now.first asked.now.second → IfSome (D.files desk.old) (λ files.
         RefusesPair files asked.now.model.now asked.now.faults.now asked.now.top.now (numbers_of asked.now.set.now) asked.now.first asked.now.second r) }
@@ -73,6 +75,7 @@ fn prepare<D: Desk>(
     ensures ok { IfOk result (λ k. IsAskedPair asked.now.set.now asked.now.first asked.now.second → IfSome (D.files desk.old) (λ files.
         ConcludesFrom files asked.now.model.now asked.now.faults.now asked.now.top.now
         (numbers_of asked.now.set.now) asked.now.first asked.now.second asked.now.depth k)) }
+    ensures depth { IfOk result (λ k. IsBoundedAt asked.now.depth (ended_with (told_ending k.ending))) }
     ensures refused { (r : Refusal) → IsErrOf result (stop.Refused r) →
         IsAskedPair asked.now.set.now asked.now.first asked.now.second → IfSome (D.files desk.old) (λ files.
         RefusesPair files asked.now.model.now asked.now.faults.now asked.now.top.now (numbers_of asked.now.set.now) asked.now.first asked.now.second r) }

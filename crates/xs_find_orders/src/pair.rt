@@ -11,33 +11,29 @@ ghost use Rattle.xs_orders.specs.Stage.{stage as stage_of};
 ghost use Rattle.xs_reach_laws.specs.Laws.{IsFaultNumber};
 ghost use Rattle.xs_words.specs.Sets.{numbers_of};
 ghost use Rattle.xs_loading.specs.declared.input.Input.TheVariants as input;
-ghost use Rattle.xs_loading.specs.declared.status.InputFault.{InputFault as SharedFault};
+ghost use Rattle.xs_loading.specs.declared.status.InputFault.{InputFault};
 ghost use Rattle.xs_loading.specs.Inputs.{stop_at};
 ghost use Rattle.xs_loading.specs.Wholes.{BreaksKinds};
 ghost use Rattle.xs_loading.specs.LoadedEvents.{case_in};
 ghost use Rattle.xs_loading.specs.Cases.{HoldsCase};
-ghost use Rattle.xs_reach_status.specs.declared.status.Refusal.{Refusal};
-ghost use Rattle.xs_reach_status.specs.declared.stop.Stop.TheVariants as stops;
-ghost use Rattle.xs_reach_status.specs.Statuses.{stop_of};
-ghost use Rattle.xs_find_orders.specs.Pairs.{ChecksAskPairs, OrdersAskPairs, IsPair, IsAsked, IsFirstOutside, outside_refusal, stage_refusal, RefusesStage, RefusesAsked, IsStaged, IsStagedCase};
+ghost use Rattle.xs_loading.specs.declared.status.Refusal.{Refusal};
+ghost use Rattle.xs_loading.specs.declared.input.Stop.TheVariants as stops;
+ghost use Rattle.xs_find_orders.specs.Pairs.{IsPair, IsAsked, IsFirstOutside, outside_refusal, stage_refusal, RefusesStage, RefusesAsked, IsStaged, IsStagedCase};
 
 use std::alloc::Global;
 use xs_check::is_fault;
 use xs_desk::Desk;
 use xs_loading::event::LoadedEvent;
-use xs_loading::input::Input;
+use xs_loading::input::{Input, Stop};
 use xs_loading::loaded::{Limited, load_case, typed_whole};
 use xs_loading::model::load_model;
-use xs_loading::status as shared;
+use xs_loading::status::{InputFault, Part, Refusal};
 use xs_loading::top::load_top;
 use xs_loading::wrong::Wrong;
 use xs_orders::stage;
-use xs_reach_status::status::{InputFault, Part, Refusal};
-use xs_reach_status::stop::Stop;
 use xs_sets::has_number;
 use xs_tree::model::FaultList;
 use xs_types::Typed;
-use xs_words::WordFault;
 use xs_words::set::set_numbers;
 
 /// The files of a model and its instructions, and the words of a top event, a set of faults, and two of its numbers.
@@ -64,12 +60,6 @@ pub struct StagedCase<'a> {
 
 /// Lets a staged case go. Its expressions are taken apart here, once for all that had it.
 pub(crate) fn discard_case(_staged: StagedCase<'_>) {}
-
-/// The words of an order, or of a check of one, always ask for two numbers of a set.
-pub fn words_ask_pairs()
-    ensures orders { OrdersAskPairs }
-    ensures checks { ChecksAskPairs }
-{}
 
 /// The extension of two files, staged for two faults of a set, with a top event.
 pub(crate) fn load_pair<'a, D: Desk>(
@@ -124,7 +114,7 @@ fn judge_pair(set: &[u32], first: u32, second: u32) -> Result<(), Stop>
     if is_pair(set, first, second) {
         return Ok(());
     }
-    Err(Stop::Refused(Refusal::Words(WordFault::NotInSet { at: 0 })))
+    Err(set_stop(0))
 }
 
 /// Whether the two numbers are different ones of the set.
@@ -167,7 +157,7 @@ fn staged_model(alloc: Global, limited: &Limited, first: u32, second: u32) -> Re
     ensures ok { IfOk result (λ t. (model_tree t.model ≡ stage_of (model_tree limited.now.typed.model) (map mode_of limited.now.faults) first second)
         × IsTyped (model_tree t.model)) }
     ensures refused { (r : Refusal) → IsErrOf result (stops.Refused r) →
-        (fault : SharedFault) × (r ≡ stage_refusal fault)
+        (fault : InputFault) × (r ≡ stage_refusal fault)
         × BreaksKinds (stage_of (model_tree limited.now.typed.model) (map mode_of limited.now.faults) first second) fault }
     ensures desk { IsErrOf result stops.Desk → ⊥ }
 {
@@ -180,9 +170,9 @@ fn staged_model(alloc: Global, limited: &Limited, first: u32, second: u32) -> Re
 
 /// The end of the work where this is wrong with a staged model.
 fn stage_stop(wrong: Wrong) -> Stop
-    ensures { result ≡ stop_of (stop_at input.Faults wrong) }
+    ensures { result ≡ stop_at input.Faults wrong }
 {
-    Stop::from(Input::Faults.stop(wrong))
+    Input::Faults.stop(wrong)
 }
 
 /// Refuses a set with a number that is none of a fault, by the position of the first such number, from 1.
@@ -205,7 +195,7 @@ fn set_stop(position: u64) -> Stop
     ensures { result ≡ stops.Refused (outside_refusal position) }
 {
     Stop::Refused(Refusal::Set(InputFault {
-        part: Part::Shared(shared::Part::Count),
+        part: Part::Count,
         number: 1,
         place: position,
     }))

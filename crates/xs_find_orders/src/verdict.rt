@@ -83,7 +83,7 @@ fn cut_moment(alloc: Global, moment: &Valuation, variables: usize) -> Result<Val
 }
 
 /// The report of a claim that holds: the line of the pair.
-#[tactic(auto, using(xs_reach_status::proofs::TextLaws::text_rules))]
+#[tactic(auto, using(xs_loading::proofs::ReportLaws::report_rules))]
 pub(crate) fn report_claim(
     alloc: Global,
     staged: &StagedCase,
@@ -100,7 +100,7 @@ pub(crate) fn report_claim(
 }
 
 /// The report of two traces that differ: the line of the pair, and their texts.
-#[tactic(auto, using(xs_reach_status::proofs::TextLaws::text_rules))]
+#[tactic(auto, using(xs_loading::proofs::ReportLaws::report_rules))]
 pub(crate) fn report_either(
     alloc: Global,
     staged: &StagedCase,
@@ -126,7 +126,7 @@ pub(crate) fn report_either(
 }
 
 /// Appends two traces, each under its number.
-#[tactic(auto, using(xs_reach_status::proofs::TextLaws::text_rules))]
+#[tactic(auto, using(xs_loading::proofs::ReportLaws::report_rules))]
 fn append_traces(
     alloc: Global,
     text: &mut ByteList,
@@ -157,7 +157,7 @@ fn append_trace(
 }
 
 /// The word of the pair with its two numbers.
-#[tactic(auto, using(xs_reach_status::proofs::TextLaws::text_rules))]
+#[tactic(auto, using(xs_loading::proofs::ReportLaws::report_rules))]
 fn pair(alloc: Global, first: u32, second: u32) -> Result<ByteList, OutOfMemory>
     ensures { IfOk result (λ text. text ≡ codes "pair " ++ (decimal first ++ (codes " " ++ (decimal second ++ codes " ")))) }
 {
@@ -168,7 +168,7 @@ fn pair(alloc: Global, first: u32, second: u32) -> Result<ByteList, OutOfMemory>
 }
 
 /// Appends a number, and a space after it.
-#[tactic(auto, using(xs_reach_status::proofs::TextLaws::text_rules))]
+#[tactic(auto, using(xs_loading::proofs::ReportLaws::report_rules))]
 fn append_number(alloc: Global, text: &mut ByteList, number: u32) -> Result<(), OutOfMemory>
     ensures { OnOk result (text.new ≡ text.old ++ (decimal number ++ codes " ")) }
 {
@@ -189,7 +189,7 @@ fn claim_name(claim: Option<Relation>) -> &'static [u8]
 }
 
 /// Ends the line: where the search was bounded it says how far it went, and over how many bits.
-#[tactic(auto, using(xs_reach_status::proofs::TextLaws::text_rules))]
+#[tactic(auto, using(xs_loading::proofs::ReportLaws::report_rules))]
 fn append_reach(
     alloc: Global,
     text: &mut ByteList,
@@ -205,7 +205,7 @@ fn append_reach(
 }
 
 /// Appends so many steps, over so many bits.
-#[tactic(auto, using(xs_reach_status::proofs::TextLaws::text_rules))]
+#[tactic(auto, using(xs_loading::proofs::ReportLaws::report_rules))]
 fn append_steps(
     alloc: Global,
     text: &mut ByteList,

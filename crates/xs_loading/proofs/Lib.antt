@@ -26,3 +26,4 @@ pub mod TopLaws
 pub mod TopLemmas
 pub mod LoadedLaws
 pub mod EventLemmas
+pub mod StopLaws

@@ -2,6 +2,8 @@
 use Rattle.std.specs.Prelude.{ℕ, ◌≡◌, ◌⊎◌, ◌≤◌, ◌<◌, List, [], ◌∷◌, ◌++◌, length, map, Some, None}
 use Rattle.xs_desk.specs.declared.files.NamedFile.{NamedFile}
 use Rattle.xs_desk.specs.Files.{file_of, content_of}
+use Rattle.xs_desk.specs.declared.desk.WriteStop.{WriteStop}
+use Rattle.xs_desk.specs.declared.desk.WriteStop.TheVariants as write_stop
 use Rattle.xs_tree.specs.ProgramTree.{Text, Path, ProgramTree}
 use Rattle.xs_tree.specs.Text.{program_text}
 use Rattle.xs_expression_reader.specs.declared.fault.ParseFault.{ParseFault}
@@ -48,6 +50,11 @@ refusal_at input.Faults fault = refusal.Faults fault
 abbrev pub stop_at : Input → Wrong → Stop
 stop_at i (wrong.Refused fault) = stop.Refused (refusal_at i fault)
 stop_at i wrong.Memory = stop.Memory
+
+-- why it can't where the writing does not
+abbrev pub stop_of_write : WriteStop → Stop
+stop_of_write write_stop.Failed = stop.Desk
+stop_of_write write_stop.OutOfMemory = stop.Memory
 
 -- the file is not there, or it has more than 1,048,576 bytes
 abbrev pub IsRefusedFile : List NamedFile → Text → InputFault → Type 0

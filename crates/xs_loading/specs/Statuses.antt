@@ -1,7 +1,8 @@
 -- How a run ends: its number, and the line that a refusal says.
-use Rattle.std.specs.Prelude.{ℕ, ℤ, pos, ◌++◌, codes}
+use Rattle.std.specs.Prelude.{◌≡◌, ℕ, ℤ, pos, ◌++◌, codes}
 use Rattle.std.specs.Fmt.{decimal}
 use Rattle.xs_tree.specs.ProgramTree.{Text}
+use Rattle.xs_text_laws.specs.Analysis.{Ending, complete, bounded}
 use Rattle.xs_words.specs.declared.fault.WordFault.{WordFault}
 use Rattle.xs_words.specs.Seen.{rule_of, place_of}
 use Rattle.xs_loading.specs.declared.status.Part.{Part}
@@ -26,14 +27,38 @@ number_of (status.Top fault) = pos 5
 number_of (status.NotAccepted o) = pos 6
 number_of status.Desk = pos 7
 number_of status.Memory = pos 8
+number_of (status.Causes fault) = pos 9
+number_of (status.Set fault) = pos 10
+
+-- a status that is neither a failure of the desk nor want of memory
+abbrev pub IsAnswer : Status → Type 0
+IsAnswer status.Desk = ⊥
+IsAnswer status.Memory = ⊥
+IsAnswer _ = Unit {0}
+
+-- the work is done, for all traces or for those of at most so many steps
+abbrev pub IsFinished : Status → Type 0
+IsFinished status.Done = Unit {0}
+IsFinished (status.Bounded k) = Unit {0}
+IsFinished _ = ⊥
+
+-- where the status is bounded, it is so by this depth
+abbrev pub IsBoundedAt : ℕ → Status → Type 0
+IsBoundedAt depth s = (k : ℕ) → s ≡ status.Bounded k → k ≡ depth
+
+-- a run ends done where its analysis is complete, and else bounded
+abbrev pub ended_with : Ending → Status
+ended_with complete = status.Done
+ended_with (bounded k) = status.Bounded k
 
 -- the status that a run ends with after a refusal
 abbrev pub status_of : Refusal → Status
-status_of (refusal.Words fault) = status.Words fault
 status_of (refusal.Model fault) = status.Model fault
 status_of (refusal.Faults fault) = status.Faults fault
 status_of (refusal.Top fault) = status.Top fault
 status_of (refusal.NotAccepted o) = status.NotAccepted o
+status_of (refusal.Causes fault) = status.Causes fault
+status_of (refusal.Set fault) = status.Set fault
 
 -- the part as the line names it
 abbrev pub part_text : Part → Text
@@ -47,6 +72,8 @@ part_text part.Weave = codes "weave "
 part_text part.Effect = codes "effect "
 part_text part.Count = codes "count "
 part_text part.Read = codes "read "
+part_text part.Mark = codes "mark "
+part_text part.Cause = codes "cause "
 
 -- the number of a rule and a place, with a line feed
 abbrev pub rule_text : ℕ → ℕ → Text
@@ -56,9 +83,9 @@ rule_text number place = decimal number ++ (codes " at " ++ (decimal place ++ co
 abbrev pub fault_text : InputFault → Text
 fault_text fault = part_text fault.part ++ rule_text fault.number fault.place
 
--- the number of the rule that words break, and the place
+-- the one line of refused words: the number of the rule that they break, and the place
 abbrev pub words_text : WordFault → Text
-words_text fault = rule_text (rule_of fault) (place_of fault)
+words_text fault = codes "refused words " ++ rule_text (rule_of fault) (place_of fault)
 
 -- why a moment is not accepted
 abbrev pub why_text : Why → Text
@@ -76,7 +103,6 @@ line_text line rule = codes "not accepted line " ++ (decimal line ++ (codes " ru
 
 -- the one line of a refusal
 abbrev pub refusal_text : Refusal → Text
-refusal_text (refusal.Words fault) = codes "refused words " ++ words_text fault
 refusal_text (refusal.Model fault) = codes "refused model " ++ fault_text fault
 refusal_text (refusal.Faults fault) = codes "refused faults " ++ fault_text fault
 refusal_text (refusal.Top fault) = codes "refused top " ++ fault_text fault
@@ -84,6 +110,8 @@ refusal_text (refusal.NotAccepted (objection.Trace fault)) = codes "refused trac
 refusal_text (refusal.NotAccepted (objection.Cert fault)) = codes "refused cert " ++ fault_text fault
 refusal_text (refusal.NotAccepted (objection.Moment i w)) = moment_text i w
 refusal_text (refusal.NotAccepted (objection.Line line rule)) = line_text line rule
+refusal_text (refusal.Causes fault) = codes "refused causes " ++ fault_text fault
+refusal_text (refusal.Set fault) = codes "refused set " ++ fault_text fault
 
 -- the file is not there
 abbrev pub absent : InputFault

@@ -3,7 +3,7 @@
 
 ghost use Rattle.std.specs.Prelude.{◌≡◌, ◌≤◌, length, IfOk, IfSome, IsErrOf};
 ghost use Rattle.xs_desk.specs.Desk.{Rose};
-ghost use Rattle.xs_loading.specs.Inputs.{refusal_at, stop_at, IsRefusedFile, HasBytes};
+ghost use Rattle.xs_loading.specs.Inputs.{refusal_at, stop_at, stop_of_write, IsRefusedFile, HasBytes};
 ghost use Rattle.xs_loading.specs.declared.status.InputFault.{InputFault};
 ghost use Rattle.xs_loading.specs.declared.status.Refusal.{Refusal};
 ghost use Rattle.xs_loading.specs.declared.input.Stop.TheVariants as stop;
@@ -11,7 +11,7 @@ ghost use Rattle.xs_loading.specs.declared.input.Stop.TheVariants as stop;
 use crate::status::{InputFault, Part, Refusal};
 use crate::wrong::Wrong;
 use std::alloc::Global;
-use xs_desk::{Desk, DeskFault, read_whole};
+use xs_desk::{Desk, DeskFault, WriteStop, read_whole};
 use xs_value::OutOfMemory;
 
 /// The limit of an input file, in bytes.
@@ -37,6 +37,17 @@ impl From<OutOfMemory> for Stop {
 
     fn from(_: OutOfMemory) -> Stop {
         Stop::Memory
+    }
+}
+
+impl From<WriteStop> for Stop {
+    ghost from_gives = { λ given made. made ≡ stop_of_write given };
+
+    fn from(stop: WriteStop) -> Stop {
+        match stop {
+            WriteStop::Failed => Stop::Desk,
+            WriteStop::OutOfMemory => Stop::Memory,
+        }
     }
 }
 

@@ -2,8 +2,9 @@
 //!
 //! [`model::load_model`] reads the file of a model, [`loaded::load_case`] that of its instructions, and [`top::load_top`] the word
 //! of a top event; [`event::load_event`] is the three together. Each gives what it has read in memory, or why the work can't go
-//! on: the first refusal, a call of the desk that failed, or want of memory. The verbs of both calls stand above, `xs_run` and
-//! the crates `xs_find_odds`, `xs_find_causes` and `xs_find_orders`; no crate of the search and no checker stands below.
+//! on: the first refusal, a call of the desk that failed, or want of memory. The verbs stand above, in `xs_run` and the crates
+//! `xs_find_odds`, `xs_find_causes` and `xs_find_orders`; no crate of the search and no checker stands below. How a run of any
+//! of them ends, and what each refusal says, stands here, in `status`.
 //!
 //! What is wrong with a file and what it holds stands in `specs/Inputs.antt`, cases and top events in `specs/Cases.antt`, what is
 //! in memory in `specs/Loaded.antt` and `specs/LoadedEvents.antt`, the numbers and lines of refusals in `specs/Wrongs.antt` and
@@ -12,7 +13,7 @@
 //! The files stand in the order of the work: `input` (a file's bytes), `model` (program, flat model, kinds), `faults`
 //! (instructions, the weave, the limits of the whole, as a text that is written), `report` (the names of faults), `loaded` (the
 //! same, with the flat model in memory), `top` (the top event) and `event` (model, extension and top event together). `wrong`
-//! and `status` have what each refusal says.
+//! has what each refusal tells.
 //!
 //! ```text
 //! let model = load_model(alloc, desk, "lamp.smv")?;

@@ -1,11 +1,12 @@
-// How a run ends ([`Status`]), with which number, and the line that a refusal says ([`Refusal::line`]). Each line is made
+// How a run ends ([`Status`]), with which number, and the line that a refusal says ([`Refusal::line`], [`words_line`]). Each line is made
 // of fixed words and numbers alone, so that nothing of a file's text gets into it.
 
-ghost use Rattle.std.specs.Prelude.{◌≡◌, ◌≤ℤ◌, pos, ◌++◌, IfOk, OnOk, codes};
-ghost use Rattle.xs_loading.specs.Statuses.{number_of, status_of, part_text, rule_text, fault_text, words_text, refusal_text, why_text, moment_text, line_text};
+ghost use Rattle.std.specs.Prelude.{◌≡◌, ◌≤ℤ◌, pos, ◌++◌, IfOk, OnOk};
+ghost use Rattle.xs_text_laws.specs.Analysis.{told_ending};
+ghost use Rattle.xs_loading.specs.Statuses.{ended_with, IsFinished, number_of, status_of, part_text, rule_text, fault_text, words_text, refusal_text, why_text, moment_text, line_text};
 
 use std::alloc::Global;
-use xs_value::{ByteList, OutOfMemory};
+use xs_value::{ByteList, Ending, OutOfMemory};
 use xs_words::WordFault;
 
 /// What is wrong with an input: how far the work on it came.
@@ -31,12 +32,17 @@ pub enum Part {
     Count,
     /// The text gives no trace, or spells no certificate.
     Read,
+    /// The mark of a mode is absent, or no probability.
+    Mark,
+    /// A rule of common causes is broken.
+    Cause,
 }
 
 /// Why an input is refused: the part, its rule's number, and the place. The place is a byte, counted from
 /// 0, where the text is wrong; the limit in bytes, where it is too long; and an item of the program or of the
 /// instructions, counted from 1 in written order, where a rule is broken. In the text of a trace or a certificate it
-/// is a line, counted from 1, or for a value that is missing a moment, counted from 0. It is 0 where it says nothing.
+/// is a line, counted from 1, or for a value that is missing a moment, counted from 0. A cause's is its number, and a set's the
+/// position of a number in it, each counted from 1. It is 0 where it says nothing.
 #[derive(Clone, Copy, Debug, PartialEq, Eq)]
 pub struct InputFault {
     pub part: Part,
@@ -63,14 +69,15 @@ pub enum Objection {
     Line(u64, u32),
 }
 
-/// What is refused, each with its one line.
+/// What is refused of what words name, each with its one line. Words that mean no command are refused by [`words_line`].
 #[derive(Clone, Copy, Debug, PartialEq, Eq)]
 pub enum Refusal {
-    Words(WordFault),
     Model(InputFault),
     Faults(InputFault),
     Top(InputFault),
     NotAccepted(Objection),
+    Causes(InputFault),
+    Set(InputFault),
 }
 
 /// How a run ends.
@@ -94,13 +101,17 @@ pub enum Status {
     Desk,
     /// There was no memory.
     Memory,
+    /// The common causes are refused.
+    Causes(InputFault),
+    /// The set of faults is refused.
+    Set(InputFault),
 }
 
 impl Status {
-    /// The number that the program ends with, from 0 to 8.
+    /// The number that the program ends with, from 0 to 10.
     pub fn number(&self) -> i32
         ensures number { result ≡ number_of self.now }
-        ensures within { (pos 0 ≤ℤ result) × (result ≤ℤ pos 8) }
+        ensures within { (pos 0 ≤ℤ result) × (result ≤ℤ pos 10) }
     {
         match self {
             Status::Done => 0,
@@ -112,7 +123,20 @@ impl Status {
             Status::NotAccepted(_) => 6,
             Status::Desk => 7,
             Status::Memory => 8,
+            Status::Causes(_) => 9,
+            Status::Set(_) => 10,
         }
+    }
+}
+
+/// The status of a run whose analysis ends so.
+pub fn ended_as(ending: Ending) -> Status
+    ensures ends { result ≡ ended_with (told_ending ending) }
+    ensures finished { IsFinished result }
+{
+    match ending {
+        Ending::Complete => Status::Done,
+        Ending::Bounded(k) => Status::Bounded(k),
     }
 }
 
@@ -122,11 +146,12 @@ impl Refusal {
         ensures { result ≡ status_of self }
     {
         match self {
-            Refusal::Words(fault) => Status::Words(fault),
             Refusal::Model(fault) => Status::Model(fault),
             Refusal::Faults(fault) => Status::Faults(fault),
             Refusal::Top(fault) => Status::Top(fault),
             Refusal::NotAccepted(objection) => Status::NotAccepted(objection),
+            Refusal::Causes(fault) => Status::Causes(fault),
+            Refusal::Set(fault) => Status::Set(fault),
         }
     }
 
@@ -135,7 +160,6 @@ impl Refusal {
         ensures { IfOk result (λ line. line ≡ refusal_text self) }
     {
         match self {
-            Refusal::Words(fault) => words_line(alloc, fault),
             Refusal::Model(fault) => fault_line(alloc, b"refused model ", fault),
             Refusal::Faults(fault) => fault_line(alloc, b"refused faults ", fault),
             Refusal::Top(fault) => fault_line(alloc, b"refused top ", fault),
@@ -149,13 +173,15 @@ impl Refusal {
                 moment_line(alloc, number, why)
             }
             Refusal::NotAccepted(Objection::Line(line, rule)) => broken_line(alloc, line, rule),
+            Refusal::Causes(fault) => fault_line(alloc, b"refused causes ", fault),
+            Refusal::Set(fault) => fault_line(alloc, b"refused set ", fault),
         }
     }
 }
 
-/// The line of refused words.
+/// The line of refused words, with its line feed.
 pub fn words_line(alloc: Global, fault: WordFault) -> Result<ByteList, OutOfMemory>
-    ensures { IfOk result (λ line. line ≡ codes "refused words " ++ words_text fault) }
+    ensures { IfOk result (λ line. line ≡ words_text fault) }
 {
     let place = u64::from(fault.place());
     refusal_line(alloc, b"refused words ", b"", fault.number(), place)
@@ -207,7 +233,7 @@ fn why_name(why: Why) -> &'static [u8]
 }
 
 /// The line of a refusal: its beginning, the name of a part, the rule's number and the place.
-pub fn refusal_line(
+fn refusal_line(
     alloc: Global,
     begin: &[u8],
     part: &[u8],
@@ -236,7 +262,7 @@ fn append_place(
 }
 
 /// The part as the line names it, with a space after it.
-pub fn part_name(part: Part) -> &'static [u8]
+fn part_name(part: Part) -> &'static [u8]
     ensures { result.now ≡ part_text part }
 {
     match part {
@@ -250,5 +276,7 @@ pub fn part_name(part: Part) -> &'static [u8]
         Part::Effect => b"effect ",
         Part::Count => b"count ",
         Part::Read => b"read ",
+        Part::Mark => b"mark ",
+        Part::Cause => b"cause ",
     }
 }

@@ -23,7 +23,7 @@ use Rattle.xs_run.specs.Analyses.{AreWritten, HasAnalysed}
 use Rattle.xs_report_laws.specs.ExtendedTraces.{Ending, complete, bounded}
 use Rattle.xs_run.specs.Headline.{IsComplete, IsBounded}
 use Rattle.xs_run.specs.Runs.{Outcome, AnalysisComesTo, refuses_event, is_analysed, CommandComesTo, Means, refuses_words, asked, IsAnswer, IsDelivered, HasAnswered}
-use Rattle.xs_run.proofs.ExtensionLemmas.{never_done}
+use Rattle.xs_run.proofs.ExtensionLemmas.{never_done, refused_not_asked}
 use Rattle.xs_run.proofs.HeadlineLaws.{answers_are_the_headline}
 
 -- Two files of different options have different names.
@@ -55,11 +55,12 @@ files_differ words model faults top depth extended cert size asks same = by_verb
 
 -- no refusal ends as bounded
 pub never_bounded : (r : Refusal) (k : ℕ) → status.Bounded k ≡ status_of r → ⊥
-never_bounded (refusal.Words fault) k e = cc
 never_bounded (refusal.Model fault) k e = cc
 never_bounded (refusal.Faults fault) k e = cc
 never_bounded (refusal.Top fault) k e = cc
 never_bounded (refusal.NotAccepted o) k e = cc
+never_bounded (refusal.Causes fault) k e = cc
+never_bounded (refusal.Set fault) k e = cc
 
 -- the files that stand are told
 written_told : (c : Case) (files : List NamedFile) (after : Option (List NamedFile)) (s : Status) (word : Text) (depth size : ℕ) (extended cert : Text) (said now : Option (List ℕ)) →
@@ -80,7 +81,7 @@ module _ (files : List NamedFile) (after : Option (List NamedFile)) (said now : 
 
   means_analysed : (s : Status) (o : Outcome) → ((r : Refusal) → s ≡ status_of r → ⊥) → Means files words o → IsDelivered o s (Some files) after said now →
       (c : Case) × HoldsCase files model faults c × HasAnalysed c top depth (size_for size (length c.faults)) extended cert s (Some files) after said now
-  means_analysed s o never (refuses_words r refused) stands = absurd (never r stands.0)
+  means_analysed s o never (refuses_words f refused) stands = absurd (refused_not_asked words f (analyse model faults top depth extended cert size) refused asks)
   means_analysed s o never (asked d o' named comes) stands =
       comes_analysed s o' never (subst (λ e. CommandComesTo files e o') (one_command words d (analyse model faults top depth extended cert size) named asks) comes) stands
 

@@ -15,7 +15,7 @@ use Rattle.xs_loading.specs.Events.{RefusesEvent}
 use Rattle.xs_loading.specs.LoadedEvents.{case_in, IsEvent}
 use Rattle.xs_run.specs.Certificates.{CertRefuses, CertSays, no_event, its_certificate, IsChecked}
 use Rattle.xs_run.specs.Runs.{Outcome, refuses, says, CheckComesTo, refuses_check, is_checked, CommandComesTo, Means, refuses_words, asked, IsAnswer, IsDelivered, HasAnswered}
-use Rattle.xs_run.proofs.ExtensionLemmas.{never_done}
+use Rattle.xs_run.proofs.ExtensionLemmas.{never_done, refused_not_asked}
 use Rattle.xs_run.proofs.CertificateLaws.{checked_is_right}
 
 module _ (model faults top cert : Text) where
@@ -49,7 +49,7 @@ module _ (files : List NamedFile) (model faults top cert : Text) (s : Status) (a
 
   means_checked : (words : List Text) (o : Outcome) → Means files words o → AsksToCheck words model faults top cert → IsDelivered o s (Some files) after said now →
       IsChecked files said now model faults top cert × (after ≡ Some files)
-  means_checked words o (refuses_words r refused) asks stands = absurd (never_done r (sym done ∙ stands.0))
+  means_checked words o (refuses_words f refused) asks stands = absurd (refused_not_asked words f (check model faults top cert) refused asks)
   means_checked words o (asked c o' named comes) asks stands =
       comes_checked o' (subst (λ d. CommandComesTo files d o') (one_command words c (check model faults top cert) named asks) comes) stands
 

@@ -19,11 +19,12 @@ use Rattle.xs_loading.specs.declared.status.Status.{Status}
 use Rattle.xs_loading.specs.declared.status.Status.TheVariants as status
 use Rattle.xs_loading.specs.Statuses.{status_of}
 use Rattle.xs_words.specs.Commands.{Command, extend}
-use Rattle.xs_words.specs.Meaning.{Means as WordsMean}
+use Rattle.xs_words.specs.Meaning.{Means as WordsMean, BreaksFirst}
 use Rattle.xs_words.specs.Seen.{rule_of, place_of}
+use Rattle.xs_words.specs.declared.fault.WordFault.{WordFault}
 use Rattle.xs_words.proofs.SeenLemmas.{same_fault}
 use Rattle.xs_words.proofs.ReadingLaws.{one_command, one_fault, commands_have_no_fault}
-use Rattle.xs_run.specs.Asked.{AsksToExtend, RefusesWords, wrong_words}
+use Rattle.xs_run.specs.Asked.{AsksToExtend, RefusesWords}
 use Rattle.xs_loading.specs.Inputs.{HoldsModel, HoldsFaults}
 use Rattle.xs_run.specs.Runs.{Outcome, ComesTo, refuses_model, refuses_faults, is_extended, Means, refuses_words, asked, IsAnswer, IsDelivered, HasAnswered, CommandComesTo}
 use Rattle.xs_run.specs.Extension.{IsExtended}
@@ -31,20 +32,23 @@ use Rattle.xs_loading.proofs.WovenSpells.{woven_text_spells}
 
 -- no refusal ends as done
 pub never_done : (r : Refusal) → status.Done ≡ status_of r → ⊥
-never_done (refusal.Words fault) e = cc
 never_done (refusal.Model fault) e = cc
 never_done (refusal.Faults fault) e = cc
 never_done (refusal.Top fault) e = cc
 never_done (refusal.NotAccepted o) e = cc
+never_done (refusal.Causes fault) e = cc
+never_done (refusal.Set fault) e = cc
 
 -- words that are refused ask for nothing
-pub refused_not_asked : (words : List Text) (r : Refusal) (c : Command) → RefusesWords words r → WordsMean words c → ⊥
-refused_not_asked words r c (wrong_words f broken) means = commands_have_no_fault words c (rule_of f) (place_of f) means broken
+pub refused_not_asked : (words : List Text) (f : WordFault) (c : Command) → RefusesWords words f → WordsMean words c → ⊥
+refused_not_asked words f c broken means = commands_have_no_fault words c (rule_of f) (place_of f) means broken
+
+pub words_not_asked : {P : Type 0} (words : List Text) (c : Command) (rule place : ℕ) → WordsMean words c → BreaksFirst words rule place → P
+words_not_asked words c rule place means broken = absurd (commands_have_no_fault words c rule place means broken)
 
 -- and they are refused once
-pub one_refused_words : (words : List Text) (r s : Refusal) → RefusesWords words r → RefusesWords words s → r ≡ s
-one_refused_words words r s (wrong_words f broken) (wrong_words g also) =
-    let one = one_fault words (rule_of f) (place_of f) (rule_of g) (place_of g) broken also in ap (λ h. refusal.Words h) (same_fault f g one.0 one.1)
+pub one_refused_words : (words : List Text) (f g : WordFault) → RefusesWords words f → RefusesWords words g → f ≡ g
+one_refused_words words f g broken also = let one = one_fault words (rule_of f) (place_of f) (rule_of g) (place_of g) broken also in same_fault f g one.0 one.1
 
 -- bytes spell one program
 one_text : (bytes : List ℕ) (p q : ProgramTree) → BytesSpellProgram bytes p → BytesSpellProgram bytes q → p ≡ q
@@ -89,7 +93,7 @@ comes_extended files model faults extended o s after said now (is_extended p tex
 
 means_extended : (files : List NamedFile) (words : List Text) (model faults extended : Text) (o : Outcome) (s : Status) (after : Option (List NamedFile)) (said now : Option (List ℕ)) → Means files words o →
     AsksToExtend words model faults extended → IsDelivered o s (Some files) after said now → s ≡ status.Done → IsSomeAnd after (λ new. IsExtended files new said now model faults extended)
-means_extended files words model faults extended o s after said now (refuses_words r refused) asks stands done = absurd (never_done r (sym done ∙ stands.0))
+means_extended files words model faults extended o s after said now (refuses_words f refused) asks stands done = absurd (refused_not_asked words f (extend model faults extended) refused asks)
 means_extended files words model faults extended o s after said now (asked c o' named comes) asks stands done =
     comes_extended files model faults extended o' s after said now (subst (λ d. CommandComesTo files d o') (one_command words c (extend model faults extended) named asks) comes) stands done
 

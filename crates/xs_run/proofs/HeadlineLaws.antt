@@ -6,9 +6,12 @@ use Rattle.std.proofs.lemmas.Slice.Eq.{bytes_eq-Decides}
 use Rattle.xs_desk.specs.declared.files.NamedFile.{NamedFile}
 use Rattle.xs_desk.specs.Files.{file_of, with_file}
 use Rattle.xs_desk.proofs.Writing.{file_of-with_file}
-use Rattle.xs_tree.specs.ProgramTree.{Text}
+use Rattle.xs_tree.specs.ProgramTree.{Text, Formula}
 use Rattle.xs_weave.proofs.WovenNominal.{woven_extends}
-use Rattle.xs_report_laws.specs.ExtendedTraces.{Ending, complete, bounded}
+use Rattle.xs_weave.specs.Extended.{Moment, IsExtended, Reaches}
+use Rattle.xs_right_laws.proofs.Minimal.{right_sets_minimal}
+use Rattle.xs_certificate_laws.specs.ExtendedTraces.{HasFailedFault, IsRightExtended}
+use Rattle.xs_report_laws.specs.ExtendedTraces.{Ending, complete, bounded, Analysis, IsOfClass, IsAnalysisOf}
 use Rattle.xs_loading.specs.declared.status.Status.{Status}
 use Rattle.xs_loading.specs.declared.status.Status.TheVariants as status
 use Rattle.xs_loading.specs.Cases.{Case, HoldsCase}
@@ -16,7 +19,7 @@ use Rattle.xs_loading.specs.Answered.{Said}
 use Rattle.xs_run.specs.AnswerTexts.{extension_text}
 use Rattle.xs_case_search.specs.Found.{size_for, HasChain, EndsBy}
 use Rattle.xs_run.specs.Analyses.{ended_with, Certifies, AreWritten, HasAnalysed}
-use Rattle.xs_run.specs.Headline.{IsAnalysed, IsComplete, IsBounded, AnswersAreTheHeadline}
+use Rattle.xs_run.specs.Headline.{IsAnalysed, AreMinimal, IsComplete, IsBounded, AnswersAreTheHeadline}
 use Rattle.xs_loading.proofs.WovenSpells.{woven_text_spells}
 
 different : (a b : Text) → (a ≡ b → ⊥) → bytes_eq a b ≡ false
@@ -42,6 +45,14 @@ other_file (file ∷ files) name other bytes n = by_name (bytes_eq file.name nam
 
 some_same : (a b : List NamedFile) → Some a ≡ Some b → a ≡ b
 some_same a b e = cc
+
+-- the sets of a complete analysis are the minimal cut sets
+sets_are_minimal : (c : Case) (event : Formula) (size : ℕ) (a : Analysis) → a.ending ≡ complete → IsAnalysisOf c.program c.instructions c.faults c.flat event size a → AreMinimal c event size a.sets
+sets_are_minimal c event size a is h set =
+    let right : IsRightExtended c.program c.instructions c.faults event size (IsOfClass c.program c.instructions complete) a.sets h.traces =
+    subst (λ e. IsRightExtended c.program c.instructions c.faults event size (IsOfClass c.program c.instructions e) a.sets h.traces) is h.right in
+    right_sets_minimal (List Moment) (IsExtended c.program c.instructions) (Reaches c.program event) (HasFailedFault c.faults) size a.sets h.traces
+    (record { one_each = right.one_each; small = right.small; shown = right.shown; covered = λ trace class reaches few. right.covered trace class reaches few; apart = right.apart }) set
 
 never_bounded : (k : ℕ) → status.Done ≡ status.Bounded k → ⊥
 never_bounded k e = cc
@@ -82,6 +93,7 @@ module _ (before after : List NamedFile) (said now : Said) (model faults top ext
             certified =
                 subst (λ o. IsSomeAnd o (λ bytes. Certifies c h.event (size_for size (length c.faults)) h.analysis bytes))
                 (sym (ap (λ fs. file_of fs cert) files ∙ file_of-with_file (with_file before extended (extension_text c)) cert w.0)) w.1;
+            minimal = sets_are_minimal c h.event (size_for size (length c.faults)) h.analysis is h.found.right;
           }
       by_ending (bounded k) is ends w = absurd (never_bounded k ends)
 

@@ -19,7 +19,8 @@ use Rattle.xs_run.specs.Made.{IsGenerated, HasMade, IsMade}
 use Rattle.xs_run.specs.Runs.{Outcome, MakeComesTo, is_made, CommandComesTo, Means, refuses_words, asked, IsAnswer, IsFinished, IsDelivered, HasAnswered}
 use Rattle.xs_run.proofs.AnalysedLaws.{apart}
 use Rattle.xs_run.proofs.HeadlineLaws.{other_file}
-use Rattle.xs_run.proofs.TabulatedLaws.{never_finished, finished_answers}
+use Rattle.xs_run.proofs.ExtensionLemmas.{refused_not_asked}
+use Rattle.xs_run.proofs.TabulatedLaws.{finished_answers}
 
 options_differ : codes "--model" ≡ codes "--faults" → ⊥
 options_differ e = cc
@@ -66,7 +67,7 @@ finished_makes (Some files) after said now words s number stages depth model fau
     by_means answer.outcome answer.means answer.delivered
   where
     by_means : (o : Outcome) → Means files words o → IsDelivered o s (Some files) after said now → IsSomeAnd after (λ new. IsMade new said now number stages depth model faults s)
-    by_means o (refuses_words r refused) stands = absurd (never_finished r s done stands.0)
+    by_means o (refuses_words f refused) stands = absurd (refused_not_asked words f (make number stages depth model faults) refused asks)
     by_means o (asked c o' named comes) stands =
         comes_made files said now number stages depth model faults s (made_files_differ words number stages depth model faults asks) o' after
         (subst (λ d. CommandComesTo files d o') (one_command words c (make number stages depth model faults) named asks) comes) stands

@@ -2,12 +2,13 @@
 use Rattle.std.proofs.Common.{◌≡◌, ℕ, List, Option, Some, None, IfSome, sym, ap, subst, ◌∙◌}
 use Rattle.xs_desk.specs.declared.files.NamedFile.{NamedFile}
 use Rattle.xs_tree.specs.ProgramTree.{Text}
-use Rattle.xs_words.specs.Commands.{Command, extend, replay, analyse, check, fmea, make}
+use Rattle.xs_words.specs.Commands.{Command, extend, replay, analyse, check, fmea, make, causes, check_causes, orders, check_orders, odds}
+use Rattle.xs_words.specs.Sets.{numbers_of}
 use Rattle.xs_words.proofs.ReadingLaws.{one_command}
 use Rattle.xs_loading.specs.declared.status.Status.{Status}
 use Rattle.xs_loading.specs.Inputs.{HoldsFaults, RefusesFaults}
 use Rattle.xs_loading.specs.Cases.{HoldsTops}
-use Rattle.xs_run.specs.Runs.{Outcome, refuses, extends, tabulates, makes, TableComesTo, refuses_table, is_tabulated, MakeComesTo, is_made, ComesTo, refuses_model, refuses_faults, is_extended, CommandComesTo, Means, refuses_words, asked, IsAnswer, IsDelivered, HasAnswered}
+use Rattle.xs_run.specs.Runs.{Outcome, rejects, refuses, extends, tabulates, makes, TableComesTo, refuses_table, is_tabulated, MakeComesTo, is_made, ComesTo, refuses_model, refuses_faults, is_extended, CommandComesTo, Means, refuses_words, asked, IsAnswer, IsDelivered, HasAnswered}
 use Rattle.xs_run.proofs.ExtensionLemmas.{refused_not_asked, one_refused_words}
 use Rattle.xs_loading.proofs.OneExtending.{one_refused_faults, taken_not_refused, one_taken}
 use Rattle.xs_loading.proofs.OneModelFault.{one_refused_model, held_not_refused, one_held_model}
@@ -17,6 +18,10 @@ use Rattle.xs_run.proofs.OneCheck.{check_comes_to_one}
 use Rattle.xs_loading.proofs.OneCase.{one_case}
 use Rattle.xs_run.proofs.OneTables.{one_refused_table, table_not_refused, one_held_tops}
 use Rattle.xs_run.proofs.OneMade.{one_generated}
+use Rattle.xs_find_odds.proofs.OneRefusal.{one_refused_odds, marked_not_refused}
+use Rattle.xs_find_causes.proofs.OneRefusal.{one_refused_staged, caused_not_refused, one_cause_check, accepted_cause_check}
+use Rattle.xs_find_orders.proofs.OneRefusal.{one_refused_pair, event_not_refused, one_refused_check, accepts_not_refused}
+use Rattle.xs_run.proofs.WorkLaws.{one_or}
 
 module _ (files : List NamedFile) (model faults extended : Text) where
   comes_to_one : (o q : Outcome) → ComesTo files model faults extended o → ComesTo files model faults extended q → o ≡ q
@@ -55,12 +60,22 @@ command_comes_to_one files (analyse model faults top depth extended cert size) o
 command_comes_to_one files (check model faults top cert) o q h g = check_comes_to_one files model faults top cert o q h g
 command_comes_to_one files (fmea model faults tops size depth) o q h g = table_comes_to_one files model faults tops size depth o q h g
 command_comes_to_one files (make number stages depth model faults) o q h g = made_comes_to_one number stages depth model faults o q h g
+command_comes_to_one files (causes model faults file top depth cert) o q h g =
+    one_or _ _ _ o q (one_refused_staged files model faults file top) (λ r holds. caused_not_refused files model faults file top r holds) h g
+command_comes_to_one files (check_causes model faults file top cert) o q h g =
+    one_or _ _ _ o q (one_cause_check files model faults file top cert) (λ r holds. accepted_cause_check files model faults file top cert holds.0 r holds.1) h g
+command_comes_to_one files (orders model faults top set first second depth cert) o q h g =
+    one_or _ _ _ o q (one_refused_pair files model faults top (numbers_of set) first second) (λ r holds. event_not_refused files model faults top (numbers_of set) first second r holds) h g
+command_comes_to_one files (check_orders model faults top set first second claim cert) o q h g =
+    one_or _ _ _ o q (one_refused_check files model faults top (numbers_of set) first second claim cert) (λ r holds. accepts_not_refused files model faults top (numbers_of set) first second claim cert r holds) h g
+command_comes_to_one files (odds model faults top depth) o q h g =
+    one_or _ _ _ o q (one_refused_odds files model faults top) (λ r holds. marked_not_refused files model faults top r holds) h g
 
 -- two outcomes of the same words and files are one: the same refusal, the same text and report, or the same report
 pub one_outcome : (files : List NamedFile) (words : List Text) (o q : Outcome) → Means files words o → Means files words q → o ≡ q
-one_outcome files words o q (refuses_words r refused) (refuses_words s also) = ap refuses (one_refused_words words r s refused also)
-one_outcome files words o q (refuses_words r refused) (asked c q' means comes) = absurd (refused_not_asked words r c refused means)
-one_outcome files words o q (asked c o' means comes) (refuses_words r refused) = absurd (refused_not_asked words r c refused means)
+one_outcome files words o q (refuses_words f refused) (refuses_words g also) = ap rejects (one_refused_words words f g refused also)
+one_outcome files words o q (refuses_words f refused) (asked c q' means comes) = absurd (refused_not_asked words f c refused means)
+one_outcome files words o q (asked c o' means comes) (refuses_words f refused) = absurd (refused_not_asked words f c refused means)
 one_outcome files words o q (asked c o' means comes) (asked d q' means' comes') =
     command_comes_to_one files c o' q' comes (subst (λ e. CommandComesTo files e q') (one_command words d c means' means) comes')
 

@@ -7,6 +7,7 @@ use Rattle.xs_tree.specs.Tree.{Tree}
 use Rattle.xs_tree.specs.Flat.{FlatLeaf}
 use Rattle.xs_words.specs.Commands.{Command}
 use Rattle.xs_words.specs.Meaning.{Means as WordsMean}
+use Rattle.xs_words.specs.declared.fault.WordFault.{WordFault}
 use Rattle.xs_loading.specs.declared.faults.Made.{Made}
 use Rattle.xs_desk.specs.declared.desk.WriteStop.{WriteStop}
 use Rattle.xs_desk.specs.declared.desk.WriteStop.TheVariants as write_stop
@@ -18,7 +19,7 @@ use Rattle.xs_report_laws.specs.ExtendedTraces.{Ending, complete, bounded}
 use Rattle.xs_loading.specs.Inputs.{RefusesModel, HoldsModel, RefusesFaults, HoldsExtension}
 use Rattle.xs_loading.specs.Cases.{Case, HoldsCase, IsWrongWord}
 use Rattle.xs_loading.specs.Loaded.{IsTopIn}
-use Rattle.xs_run.specs.Runs.{Outcome, refuses, extends, ComesTo, refuses_model, refuses_faults, is_extended, TraceComesTo, ReplayComesTo, refuses_its_model, refuses_its_faults, refuses_its_top, reads_its_trace, Means, asked, refuses_words, IsAnswer, IsDelivered, IsDeliveredInPart, Stands, StandsInPart, IsCarriedOut, IsLeftInPart, HasAnswered, HasStopped}
+use Rattle.xs_run.specs.Runs.{Outcome, rejects, refuses, extends, ComesTo, refuses_model, refuses_faults, is_extended, TraceComesTo, ReplayComesTo, refuses_its_model, refuses_its_faults, refuses_its_top, reads_its_trace, Means, asked, refuses_words, IsAnswer, IsDelivered, IsDeliveredInPart, Stands, StandsInPart, IsCarriedOut, IsLeftInPart, HasAnswered, HasStopped}
 use Rattle.xs_loading.specs.declared.status.InputFault.{InputFault}
 use Rattle.xs_loading.specs.declared.status.Refusal.{Refusal}
 use Rattle.xs_loading.specs.declared.status.Refusal.TheVariants as refusal
@@ -26,7 +27,7 @@ use Rattle.xs_loading.specs.declared.status.Status.{Status}
 use Rattle.xs_loading.specs.declared.status.Status.TheVariants as status
 use Rattle.xs_loading.specs.declared.input.Stop.{Stop}
 use Rattle.xs_loading.specs.declared.input.Stop.TheVariants as stopped
-use Rattle.xs_loading.specs.Statuses.{status_of, refusal_text}
+use Rattle.xs_loading.specs.Statuses.{status_of, refusal_text, words_text}
 use Rattle.xs_run.specs.Asked.{RefusesWords}
 
 module _ (model faults extended : Text) where
@@ -86,7 +87,7 @@ module _ (model faults trace top : Text) where
     at_told None holds comes = tt
     at_told (Some files) holds comes = reads_its_trace c event.top tree o holds event.is_word event.is_tree comes
 
-no_answer : {s : Status} {P : Type 0} → (s ≡ status.Desk) ⊎ (s ≡ status.Memory) → IsAnswer s → P
+pub no_answer : {s : Status} {P : Type 0} → (s ≡ status.Desk) ⊎ (s ≡ status.Memory) → IsAnswer s → P
 no_answer (inl desk) answer = absurd (subst IsAnswer desk answer)
 no_answer (inr memory) answer = absurd (subst IsAnswer memory answer)
 
@@ -174,9 +175,17 @@ for_files P None so = tt
 for_files P (Some files) so = so
 
 -- words that are refused
-pub means_refused : (told : Option (List NamedFile)) (words : List Text) (r : Refusal) → RefusesWords words r → IfSome told (λ files. Means files words (refuses r))
-means_refused None words r refused = tt
-means_refused (Some files) words r refused = refuses_words r refused
+pub answers_words : (told after : Option (List NamedFile)) (said now : Option (List ℕ)) (words : List Text) (f : WordFault) (s : Status) → RefusesWords words f →
+    (s ≡ status.Words f) ⊎ ((s ≡ status.Desk) ⊎ (s ≡ status.Memory)) → (s ≡ status.Words f → now ≡ said_more said (words_text f)) → after ≡ told → IsAnswer s →
+    IfSome told (λ files. HasAnswered files words s told after said now)
+answers_words None after said now words f s refused ends line kept answer = tt
+answers_words (Some files) after said now words f s refused (inl is) line kept answer = record { outcome = rejects f; means = refuses_words f refused; delivered = (is, kept, line is) }
+answers_words (Some files) after said now words f s refused (inr other) line kept answer = no_answer other answer
+
+pub stops_at_words : (told after : Option (List NamedFile)) (said now : Option (List ℕ)) (words : List Text) (f : WordFault) → RefusesWords words f → SaysPrefix said now (words_text f) → after ≡ told →
+    IfSome told (λ files. HasStopped files words told after said now)
+stops_at_words None after said now words f refused part kept = tt
+stops_at_words (Some files) after said now words f refused part kept = record { outcome = rejects f; means = refuses_words f refused; in_part = (kept, part) }
 
 -- a command that was carried out is the answer to the words that mean it
 pub answers_carried : (told after : Option (List NamedFile)) (said now : Option (List ℕ)) (words : List Text) (c : Command) (s : Status) → WordsMean words c → IsCarriedOut c s told after said now →

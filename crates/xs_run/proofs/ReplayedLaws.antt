@@ -35,7 +35,7 @@ use Rattle.xs_run.specs.AnswerTexts.{replay_text}
 use Rattle.xs_run.specs.Replays.{HoldsTrace}
 use Rattle.xs_run.specs.Runs.{Outcome, says, TraceComesTo, refuses_trace, refuses_moment, is_reached, ReplayComesTo, refuses_its_model, refuses_its_faults, refuses_its_top, reads_its_trace, CommandComesTo, Means, refuses_words, asked, IsAnswer, IsDelivered, HasAnswered}
 use Rattle.xs_run.specs.Replayed.{HoldsReaching, IsReplayed}
-use Rattle.xs_run.proofs.ExtensionLemmas.{never_done}
+use Rattle.xs_run.proofs.ExtensionLemmas.{never_done, refused_not_asked}
 use Rattle.xs_run.proofs.OneOutcome.{one_outcome}
 use Rattle.xs_loading.proofs.TopLaws.{have_models}
 
@@ -110,7 +110,7 @@ module _ (files : List NamedFile) (model faults name word : Text) (s : Status) (
 
   means_replayed : (words : List Text) (o : Outcome) → Means files words o → AsksToReplay words model faults name word → IsDelivered o s (Some files) after said now →
       IsReplayed files said now model faults name word × (after ≡ Some files)
-  means_replayed words o (refuses_words r refused) asks stands = absurd (never_done r (sym done ∙ stands.0))
+  means_replayed words o (refuses_words f refused) asks stands = absurd (refused_not_asked words f (replay model faults name word) refused asks)
   means_replayed words o (asked c o' named comes) asks stands =
       comes_replayed o' (subst (λ d. CommandComesTo files d o') (one_command words c (replay model faults name word) named asks) comes) stands
 

@@ -15,6 +15,7 @@ use Rattle.xs_run.specs.Asked.{AsksToTabulate}
 use Rattle.xs_loading.specs.Cases.{HoldsCase, HoldsTops}
 use Rattle.xs_run.specs.Tables.{RefusesTable, IsTabulated, tabulated_case, tabulated_events}
 use Rattle.xs_run.specs.Runs.{Outcome, refuses, tabulates, TableComesTo, refuses_table, is_tabulated, CommandComesTo, Means, refuses_words, asked, IsAnswer, IsFinished, IsDelivered, HasAnswered}
+use Rattle.xs_run.proofs.ExtensionLemmas.{refused_not_asked}
 use Rattle.xs_run.proofs.Columns.{table_means}
 
 -- no refusal is finished work
@@ -22,11 +23,12 @@ pub never_finished : (r : Refusal) (s : Status) → IsFinished s → s ≡ statu
 never_finished r s done is = refused r (subst IsFinished is done)
   where
     refused : (r : Refusal) → IsFinished (status_of r) → ⊥
-    refused (refusal.Words fault) e = e
     refused (refusal.Model fault) e = e
     refused (refusal.Faults fault) e = e
     refused (refusal.Top fault) e = e
     refused (refusal.NotAccepted o) e = e
+    refused (refusal.Causes fault) e = e
+    refused (refusal.Set fault) e = e
 
 -- and it is an answer
 pub finished_answers : (s : Status) → IsFinished s → IsAnswer s
@@ -39,6 +41,8 @@ finished_answers (status.Top fault) h = tt
 finished_answers (status.NotAccepted o) h = tt
 finished_answers status.Desk h = h
 finished_answers status.Memory h = h
+finished_answers (status.Causes fault) h = tt
+finished_answers (status.Set fault) h = tt
 
 module _ (model faults tops : Text) (size depth : ℕ) where
   pub no_table : (told : Option (List NamedFile)) (r : Refusal) → IfSome told (λ files. RefusesTable files model faults tops r) →
@@ -70,7 +74,7 @@ module _ (files : List NamedFile) (model faults tops : Text) (size depth : ℕ) 
 
   means_tabulated : (words : List Text) (o : Outcome) → Means files words o → AsksToTabulate words model faults tops size depth → IsDelivered o s (Some files) after said now →
       IsTabulated files said now model faults tops size depth s × (after ≡ Some files)
-  means_tabulated words o (refuses_words r refused) asks stands = absurd (never_finished r s done stands.0)
+  means_tabulated words o (refuses_words f refused) asks stands = absurd (refused_not_asked words f (fmea model faults tops size depth) refused asks)
   means_tabulated words o (asked c o' named comes) asks stands =
       comes_tabulated o' (subst (λ d. CommandComesTo files d o') (one_command words c (fmea model faults tops size depth) named asks) comes) stands
 

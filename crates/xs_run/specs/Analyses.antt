@@ -8,17 +8,12 @@ use Rattle.xs_tree.specs.Flat.{FlatLeaf}
 use Rattle.xs_report_laws.specs.ExtendedTraces.{Ending, complete, bounded, Analysis}
 use Rattle.xs_report_laws.specs.AnalysisText.{analysis_text}
 use Rattle.xs_loading.specs.declared.status.Status.{Status}
-use Rattle.xs_loading.specs.declared.status.Status.TheVariants as status
+pub use Rattle.xs_loading.specs.Statuses.{ended_with}
 use Rattle.xs_loading.specs.Cases.{Case, IsTopWord}
 use Rattle.xs_loading.specs.Tasks.{IsTopTree}
 use Rattle.xs_loading.specs.Answered.{Told, Said, faults_text, bits_of}
 use Rattle.xs_run.specs.AnswerTexts.{extension_text}
 use Rattle.xs_case_search.specs.Found.{IsFound, IsCertificateFor}
-
--- a run ends done where its analysis is complete, and else bounded
-abbrev pub ended_with : Ending → Status
-ended_with complete = status.Done
-ended_with (bounded k) = status.Bounded k
 
 -- the bytes spell an accepted certificate of what the analysis found
 abbrev pub Certifies : Case → Formula → ℕ → Analysis → List ℕ → Type 0

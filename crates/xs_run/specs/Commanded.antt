@@ -2,9 +2,15 @@
 use Rattle.std.specs.Prelude.{◌≤◌}
 use Rattle.xs_words.specs.declared.command.Command.{Command}
 use Rattle.xs_words.specs.declared.command.Command.TheVariants as ask
+use Rattle.xs_find_orders.specs.Pairs.{IsAskedPair}
 
--- the rows of a table that is asked for have at most two faults, and a generated case has at most 64 stages
+-- The rows of a table that is asked for have at most two faults, a generated case has at most 64 stages, a search of causes or odds goes
+-- at most 1,000,000,000 steps, and two faults are of their set.
 abbrev pub IsAskable : Command → Type 0
 IsAskable (ask.Fmea f) = f.size ≤ 2
 IsAskable (ask.Make m) = m.stages ≤ 64
+IsAskable (ask.Causes a) = a.depth ≤ 1000000000
+IsAskable (ask.Orders o) = IsAskedPair o.set.now o.first o.second
+IsAskable (ask.CheckOrders o) = IsAskedPair o.set.now o.first o.second
+IsAskable (ask.Odds a) = a.depth ≤ 1000000000
 IsAskable _ = Unit {0}

@@ -35,3 +35,8 @@ abbrev pub Stopped : Stop → Status → Option (List NamedFile) → Option (Lis
 Stopped (stopped.Refused r) s before after said now = IsRefusing r s before after said now
 Stopped stopped.Desk s before after said now = IsUntouched s status.Desk before after said now
 Stopped stopped.Memory s before after said now = IsUntouched s status.Memory before after said now
+
+-- how a run ends whose work has written and said all but a refusal
+abbrev pub Concluded : Result Status Stop → Status → Option (List NamedFile) → Option (List NamedFile) → Option (List ℕ) → Option (List ℕ) → Type 0
+Concluded (Ok t) s before after said now = IsUntouched s t before after said now
+Concluded (Err e) s before after said now = Stopped e s before after said now

@@ -1,11 +1,14 @@
 -- The whole statement of a complete and of a bounded analysis, over the bytes of files.
-use Rattle.std.specs.Prelude.{◌≡◌, ℕ, List, Option, Some, IsSomeAnd, length}
+use Rattle.std.specs.Prelude.{◌≡◌, ◌↔◌, ℕ, List, Option, Some, IsSomeAnd, length}
 use Rattle.xs_desk.specs.declared.files.NamedFile.{NamedFile}
 use Rattle.xs_desk.specs.Files.{file_of}
 use Rattle.xs_desk.specs.Desk.{said_more}
 use Rattle.xs_tree.specs.ProgramTree.{Text, Formula}
 use Rattle.xs_tree.specs.Bytes.{BytesSpellProgram}
 use Rattle.xs_weave.specs.Conservative.{IsExtensionOf}
+use Rattle.xs_weave.specs.Extended.{Moment, IsExtended, Reaches}
+use Rattle.xs_right_laws.specs.Right.{HasAtMost, IsMinimalCutSet, IsListed}
+use Rattle.xs_certificate_laws.specs.ExtendedTraces.{HasFailedFault}
 use Rattle.xs_report_laws.specs.ExtendedTraces.{Ending, complete, bounded, Analysis, IsAnalysisOf}
 use Rattle.xs_loading.specs.declared.status.Status.TheVariants as status
 use Rattle.xs_loading.specs.Cases.{Case, extension_of, HoldsCase, IsTopWord}
@@ -31,14 +34,23 @@ pub record IsAnalysed (before after : List NamedFile) (said now : Said) (model f
   pub right : IsAnalysisOf c.program c.instructions c.faults c.flat event (size_for size (length c.faults)) analysis
   pub reported : now ≡ said_more said (report_of c (size_for size (length c.faults)) analysis)
 
+-- the sets are exactly the minimal cut sets of the extended traces with at most so many faults
+abbrev pub AreMinimal : Case → Formula → ℕ → List (List ℕ) → Type 0
+AreMinimal c event size sets =
+    (set : List ℕ) →
+    (IsListed (List Moment) (IsExtended c.program c.instructions) (Reaches c.program event) (HasFailedFault c.faults) sets set
+    ↔ (IsMinimalCutSet (List Moment) (IsExtended c.program c.instructions) (Reaches c.program event) (HasFailedFault c.faults) set × HasAtMost size set))
+
 -- a complete answer has written a certificate of what it found, which is accepted
 abbrev pub HasCertificate : List NamedFile → Text → (c : Case) → Formula → Option ℕ → Analysis → Type 0
 HasCertificate after cert c event size a = IsSomeAnd (file_of after cert) (λ bytes. Certifies c event (size_for size (length c.faults)) a bytes)
 
--- The headline: a complete answer has done this for all traces and written its certificate.
+-- The headline: a complete answer has done this for all traces and written its certificate; its sets are exactly the minimal cut sets
+-- of at most so many faults.
 pub record IsComplete (before after : List NamedFile) (said now : Said) (model faults top extended cert : Text) (size : Option ℕ) : Type 0 where
   pub analysed : IsAnalysed before after said now model faults top extended size complete
   pub certified : HasCertificate after cert analysed.c analysed.event size analysed.analysis
+  pub minimal : AreMinimal analysed.c analysed.event (size_for size (length analysed.c.faults)) analysed.analysis.sets
 
 -- And a bounded answer for the traces of at most so many steps as the depth: a chain that long exists, and no certificate is started.
 pub record IsBounded (before after : List NamedFile) (said now : Said) (model faults top extended cert : Text) (depth : ℕ) (size : Option ℕ) : Type 0 where

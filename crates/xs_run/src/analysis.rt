@@ -8,13 +8,13 @@ ghost use Rattle.xs_run.specs.Analyses.{HasAnalysed, AnalysesInPart};
 ghost use Rattle.xs_loading.specs.LoadedEvents.{IsEvent};
 ghost use Rattle.xs_run.specs.Findings.{analysed_case, analysed_size};
 
-use crate::search::{search, status_of};
+use crate::search::search;
 use std::alloc::Global;
 use xs_adviser::Panel;
 use xs_certificate_file::conclusion::conclude;
 use xs_desk::{Desk, WriteStop, write_whole};
 use xs_loading::event::LoadedEvent;
-use xs_loading::status::Status;
+use xs_loading::status::{Status, ended_as};
 use xs_tree::print_program;
 
 /// What is to be analysed, and where its files go.
@@ -49,5 +49,5 @@ pub(crate) fn deliver_analysis<D: Desk>(
     write_whole(desk, asked.extended, &text)?;
     let found = search(alloc, asked, panel)?;
     conclude(desk, asked.cert, &found)?;
-    Ok(status_of(found.ending))
+    Ok(ended_as(found.ending))
 }

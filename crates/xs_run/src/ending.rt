@@ -1,20 +1,22 @@
 //! How a run ends: what stops it, and the status of its last work.
 //!
-//! [`stopped`] ends a run that can't go on and says the line of a refusal; [`finished`] and [`ended`] end one that wrote and said.
-ghost use Rattle.std.specs.Prelude.{◌≡◌, ◌≤◌, ◌⊎◌, OnOk, IsErrOf};
+//! [`stopped`] ends a run that can't go on and says the line of a refusal; [`finished`] and [`ended`] end one that wrote and said,
+//! and [`concluded`] one whose work did so in another crate.
+ghost use Rattle.std.specs.Prelude.{◌≡◌, ◌≤◌, ◌⊎◌, IfOk, OnOk, IsErrOf};
 ghost use Rattle.xs_desk.specs.Desk.{Rose, told_with, WritesPrefix, said_more, SaysPrefix};
 ghost use Rattle.xs_desk.specs.declared.desk.WriteStop.TheVariants as write_stop;
 ghost use Rattle.xs_loading.specs.declared.input.Stop.TheVariants as stops;
-ghost use Rattle.xs_loading.specs.Statuses.{status_of, refusal_text};
+ghost use Rattle.xs_loading.specs.Statuses.{IsFinished, status_of, refusal_text, words_text};
 ghost use Rattle.xs_run.specs.Findings.{finished_as};
-ghost use Rattle.xs_run.specs.Delivered.{ended_as, Stopped};
+ghost use Rattle.xs_run.specs.Delivered.{ended_as, Stopped, Concluded};
 
 use std::alloc::Global;
 use xs_desk::{Desk, WriteStop, say_whole, write_whole};
 use xs_loading::faults::Made;
 use xs_loading::input::Stop;
-use xs_loading::status::{Refusal, Status};
+use xs_loading::status::{Refusal, Status, words_line};
 use xs_value::OutOfMemory;
+use xs_words::WordFault;
 
 /// Ends a run that can't go on: a refusal says its line.
 pub(crate) fn stopped<D: Desk>(alloc: Global, desk: &mut D, stop: Stop) -> Status
@@ -27,6 +29,20 @@ pub(crate) fn stopped<D: Desk>(alloc: Global, desk: &mut D, stop: Stop) -> Statu
         Stop::Refused(refusal) => refuse(alloc, desk, refusal),
         Stop::Desk => Status::Desk,
         Stop::Memory => Status::Memory,
+    }
+}
+
+/// Ends a run by what its work came to, which has written and said all but a refusal.
+pub(crate) fn concluded<D: Desk>(alloc: Global, desk: &mut D, done: Result<Status, Stop>) -> Status
+    requires { IfOk done IsFinished }
+    ensures concluded { Concluded done result (D.files desk.old) (D.files desk.new) (D.said desk.old) (D.said desk.new) }
+    ensures failed { result ≡ Status.Desk → IsErrOf done stops.Desk ⊎ Rose (D.faults desk.old) (D.faults desk.new) }
+    ensures later { D.faults desk.old ≤ D.faults desk.new }
+    ensures quiet { D.quiet desk.old → D.quiet desk.new × (D.faults desk.new ≡ D.faults desk.old) }
+{
+    match done {
+        Ok(status) => status,
+        Err(stop) => stopped(alloc, desk, stop),
     }
 }
 
@@ -79,6 +95,22 @@ pub(crate) fn refuse<D: Desk>(alloc: Global, desk: &mut D, refusal: Refusal) -> 
 {
     match refusal.line(alloc) {
         Ok(line) => ended(refusal.status(), say_whole(desk, line.as_slice())),
+        Err(OutOfMemory) => Status::Memory,
+    }
+}
+
+/// Says the line of words that mean no command.
+pub(crate) fn reject<D: Desk>(alloc: Global, desk: &mut D, fault: WordFault) -> Status
+    ensures said { result ≡ Status.Words fault → D.said desk.new ≡ said_more (D.said desk.old) (words_text fault) }
+    ensures part { SaysPrefix (D.said desk.old) (D.said desk.new) (words_text fault) }
+    ensures ends { (result ≡ Status.Words fault) ⊎ ((result ≡ Status.Desk) ⊎ (result ≡ Status.Memory)) }
+    ensures files { D.files desk.new ≡ D.files desk.old }
+    ensures failed { result ≡ Status.Desk → Rose (D.faults desk.old) (D.faults desk.new) }
+    ensures later { D.faults desk.old ≤ D.faults desk.new }
+    ensures quiet { D.quiet desk.old → D.quiet desk.new × (D.faults desk.new ≡ D.faults desk.old) }
+{
+    match words_line(alloc, fault) {
+        Ok(line) => ended(Status::Words(fault), say_whole(desk, line.as_slice())),
         Err(OutOfMemory) => Status::Memory,
     }
 }

@@ -23,6 +23,7 @@ pub mod analysis;
 mod asked;
 pub mod certificate;
 mod ending;
+mod further;
 pub mod make;
 mod replay;
 pub mod run;

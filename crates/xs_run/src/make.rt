@@ -24,7 +24,6 @@ ghost use Rattle.xs_loading.specs.declared.input.Stop.TheVariants as stops;
 ghost use Rattle.xs_loading.specs.Wrongs.{IfRefused};
 ghost use Rattle.xs_run.specs.Made.{dead_word, IsOfGenerator, IsGeneratedText, HasMade, MakesInPart, summary_line, made_case, IsMaking, IsSummary};
 
-use crate::search::status_of;
 use std::alloc::Global;
 use xs_adviser::Panel;
 use xs_case_search::search::{analysed, size_of};
@@ -36,7 +35,7 @@ use xs_loading::event::LoadedEvent;
 use xs_loading::input::Stop;
 use xs_loading::loaded::{LoadedCase, case_of};
 use xs_loading::model::{LoadedModel, model_of};
-use xs_loading::status::Status;
+use xs_loading::status::{Status, ended_as};
 use xs_loading::top::load_top;
 use xs_loading::wrong::Wrong;
 use xs_tree::model::Flat;
@@ -206,7 +205,7 @@ pub(crate) fn deliver_made<D: Desk>(
     write_whole(desk, asked.faults, &asked.made.instructions)?;
     let found = summarise(alloc, asked, panel)?;
     say_whole(desk, found.line.as_slice())?;
-    Ok(status_of(found.ending))
+    Ok(ended_as(found.ending))
 }
 
 /// Searches a generated case for the minimal cut sets of its top event, and makes the line that is said of it.

@@ -5,10 +5,8 @@ ghost use Rattle.std.specs.Prelude.{◌≡◌, ℕ, IfOk, map};
 ghost use Rattle.xs_tree.specs.ModelTree.{model_tree, flat_tree};
 ghost use Rattle.xs_flat_laws.specs.FaultModes.{mode_of};
 ghost use Rattle.xs_flat_laws.specs.History.{with_history};
-ghost use Rattle.xs_text_laws.specs.Analysis.{told_ending};
 ghost use Rattle.xs_tree.specs.Told.{told_trace};
 ghost use Rattle.xs_cuts.specs.declared.answer.End.TheVariants as ends;
-ghost use Rattle.xs_run.specs.Analyses.{ended_with};
 ghost use Rattle.xs_case_search.specs.Found.{IsCertificateFor};
 ghost use Rattle.xs_loading.specs.LoadedEvents.{IsEvent};
 ghost use Rattle.xs_case_search.specs.Searches.{IsSearched, HasCertificate};
@@ -23,21 +21,10 @@ use xs_cert::write;
 use xs_certificate_file::conclusion::Conclusion;
 use xs_cuts::answer::{Analysis, End};
 use xs_loading::loaded::LoadedCase;
-use xs_loading::status::Status;
 use xs_report::print_analysis;
 use xs_tree::Expr;
 use xs_tree::model::Flat;
-use xs_value::{ByteList, Ending, OutOfMemory};
-
-/// The status of a run whose analysis ends so.
-pub(crate) fn status_of(ending: Ending) -> Status
-    ensures { result ≡ ended_with (told_ending ending) }
-{
-    match ending {
-        Ending::Complete => Status::Done,
-        Ending::Bounded(k) => Status::Bounded(k),
-    }
-}
+use xs_value::{ByteList, OutOfMemory};
 
 /// The text of a certificate of a complete analysis.
 fn certificate_text(

@@ -1,7 +1,7 @@
 //! The verbs: what each reads and refuses, and then writes and says.
 //!
 //! Each has two halves: `prepare_..` reads its files, tries every refusal, and changes nothing; what follows writes and says, and
-//! refuses nothing. The main function is `carry_out`.
+//! refuses nothing. The main function is `carry_out`, which takes the verbs of `further` too.
 ghost use Rattle.std.specs.Prelude.{◌≡◌, ◌≤◌, IfOk, IfSome, IsErrOf};
 ghost use Rattle.xs_desk.specs.Desk.{Rose};
 ghost use Rattle.xs_loading.specs.declared.status.Refusal.{Refusal};
@@ -9,15 +9,17 @@ ghost use Rattle.xs_loading.specs.declared.input.Stop.TheVariants as stops;
 ghost use Rattle.xs_words.specs.declared.command.Command.TheVariants as ask;
 ghost use Rattle.xs_words.specs.Seen.{seen};
 ghost use Rattle.xs_run.specs.Runs.{refuses, extends, says, analyses, tabulates, makes, ComesTo, ReplayComesTo, CheckComesTo, TableComesTo, MakeComesTo, CommandComesTo, IsAnswer, IsDelivered, IsDeliveredInPart, IsCarriedOut, IsLeftInPart};
-ghost use Rattle.xs_run.specs.Commanded.{IsAskable};
+ghost use Rattle.xs_run.specs.Short.{IsOfCommand};
 ghost use Rattle.xs_loading.specs.LoadedEvents.{IsEvent};
 ghost use Rattle.xs_run.specs.Findings.{analysed_case, analysed_size};
 ghost use Rattle.xs_run.specs.Tables.{IsTabulable, tabulated_case, tabulated_events};
 ghost use Rattle.xs_run.specs.Made.{IsMaking, made_case};
 
 use crate::analysis::{Analysing, deliver_analysis};
+use crate::asked::Askable;
 use crate::certificate::check_file;
 use crate::ending::{ended, finished, stopped, write_and_say};
+use crate::further::{causes, checked_causes, checked_orders, odds, orders};
 use crate::make::{Making, deliver_made, generate};
 use crate::replay::replay_file;
 use crate::tops::{Tabulating, deliver_table, load_table};
@@ -38,23 +40,28 @@ use xs_words::{Analyse, Check, Command, Extend, Fmea, Make, Replay};
 pub(crate) fn carry_out<D: Desk>(
     alloc: Global,
     desk: &mut D,
-    asked: &Command,
+    asked: &Askable,
     panel: &mut Panel,
 ) -> Status
-    requires { IsAskable asked.now }
     ensures answered { IsCarriedOut (seen asked.now) result (D.files desk.old) (D.files desk.new) (D.said desk.old) (D.said desk.new) }
     ensures left { IsLeftInPart (seen asked.now) (D.files desk.old) (D.files desk.new) (D.said desk.old) (D.said desk.new) }
+    ensures status { IsOfCommand (seen asked.now) result }
     ensures failed { result ≡ Status.Desk → Rose (D.faults desk.old) (D.faults desk.new) }
     ensures later { D.faults desk.old ≤ D.faults desk.new }
     ensures quiet { D.quiet desk.old → D.quiet desk.new × (D.faults desk.new ≡ D.faults desk.old) }
 {
-    match asked {
+    match asked.command() {
         Command::Extend(files) => extend_model(alloc, desk, files),
         Command::Replay(files) => replay_trace(alloc, desk, files),
         Command::Analyse(asked) => analyse_event(alloc, desk, asked, panel),
         Command::Check(files) => check_certificate(alloc, desk, files),
         Command::Fmea(asked) => tabulate(alloc, desk, asked, panel),
         Command::Make(asked) => make_case(alloc, desk, asked, panel),
+        Command::Causes(asked) => causes(alloc, desk, asked, panel),
+        Command::CheckCauses(files) => checked_causes(alloc, desk, files),
+        Command::Orders(asked) => orders(alloc, desk, asked, panel),
+        Command::CheckOrders(files) => checked_orders(alloc, desk, files),
+        Command::Odds(asked) => odds(alloc, desk, asked, panel),
     }
 }
 
@@ -62,6 +69,7 @@ pub(crate) fn carry_out<D: Desk>(
 fn extend_model<D: Desk>(alloc: Global, desk: &mut D, asked: &Extend) -> Status
     ensures answered { IsCarriedOut (seen (ask.Extend asked.now)) result (D.files desk.old) (D.files desk.new) (D.said desk.old) (D.said desk.new) }
     ensures left { IsLeftInPart (seen (ask.Extend asked.now)) (D.files desk.old) (D.files desk.new) (D.said desk.old) (D.said desk.new) }
+    ensures status { IsOfCommand (seen (ask.Extend asked.now)) result }
     ensures failed { result ≡ Status.Desk → Rose (D.faults desk.old) (D.faults desk.new) }
     ensures later { D.faults desk.old ≤ D.faults desk.new }
     ensures quiet { D.quiet desk.old → D.quiet desk.new × (D.faults desk.new ≡ D.faults desk.old) }
@@ -76,6 +84,7 @@ fn extend_model<D: Desk>(alloc: Global, desk: &mut D, asked: &Extend) -> Status
 fn replay_trace<D: Desk>(alloc: Global, desk: &mut D, asked: &Replay) -> Status
     ensures answered { IsCarriedOut (seen (ask.Replay asked.now)) result (D.files desk.old) (D.files desk.new) (D.said desk.old) (D.said desk.new) }
     ensures left { IsLeftInPart (seen (ask.Replay asked.now)) (D.files desk.old) (D.files desk.new) (D.said desk.old) (D.said desk.new) }
+    ensures status { IsOfCommand (seen (ask.Replay asked.now)) result }
     ensures failed { result ≡ Status.Desk → Rose (D.faults desk.old) (D.faults desk.new) }
     ensures later { D.faults desk.old ≤ D.faults desk.new }
     ensures quiet { D.quiet desk.old → D.quiet desk.new × (D.faults desk.new ≡ D.faults desk.old) }
@@ -90,6 +99,7 @@ fn replay_trace<D: Desk>(alloc: Global, desk: &mut D, asked: &Replay) -> Status
 fn analyse_event<D: Desk>(alloc: Global, desk: &mut D, asked: &Analyse, panel: &mut Panel) -> Status
     ensures answered { IsCarriedOut (seen (ask.Analyse asked.now)) result (D.files desk.old) (D.files desk.new) (D.said desk.old) (D.said desk.new) }
     ensures left { IsLeftInPart (seen (ask.Analyse asked.now)) (D.files desk.old) (D.files desk.new) (D.said desk.old) (D.said desk.new) }
+    ensures status { IsOfCommand (seen (ask.Analyse asked.now)) result }
     ensures failed { result ≡ Status.Desk → Rose (D.faults desk.old) (D.faults desk.new) }
     ensures later { D.faults desk.old ≤ D.faults desk.new }
     ensures quiet { D.quiet desk.old → D.quiet desk.new × (D.faults desk.new ≡ D.faults desk.old) }
@@ -104,6 +114,7 @@ fn analyse_event<D: Desk>(alloc: Global, desk: &mut D, asked: &Analyse, panel: &
 fn check_certificate<D: Desk>(alloc: Global, desk: &mut D, asked: &Check) -> Status
     ensures answered { IsCarriedOut (seen (ask.Check asked.now)) result (D.files desk.old) (D.files desk.new) (D.said desk.old) (D.said desk.new) }
     ensures left { IsLeftInPart (seen (ask.Check asked.now)) (D.files desk.old) (D.files desk.new) (D.said desk.old) (D.said desk.new) }
+    ensures status { IsOfCommand (seen (ask.Check asked.now)) result }
     ensures failed { result ≡ Status.Desk → Rose (D.faults desk.old) (D.faults desk.new) }
     ensures later { D.faults desk.old ≤ D.faults desk.new }
     ensures quiet { D.quiet desk.old → D.quiet desk.new × (D.faults desk.new ≡ D.faults desk.old) }
@@ -119,6 +130,7 @@ fn tabulate<D: Desk>(alloc: Global, desk: &mut D, asked: &Fmea, panel: &mut Pane
     requires { asked.now.size ≤ 2 }
     ensures answered { IsCarriedOut (seen (ask.Fmea asked.now)) result (D.files desk.old) (D.files desk.new) (D.said desk.old) (D.said desk.new) }
     ensures left { IsLeftInPart (seen (ask.Fmea asked.now)) (D.files desk.old) (D.files desk.new) (D.said desk.old) (D.said desk.new) }
+    ensures status { IsOfCommand (seen (ask.Fmea asked.now)) result }
     ensures failed { result ≡ Status.Desk → Rose (D.faults desk.old) (D.faults desk.new) }
     ensures later { D.faults desk.old ≤ D.faults desk.new }
     ensures quiet { D.quiet desk.old → D.quiet desk.new × (D.faults desk.new ≡ D.faults desk.old) }
@@ -134,6 +146,7 @@ fn make_case<D: Desk>(alloc: Global, desk: &mut D, asked: &Make, panel: &mut Pan
     requires { asked.now.stages ≤ 64 }
     ensures answered { IsCarriedOut (seen (ask.Make asked.now)) result (D.files desk.old) (D.files desk.new) (D.said desk.old) (D.said desk.new) }
     ensures left { IsLeftInPart (seen (ask.Make asked.now)) (D.files desk.old) (D.files desk.new) (D.said desk.old) (D.said desk.new) }
+    ensures status { IsOfCommand (seen (ask.Make asked.now)) result }
     ensures failed { result ≡ Status.Desk → Rose (D.faults desk.old) (D.faults desk.new) }
     ensures later { D.faults desk.old ≤ D.faults desk.new }
     ensures quiet { D.quiet desk.old → D.quiet desk.new × (D.faults desk.new ≡ D.faults desk.old) }
@@ -187,6 +200,7 @@ fn prepare_analysis<'a, D: Desk>(
     ensures ok { IfOk result (λ a. IfSome (D.files desk.old) (λ files.
         CommandComesTo files (seen (ask.Analyse asked.now)) (analyses (analysed_case a) a.word.now a.depth (analysed_size a) a.extended.now a.cert.now))) }
     ensures event { IfOk result (λ a. IsEvent a.word.now a.loaded) }
+    ensures asked { IfOk result (λ a. a.depth ≡ asked.now.depth) }
     ensures refused { (r : Refusal) → IsErrOf result (stops.Refused r) →
         IfSome (D.files desk.old) (λ files. CommandComesTo files (seen (ask.Analyse asked.now)) (refuses r)) }
     ensures failed { IsErrOf result stops.Desk → Rose (D.faults desk.old) (D.faults desk.new) }
@@ -229,6 +243,7 @@ fn prepare_table<D: Desk>(alloc: Global, desk: &mut D, asked: &Fmea) -> Result<T
         TableComesTo files asked.now.model.now asked.now.faults.now asked.now.tops.now asked.now.size asked.now.depth
         (tabulates (tabulated_case a) (tabulated_events a) a.size a.depth))) }
     ensures able { IfOk result IsTabulable }
+    ensures asked { IfOk result (λ a. (a.size ≡ asked.now.size) × (a.depth ≡ asked.now.depth)) }
     ensures refused { (r : Refusal) → IsErrOf result (stops.Refused r) → IfSome (D.files desk.old) (λ files.
         TableComesTo files asked.now.model.now asked.now.faults.now asked.now.tops.now asked.now.size asked.now.depth (refuses r)) }
     ensures failed { IsErrOf result stops.Desk → Rose (D.faults desk.old) (D.faults desk.new) }
@@ -254,6 +269,7 @@ fn prepare_made<'a>(alloc: Global, asked: &Make<'a>) -> Result<Making<'a>, OutOf
     ensures ok { IfOk result (λ m. MakeComesTo asked.now.number asked.now.stages asked.now.depth asked.now.model.now asked.now.faults.now
         (makes (made_case m) m.stages m.depth m.model.now m.faults.now)) }
     ensures making { IfOk result IsMaking }
+    ensures asked { IfOk result (λ m. m.depth ≡ asked.now.depth) }
 {
     let made = generate(alloc, asked.number, asked.stages)?;
     Ok(Making {

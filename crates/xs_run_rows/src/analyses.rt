@@ -1,7 +1,7 @@
 // Rows of analyses, tables and generated cases over desks in memory: how each run ends, and what it says but for the traces, which
 // are free.
 
-use crate::desks::{GLITCH, LAMP, PULSE, desk_of, ends, ran};
+use crate::desks::{BOTH, GLITCH, LAMP, PAIR, PULSE, desk_of, ends, ran};
 use std::alloc::Global;
 use xs_adviser::{Active, Adviser, CodeList, InOrder, Scripted};
 use xs_desk::MemoryDesk;
@@ -10,13 +10,6 @@ use xs_value::OutOfMemory;
 /// The lamp, whose first moment is none.
 const NEVER: &[u8] =
     b"MODULE main\nVAR\n  on : boolean;\nASSIGN\n  init(on) := TRUE;\n  next(on) := on;\nINIT !on;\n";
-
-/// Two switches, and a number that one of them raises.
-const PAIR: &[u8] =
-    b"MODULE main VAR a : boolean; b : boolean; n : 0..3; ASSIGN a := FALSE; b := FALSE; init(n) := 0; next(n) := a & n < 3 ? n + 1 : n;";
-
-const BOTH: &[u8] =
-    b"EXTENSION OF MODULE main SLICE A AFFECTS a WITH MODE on : Permanent StuckAt(TRUE); SLICE B AFFECTS b WITH MODE on : Permanent StuckAt(TRUE);";
 
 /// A number that goes round without its highest values.
 const COUNTER: &[u8] =

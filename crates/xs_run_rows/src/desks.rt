@@ -23,6 +23,20 @@ pub const PULSE: &[u8] =
 pub const GLITCH: &[u8] =
     b"EXTENSION OF MODULE main SLICE P AFFECTS pulse WITH MODE glitch : Transient StuckAt(TRUE);";
 
+/// Two switches, and a number that one of them raises.
+pub const PAIR: &[u8] =
+    b"MODULE main VAR a : boolean; b : boolean; n : 0..3; ASSIGN a := FALSE; b := FALSE; init(n) := 0; next(n) := a & n < 3 ? n + 1 : n;";
+
+pub const BOTH: &[u8] =
+    b"EXTENSION OF MODULE main SLICE A AFFECTS a WITH MODE on : Permanent StuckAt(TRUE); SLICE B AFFECTS b WITH MODE on : Permanent StuckAt(TRUE);";
+
+/// The two switches alone.
+pub const SWITCHES: &[u8] =
+    b"MODULE main VAR a : boolean; b : boolean; ASSIGN a := FALSE; b := FALSE;";
+
+/// A cause that strikes the lamp.
+pub const FLASH: &[u8] = b"CAUSE Flash WITHIN 0..0 STRIKES Lamp.dark;";
+
 /// A model whose one variable stays FALSE.
 pub const TINY: &[u8] = b"MODULE main VAR x : boolean; ASSIGN init(x) := FALSE; next(x) := x;";
 
@@ -62,6 +76,21 @@ pub fn ends(
     let mut desk = desk_of(alloc, given, &[])?;
     let found = ran(alloc, words, &mut desk, Vec::new(alloc));
     Ok(found == number && desk.said() == said)
+}
+
+/// Whether a run with these words over these files ends with this number and says a text that begins and ends so.
+pub fn shows(
+    alloc: Global,
+    given: &[File],
+    words: &[&str],
+    number: i32,
+    begins: &[u8],
+    closes: &[u8],
+) -> Result<bool, OutOfMemory> {
+    let mut desk = desk_of(alloc, given, &[])?;
+    let found = ran(alloc, words, &mut desk, Vec::new(alloc));
+    let said = desk.said();
+    Ok(found == number && said.starts_with(begins) && said.ends_with(closes))
 }
 
 /// The bytes of the file that a run with these words over these files writes under this name, or none.

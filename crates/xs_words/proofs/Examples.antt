@@ -2,7 +2,7 @@
 use Rattle.std.proofs.Common.{◌≡◌, [], ◌∷◌, refl, codes}
 use Rattle.xs_words.specs.declared.fault.WordFault.TheVariants as fault
 use Rattle.xs_words.specs.declared.verb.Verb.TheVariants as verb
-use Rattle.xs_words.specs.Commands.{extend}
+use Rattle.xs_words.specs.Commands.{extend, odds}
 use Rattle.xs_words.specs.Sets.{number_of, numbers_of}
 use Rattle.xs_words.specs.Table.{options_of}
 use Rattle.xs_words.specs.Meaning.{Means, BreaksFirst, no_verb, an_option, no_value}
@@ -44,3 +44,24 @@ same_names = read_breaks _ (fault.SameName 7) refl
 -- a bad number is told before missing options
 three_is_too_big : BreaksFirst (codes "fmea" ∷ codes "--size" ∷ codes "3" ∷ []) 7 3
 three_is_too_big = read_breaks _ (fault.BadNumber 3) refl
+
+-- the same of the options of another verb
+odds_in_any_order : Means (codes "odds" ∷ codes "--depth" ∷ codes "4" ∷ codes "--top" ∷ codes "t" ∷ codes "--faults" ∷ codes "f" ∷ codes "--model" ∷ codes "m" ∷ []) (odds (codes "m") (codes "f") (codes "t") 4)
+odds_in_any_order = read_means _ _ refl
+
+-- a set of one number is none
+one_number : BreaksFirst (codes "orders" ∷ codes "--set" ∷ codes "1" ∷ []) 7 3
+one_number = read_breaks _ (fault.BadNumber 3) refl
+
+-- numbers that do not rise are no set
+falling : BreaksFirst (codes "orders" ∷ codes "--set" ∷ codes "2 1" ∷ []) 7 3
+falling = read_breaks _ (fault.BadNumber 3) refl
+
+-- the third option of the verb is missing
+top_missing : BreaksFirst (codes "odds" ∷ codes "--model" ∷ codes "m" ∷ codes "--faults" ∷ codes "f" ∷ []) 5 3
+top_missing = read_breaks _ (fault.Missing 3) refl
+
+-- a fault that is not in its set is told after all else
+outside_its_set : BreaksFirst (codes "orders" ∷ codes "--model" ∷ codes "m" ∷ codes "--faults" ∷ codes "f" ∷ codes "--top" ∷ codes "t" ∷ codes "--set" ∷ codes "1 3" ∷ codes "--first" ∷ codes "1"
+    ∷ codes "--second" ∷ codes "2" ∷ codes "--depth" ∷ codes "4" ∷ codes "--cert" ∷ codes "c" ∷ []) 9 13
+outside_its_set = read_breaks _ (fault.NotInSet 13) refl

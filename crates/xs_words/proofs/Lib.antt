@@ -9,6 +9,8 @@ pub mod StepLemmas
 pub mod CompleteLemmas
 pub mod ValueLemmas
 pub mod MadeLemmas
+pub mod InsideLemmas
+pub mod OutsideLoop
 pub mod VerbLemmas
 pub mod ReadingLaws
 pub mod SeenLemmas

@@ -4,7 +4,7 @@ use Rattle.xs_words.specs.declared.verb.Verb.{Verb}
 use Rattle.xs_words.specs.declared.verb.Verb.TheVariants as verb
 use Rattle.xs_words.specs.Commands.{Command, Given}
 use Rattle.xs_words.specs.Table.{options_of}
-use Rattle.xs_words.specs.Meaning.{AreLawful, AreThere, Makes, extends, replays, analyses, checks, tabulates, generates}
+use Rattle.xs_words.specs.Meaning.{AreLawful, AreThere, Makes, extends, replays, analyses, checks, tabulates, generates, finds_causes, checks_causes, finds_orders, checks_orders, finds_odds}
 use Rattle.xs_words.specs.Reading.{text_in, small_number_at, number_at, made}
 use Rattle.xs_words.proofs.ValueLemmas.{text_given, text_is, number_given, number_is, may_given, may_is, deep, sized}
 
@@ -49,6 +49,34 @@ made_makes verb.Make ps law there =
     (number_given (options_of verb.Make) ps law (codes "--stages") 1 64 refl staged (there.1.0 refl))
     (number_given (options_of verb.Make) ps law (codes "--depth") 0 1000000000 refl deep (there.1.1.0 refl))
     (text (codes "--model") (there.1.1.1.0 refl)) (text (codes "--faults") (there.1.1.1.1.0 refl))
+made_makes verb.Causes ps law there =
+    let text = text_given (options_of verb.Causes) ps law in
+    finds_causes (text_in ps (codes "--model")) (text_in ps (codes "--faults")) (text_in ps (codes "--causes")) (text_in ps (codes "--top")) (number_at ps (codes "--depth")) (text_in ps (codes "--cert"))
+    (text (codes "--model") (there.0 refl)) (text (codes "--faults") (there.1.0 refl)) (text (codes "--causes") (there.1.1.0 refl)) (text (codes "--top") (there.1.1.1.0 refl))
+    (number_given (options_of verb.Causes) ps law (codes "--depth") 0 1000000000 refl deep (there.1.1.1.1.0 refl)) (text (codes "--cert") (there.1.1.1.1.1.0 refl))
+made_makes verb.CheckCauses ps law there =
+    let text = text_given (options_of verb.CheckCauses) ps law in
+    checks_causes (text_in ps (codes "--model")) (text_in ps (codes "--faults")) (text_in ps (codes "--causes")) (text_in ps (codes "--top")) (text_in ps (codes "--cert"))
+    (text (codes "--model") (there.0 refl)) (text (codes "--faults") (there.1.0 refl)) (text (codes "--causes") (there.1.1.0 refl)) (text (codes "--top") (there.1.1.1.0 refl)) (text (codes "--cert") (there.1.1.1.1.0 refl))
+made_makes verb.Orders ps law there =
+    let text = text_given (options_of verb.Orders) ps law in
+    finds_orders (text_in ps (codes "--model")) (text_in ps (codes "--faults")) (text_in ps (codes "--top")) (text_in ps (codes "--set")) (number_at ps (codes "--first")) (number_at ps (codes "--second"))
+    (number_at ps (codes "--depth")) (text_in ps (codes "--cert"))
+    (text (codes "--model") (there.0 refl)) (text (codes "--faults") (there.1.0 refl)) (text (codes "--top") (there.1.1.0 refl)) (text (codes "--set") (there.1.1.1.0 refl))
+    (number_given (options_of verb.Orders) ps law (codes "--first") 1 256 refl sized (there.1.1.1.1.0 refl)) (number_given (options_of verb.Orders) ps law (codes "--second") 1 256 refl sized (there.1.1.1.1.1.0 refl))
+    (number_given (options_of verb.Orders) ps law (codes "--depth") 0 1000000000 refl deep (there.1.1.1.1.1.1.0 refl)) (text (codes "--cert") (there.1.1.1.1.1.1.1.0 refl))
+made_makes verb.CheckOrders ps law there =
+    let text = text_given (options_of verb.CheckOrders) ps law in
+    checks_orders (text_in ps (codes "--model")) (text_in ps (codes "--faults")) (text_in ps (codes "--top")) (text_in ps (codes "--set")) (number_at ps (codes "--first")) (number_at ps (codes "--second"))
+    (text_in ps (codes "--claim")) (text_in ps (codes "--cert"))
+    (text (codes "--model") (there.0 refl)) (text (codes "--faults") (there.1.0 refl)) (text (codes "--top") (there.1.1.0 refl)) (text (codes "--set") (there.1.1.1.0 refl))
+    (number_given (options_of verb.CheckOrders) ps law (codes "--first") 1 256 refl sized (there.1.1.1.1.0 refl)) (number_given (options_of verb.CheckOrders) ps law (codes "--second") 1 256 refl sized (there.1.1.1.1.1.0 refl))
+    (text (codes "--claim") (there.1.1.1.1.1.1.0 refl)) (text (codes "--cert") (there.1.1.1.1.1.1.1.0 refl))
+made_makes verb.Odds ps law there =
+    let text = text_given (options_of verb.Odds) ps law in
+    finds_odds (text_in ps (codes "--model")) (text_in ps (codes "--faults")) (text_in ps (codes "--top")) (number_at ps (codes "--depth"))
+    (text (codes "--model") (there.0 refl)) (text (codes "--faults") (there.1.0 refl)) (text (codes "--top") (there.1.1.0 refl))
+    (number_given (options_of verb.Odds) ps law (codes "--depth") 0 1000000000 refl deep (there.1.1.1.0 refl))
 
 pub makes_made : (v : Verb) (ps : List Given) (c : Command) → AreLawful (options_of v) ps → Makes ps v c → made v ps ≡ c
 makes_made v ps c law (extends model faults extended m f x) =
@@ -77,3 +105,25 @@ makes_made v ps c law (generates number stages depth model faults n s d m f) =
     let b = number_is (options_of verb.Make) ps law (codes "--stages") stages 1 64 refl staged s in
     let e = number_is (options_of verb.Make) ps law (codes "--depth") depth 0 1000000000 refl deep d in
     let g = text (codes "--model") model m in let h = text (codes "--faults") faults f in cc
+makes_made v ps c law (finds_causes model faults file top depth cert m f x t d k) =
+    let text = text_is (options_of verb.Causes) ps law in
+    let a = text (codes "--model") model m in let b = text (codes "--faults") faults f in let e = text (codes "--causes") file x in let g = text (codes "--top") top t in
+    let h = number_is (options_of verb.Causes) ps law (codes "--depth") depth 0 1000000000 refl deep d in let i = text (codes "--cert") cert k in cc
+makes_made v ps c law (checks_causes model faults file top cert m f x t k) =
+    let text = text_is (options_of verb.CheckCauses) ps law in
+    let a = text (codes "--model") model m in let b = text (codes "--faults") faults f in let e = text (codes "--causes") file x in let g = text (codes "--top") top t in
+    let i = text (codes "--cert") cert k in cc
+makes_made v ps c law (finds_orders model faults top set first second depth cert m f t s i j d k) =
+    let text = text_is (options_of verb.Orders) ps law in
+    let a = text (codes "--model") model m in let b = text (codes "--faults") faults f in let e = text (codes "--top") top t in let g = text (codes "--set") set s in
+    let h = number_is (options_of verb.Orders) ps law (codes "--first") first 1 256 refl sized i in let l = number_is (options_of verb.Orders) ps law (codes "--second") second 1 256 refl sized j in
+    let n = number_is (options_of verb.Orders) ps law (codes "--depth") depth 0 1000000000 refl deep d in let o = text (codes "--cert") cert k in cc
+makes_made v ps c law (checks_orders model faults top set first second claim cert m f t s i j q k) =
+    let text = text_is (options_of verb.CheckOrders) ps law in
+    let a = text (codes "--model") model m in let b = text (codes "--faults") faults f in let e = text (codes "--top") top t in let g = text (codes "--set") set s in
+    let h = number_is (options_of verb.CheckOrders) ps law (codes "--first") first 1 256 refl sized i in let l = number_is (options_of verb.CheckOrders) ps law (codes "--second") second 1 256 refl sized j in
+    let n = text (codes "--claim") claim q in let o = text (codes "--cert") cert k in cc
+makes_made v ps c law (finds_odds model faults top depth m f t d) =
+    let text = text_is (options_of verb.Odds) ps law in
+    let a = text (codes "--model") model m in let b = text (codes "--faults") faults f in let e = text (codes "--top") top t in
+    let g = number_is (options_of verb.Odds) ps law (codes "--depth") depth 0 1000000000 refl deep d in cc

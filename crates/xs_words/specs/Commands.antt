@@ -12,6 +12,11 @@ pub data Command : Type 0 where
   check : (model faults top cert : Text) → Command
   fmea : (model faults tops : Text) (size depth : ℕ) → Command
   make : (number stages depth : ℕ) (model faults : Text) → Command
+  causes : (model faults causes top : Text) (depth : ℕ) (cert : Text) → Command
+  check_causes : (model faults causes top cert : Text) → Command
+  orders : (model faults top set : Text) (first second depth : ℕ) (cert : Text) → Command
+  check_orders : (model faults top set : Text) (first second : ℕ) (claim cert : Text) → Command
+  odds : (model faults top : Text) (depth : ℕ) → Command
 
 -- an option and the word after it
 pub record Given : Type 0 where

@@ -1,5 +1,5 @@
 -- How words are read: what the code computes, which laws of proofs/ join to Meaning.
-use Rattle.std.specs.Prelude.{ℕ, suc, ◌+◌, ◌*◌, ◌^◌, ◌&&◌, ◌||◌, Bool, true, false, nat_lt, nat_le, nat_eq, List, [], ◌∷◌, ◌++◌, Option, Some, None, Result, Ok, Err, length, codes, unwrap_or, option_and_then, if◌then◌else◌}
+use Rattle.std.specs.Prelude.{ℕ, suc, ◌+◌, ◌*◌, ◌^◌, ◌&&◌, ◌||◌, Bool, true, false, not, nat_lt, nat_le, nat_eq, List, [], ◌∷◌, ◌++◌, Option, Some, None, Result, Ok, Err, length, codes, unwrap_or, option_and_then, if◌then◌else◌}
 use Rattle.std.specs.Str.{bytes_eq}
 use Rattle.std.specs.Char.{is_ascii_digit}
 use Rattle.std.specs.List.{list_all}
@@ -9,7 +9,7 @@ use Rattle.xs_words.specs.declared.verb.Verb.{Verb}
 use Rattle.xs_words.specs.declared.verb.Verb.TheVariants as verb
 use Rattle.xs_words.specs.declared.fault.WordFault.{WordFault}
 use Rattle.xs_words.specs.declared.fault.WordFault.TheVariants as fault
-use Rattle.xs_words.specs.Commands.{Text, Command, extend, replay, analyse, check, fmea, make, Given}
+use Rattle.xs_words.specs.Commands.{Text, Command, extend, replay, analyse, check, fmea, make, causes, check_causes, orders, check_orders, odds, Given}
 use Rattle.xs_words.specs.Sets.{number_of, words_of}
 use Rattle.xs_words.specs.Table.{Choice, options_of, kind_in}
 
@@ -22,7 +22,12 @@ verb_in name =
     else (if bytes_eq name (codes "check") then Some verb.Check
     else (if bytes_eq name (codes "fmea") then Some verb.Fmea
     else (if bytes_eq name (codes "make") then Some verb.Make
-    else None)))))
+    else (if bytes_eq name (codes "causes") then Some verb.Causes
+    else (if bytes_eq name (codes "check-causes") then Some verb.CheckCauses
+    else (if bytes_eq name (codes "orders") then Some verb.Orders
+    else (if bytes_eq name (codes "check-orders") then Some verb.CheckOrders
+    else (if bytes_eq name (codes "odds") then Some verb.Odds
+    else None))))))))))
 
 -- Numbers.
 abbrev pub is_numeral : Text → Bool
@@ -177,10 +182,40 @@ abbrev pub same_from : List Choice → List Given → List Given → Option Word
 same_from options before [] = None
 same_from options before (p ∷ ps) = first_of (same_here options before p) (same_from options (before ++ p ∷ []) ps)
 
--- the first fault of the words after a verb
+-- the first fault of options and values
 abbrev pub option_fault : List Choice → List Text → Option WordFault
 option_fault options words =
     first_of (pair_fault options [] words) (first_of (missing_from 1 options (pairs_of words)) (same_from options [] (pairs_of words)))
+
+-- The two faults of a set.
+abbrev pub is_second : Text → Bool
+is_second option = bytes_eq option (codes "--second")
+
+abbrev pub is_of_pair : Text → Bool
+is_of_pair option = bytes_eq option (codes "--first") || is_second option
+
+abbrev pub is_outside : Text → Text → Text → Text → Bool
+is_outside set first option value =
+    (is_of_pair option && not (has_number (words_of set) (number_in value))) || (is_second option && same_number (number_in first) (number_in value))
+
+abbrev pub outside_here : Text → Text → List Given → Given → Option WordFault
+outside_here set first before p = if is_outside set first p.option p.value then Some (fault.NotInSet (2 * length before + 2 + 1)) else None
+
+-- the first that is outside, after these pairs
+abbrev pub outside_from : Text → Text → List Given → List Given → Option WordFault
+outside_from set first before [] = None
+outside_from set first before (p ∷ ps) = first_of (outside_here set first before p) (outside_from set first (before ++ p ∷ []) ps)
+
+abbrev pub set_fault_by : Option Text → List Given → Option WordFault
+set_fault_by None pairs = None
+set_fault_by (Some set) pairs = outside_from set (text_in pairs (codes "--first")) [] pairs
+
+abbrev pub set_fault : List Given → Option WordFault
+set_fault pairs = set_fault_by (value_in pairs (codes "--set")) pairs
+
+-- the first fault of the words after a verb, the two faults of a set last
+abbrev pub fault_after : Verb → List Text → Option WordFault
+fault_after v words = first_of (option_fault (options_of v) words) (set_fault (pairs_of words))
 
 -- the command of a verb and its values
 abbrev pub made : Verb → List Given → Command
@@ -192,6 +227,17 @@ made verb.Analyse ps =
 made verb.Check ps = check (text_in ps (codes "--model")) (text_in ps (codes "--faults")) (text_in ps (codes "--top")) (text_in ps (codes "--cert"))
 made verb.Fmea ps = fmea (text_in ps (codes "--model")) (text_in ps (codes "--faults")) (text_in ps (codes "--tops")) (number_at ps (codes "--size")) (number_at ps (codes "--depth"))
 made verb.Make ps = make (number_at ps (codes "--number")) (number_at ps (codes "--stages")) (number_at ps (codes "--depth")) (text_in ps (codes "--model")) (text_in ps (codes "--faults"))
+made verb.Causes ps =
+    causes (text_in ps (codes "--model")) (text_in ps (codes "--faults")) (text_in ps (codes "--causes")) (text_in ps (codes "--top")) (number_at ps (codes "--depth")) (text_in ps (codes "--cert"))
+made verb.CheckCauses ps =
+    check_causes (text_in ps (codes "--model")) (text_in ps (codes "--faults")) (text_in ps (codes "--causes")) (text_in ps (codes "--top")) (text_in ps (codes "--cert"))
+made verb.Orders ps =
+    orders (text_in ps (codes "--model")) (text_in ps (codes "--faults")) (text_in ps (codes "--top")) (text_in ps (codes "--set")) (number_at ps (codes "--first"))
+    (number_at ps (codes "--second")) (number_at ps (codes "--depth")) (text_in ps (codes "--cert"))
+made verb.CheckOrders ps =
+    check_orders (text_in ps (codes "--model")) (text_in ps (codes "--faults")) (text_in ps (codes "--top")) (text_in ps (codes "--set")) (number_at ps (codes "--first"))
+    (number_at ps (codes "--second")) (text_in ps (codes "--claim")) (text_in ps (codes "--cert"))
+made verb.Odds ps = odds (text_in ps (codes "--model")) (text_in ps (codes "--faults")) (text_in ps (codes "--top")) (number_at ps (codes "--depth"))
 
 -- what is read: the command where there is no fault
 abbrev pub command_or : {C : Type 0} → Option WordFault → C → Result C WordFault
@@ -200,7 +246,7 @@ command_or (Some f) c = Err f
 
 abbrev pub verb_read : Option Verb → List Text → Result Command WordFault
 verb_read None words = Err (fault.UnknownVerb 1)
-verb_read (Some v) words = command_or (option_fault (options_of v) words) (made v (pairs_of words))
+verb_read (Some v) words = command_or (fault_after v words) (made v (pairs_of words))
 
 abbrev pub reading : List Text → Result Command WordFault
 reading [] = Err (fault.NoVerb 0)

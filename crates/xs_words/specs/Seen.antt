@@ -22,6 +22,11 @@ seen (command.Analyse c) = meant.analyse c.model.now c.faults.now c.top.now c.de
 seen (command.Check c) = meant.check c.model.now c.faults.now c.top.now c.cert.now
 seen (command.Fmea c) = meant.fmea c.model.now c.faults.now c.tops.now c.size c.depth
 seen (command.Make c) = meant.make c.number c.stages c.depth c.model.now c.faults.now
+seen (command.Causes c) = meant.causes c.model.now c.faults.now c.causes.now c.top.now c.depth c.cert.now
+seen (command.CheckCauses c) = meant.check_causes c.model.now c.faults.now c.causes.now c.top.now c.cert.now
+seen (command.Orders c) = meant.orders c.model.now c.faults.now c.top.now c.set.now c.first c.second c.depth c.cert.now
+seen (command.CheckOrders c) = meant.check_orders c.model.now c.faults.now c.top.now c.set.now c.first c.second c.claim.now c.cert.now
+seen (command.Odds c) = meant.odds c.model.now c.faults.now c.top.now c.depth
 
 -- what was read, with the command as contracts see it
 abbrev pub seen_result : Result Command WordFault → Result meant.Command WordFault

@@ -21,6 +21,11 @@ name_of verb.Analyse = codes "analyse"
 name_of verb.Check = codes "check"
 name_of verb.Fmea = codes "fmea"
 name_of verb.Make = codes "make"
+name_of verb.Causes = codes "causes"
+name_of verb.CheckCauses = codes "check-causes"
+name_of verb.Orders = codes "orders"
+name_of verb.CheckOrders = codes "check-orders"
+name_of verb.Odds = codes "odds"
 
 -- an option that may not be left out
 abbrev pub needed : Text → Kind → Choice
@@ -41,6 +46,22 @@ options_of verb.Fmea =
 options_of verb.Make =
     needed (codes "--number") (kind.Number 0 1000000000) ∷ needed (codes "--stages") (kind.Number 1 64) ∷ needed (codes "--depth") (kind.Number 0 1000000000)
     ∷ needed (codes "--model") kind.File ∷ needed (codes "--faults") kind.File ∷ []
+options_of verb.Causes =
+    needed (codes "--model") kind.File ∷ needed (codes "--faults") kind.File ∷ needed (codes "--causes") kind.File ∷ needed (codes "--top") kind.Event
+    ∷ needed (codes "--depth") (kind.Number 0 1000000000) ∷ needed (codes "--cert") kind.File ∷ []
+options_of verb.CheckCauses =
+    needed (codes "--model") kind.File ∷ needed (codes "--faults") kind.File ∷ needed (codes "--causes") kind.File ∷ needed (codes "--top") kind.Event
+    ∷ needed (codes "--cert") kind.File ∷ []
+options_of verb.Orders =
+    needed (codes "--model") kind.File ∷ needed (codes "--faults") kind.File ∷ needed (codes "--top") kind.Event ∷ needed (codes "--set") kind.Set
+    ∷ needed (codes "--first") (kind.Number 1 256) ∷ needed (codes "--second") (kind.Number 1 256) ∷ needed (codes "--depth") (kind.Number 0 1000000000)
+    ∷ needed (codes "--cert") kind.File ∷ []
+options_of verb.CheckOrders =
+    needed (codes "--model") kind.File ∷ needed (codes "--faults") kind.File ∷ needed (codes "--top") kind.Event ∷ needed (codes "--set") kind.Set
+    ∷ needed (codes "--first") (kind.Number 1 256) ∷ needed (codes "--second") (kind.Number 1 256) ∷ needed (codes "--claim") kind.Claim
+    ∷ needed (codes "--cert") kind.File ∷ []
+options_of verb.Odds =
+    needed (codes "--model") kind.File ∷ needed (codes "--faults") kind.File ∷ needed (codes "--top") kind.Event ∷ needed (codes "--depth") (kind.Number 0 1000000000) ∷ []
 
 -- what the value of an option is, where the options have one of this name
 abbrev pub kind_in : List Choice → Text → Option Kind

@@ -11,7 +11,7 @@ use crate::pairs::value_of;
 
 /// The first rule that the words after a verb break, as pairs of these options and their values: each option and its value from left
 /// to right, then the options that are missing, then the names of files.
-pub fn fault_in(options: &[Choice], words: &[&str]) -> Option<WordFault>
+pub(crate) fn fault_in(options: &[Choice], words: &[&str]) -> Option<WordFault>
     requires { length options.now ≤ 8 }
     ensures { result ≡ option_fault (map viewed options.now) (texts words.now) }
 {

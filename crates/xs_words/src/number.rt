@@ -5,7 +5,7 @@ ghost use Rattle.std.specs.List.{list_all};
 ghost use Rattle.xs_words.specs.Reading.{number_in, small_number_in, is_numeral};
 
 /// The number of a word of 1 to 10 decimal digits.
-pub fn number(word: &str) -> Option<u64>
+pub(crate) fn number(word: &str) -> Option<u64>
     ensures { result ≡ number_in word.now }
 {
     if !is_number(word) {

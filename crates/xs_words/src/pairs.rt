@@ -7,7 +7,7 @@ ghost use Rattle.xs_words.specs.Seen.{texts};
 use crate::number::small_number;
 
 /// The value that the words give an option.
-pub fn value_of<'a>(words: &[&'a str], option: &str) -> Option<&'a str>
+pub(crate) fn value_of<'a>(words: &[&'a str], option: &str) -> Option<&'a str>
     ensures { option_map (λ w. w.now) result ≡ value_in (pairs_of (texts words.now)) option.now }
 {
     let mut rest = words;
@@ -21,7 +21,7 @@ pub fn value_of<'a>(words: &[&'a str], option: &str) -> Option<&'a str>
 }
 
 /// The text that the words give an option, empty where they give none.
-pub fn text<'a>(words: &[&'a str], option: &str) -> &'a str
+pub(crate) fn text<'a>(words: &[&'a str], option: &str) -> &'a str
     ensures { result.now ≡ text_in (pairs_of (texts words.now)) option.now }
 {
     value_of(words, option).unwrap_or("")
@@ -36,7 +36,7 @@ pub(crate) fn optional_number(words: &[&str], option: &str) -> Option<u32>
 }
 
 /// The number that the words give an option, 0 where they give none.
-pub fn number(words: &[&str], option: &str) -> u32
+pub(crate) fn number(words: &[&str], option: &str) -> u32
     ensures { result ≡ number_at (pairs_of (texts words.now)) option.now }
 {
     optional_number(words, option).unwrap_or(0)

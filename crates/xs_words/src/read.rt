@@ -3,12 +3,16 @@ ghost use Rattle.std.specs.Prelude.{◌≡◌, IfOk, IfErr};
 ghost use Rattle.xs_words.specs.declared.command.Command.TheVariants as command;
 ghost use Rattle.xs_words.specs.Meaning.{Means, BreaksFirst};
 ghost use Rattle.xs_words.specs.Laws.{OneCommand, OneFault, CommandsHaveNoFault};
-ghost use Rattle.xs_words.specs.Reading.{pairs_of, reading, made};
+ghost use Rattle.xs_words.specs.Reading.{pairs_of, reading, fault_after, made};
 ghost use Rattle.xs_words.specs.Seen.{texts, seen, seen_result, rule_of, place_of};
 
-use crate::command::{Analyse, Check, Command, Extend, Fmea, Make, Replay};
+use crate::command::{
+    Analyse, Check, CheckCauses, CheckOrders, Command, Extend, FindCauses, FindOdds, FindOrders,
+    Fmea, Make, Replay,
+};
 use crate::fault::WordFault;
 use crate::faults::fault_in;
+use crate::pair::not_in_set;
 use crate::pairs::{number, optional_number, text};
 use crate::verb::Verb;
 
@@ -34,10 +38,21 @@ fn read<'a>(words: &'a [&'a str]) -> Result<Command<'a>, WordFault>
     let Some(verb) = Verb::named(name) else {
         return Err(WordFault::UnknownVerb { at: 1 });
     };
-    if let Some(fault) = fault_in(verb.options(), words) {
+    if let Some(fault) = broken_by(verb, words) {
         return Err(fault);
     }
     Ok(command(verb, words))
+}
+
+/// The first rule that the words after a verb break.
+fn broken_by(verb: Verb, words: &[&str]) -> Option<WordFault>
+    ensures { result ≡ fault_after verb (texts words.now) }
+{
+    let fault = fault_in(verb.options(), words);
+    if fault.is_some() {
+        return fault;
+    }
+    not_in_set(words)
 }
 
 /// The command of a verb and the values that the words give its options.
@@ -51,6 +66,11 @@ fn command<'a>(verb: Verb, words: &[&'a str]) -> Command<'a>
         Verb::Check => Command::Check(check(words)),
         Verb::Fmea => Command::Fmea(fmea(words)),
         Verb::Make => Command::Make(make(words)),
+        Verb::Causes => Command::Causes(causes(words)),
+        Verb::CheckCauses => Command::CheckCauses(check_causes(words)),
+        Verb::Orders => Command::Orders(orders(words)),
+        Verb::CheckOrders => Command::CheckOrders(check_orders(words)),
+        Verb::Odds => Command::Odds(odds(words)),
     }
 }
 
@@ -121,5 +141,71 @@ fn make<'a>(words: &[&'a str]) -> Make<'a>
         depth: number(words, "--depth"),
         model: text(words, "--model"),
         faults: text(words, "--faults"),
+    }
+}
+
+fn causes<'a>(words: &[&'a str]) -> FindCauses<'a>
+    ensures { seen (command.Causes result) ≡ made Verb.Causes (pairs_of (texts words.now)) }
+{
+    FindCauses {
+        model: text(words, "--model"),
+        faults: text(words, "--faults"),
+        causes: text(words, "--causes"),
+        top: text(words, "--top"),
+        depth: number(words, "--depth"),
+        cert: text(words, "--cert"),
+    }
+}
+
+fn check_causes<'a>(words: &[&'a str]) -> CheckCauses<'a>
+    ensures { seen (command.CheckCauses result) ≡ made Verb.CheckCauses (pairs_of (texts words.now)) }
+{
+    CheckCauses {
+        model: text(words, "--model"),
+        faults: text(words, "--faults"),
+        causes: text(words, "--causes"),
+        top: text(words, "--top"),
+        cert: text(words, "--cert"),
+    }
+}
+
+fn orders<'a>(words: &[&'a str]) -> FindOrders<'a>
+    ensures { seen (command.Orders result) ≡ made Verb.Orders (pairs_of (texts words.now)) }
+{
+    FindOrders {
+        model: text(words, "--model"),
+        faults: text(words, "--faults"),
+        top: text(words, "--top"),
+        set: text(words, "--set"),
+        first: number(words, "--first"),
+        second: number(words, "--second"),
+        depth: number(words, "--depth"),
+        cert: text(words, "--cert"),
+    }
+}
+
+fn check_orders<'a>(words: &[&'a str]) -> CheckOrders<'a>
+    ensures { seen (command.CheckOrders result) ≡ made Verb.CheckOrders (pairs_of (texts words.now)) }
+{
+    CheckOrders {
+        model: text(words, "--model"),
+        faults: text(words, "--faults"),
+        top: text(words, "--top"),
+        set: text(words, "--set"),
+        first: number(words, "--first"),
+        second: number(words, "--second"),
+        claim: text(words, "--claim"),
+        cert: text(words, "--cert"),
+    }
+}
+
+fn odds<'a>(words: &[&'a str]) -> FindOdds<'a>
+    ensures { seen (command.Odds result) ≡ made Verb.Odds (pairs_of (texts words.now)) }
+{
+    FindOdds {
+        model: text(words, "--model"),
+        faults: text(words, "--faults"),
+        top: text(words, "--top"),
+        depth: number(words, "--depth"),
     }
 }

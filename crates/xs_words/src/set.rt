@@ -51,7 +51,7 @@ fn rises(last: u64, next: u64) -> bool
 }
 
 /// Whether one of the words spells the number.
-pub fn has_number(set: &str, wanted: Option<u64>) -> bool
+pub(crate) fn has_number(set: &str, wanted: Option<u64>) -> bool
     ensures { result ≡ has_number_in (words_of set.now) wanted }
 {
     let mut rest = Some(set);
@@ -66,7 +66,7 @@ pub fn has_number(set: &str, wanted: Option<u64>) -> bool
 }
 
 /// Whether both are numbers, and one.
-pub fn is_same(one: Option<u64>, other: Option<u64>) -> bool
+pub(crate) fn is_same(one: Option<u64>, other: Option<u64>) -> bool
     ensures { result ≡ are_same one other }
 {
     match (one, other) {

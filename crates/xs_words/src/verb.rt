@@ -15,6 +15,11 @@ pub enum Verb {
     Check,
     Fmea,
     Make,
+    Causes,
+    CheckCauses,
+    Orders,
+    CheckOrders,
+    Odds,
 }
 
 const MODEL: Choice = Choice {
@@ -98,6 +103,42 @@ const SIZE: Choice = Choice {
     required: false,
 };
 
+const CAUSES: Choice = Choice {
+    name: "--causes",
+    kind: Kind::File,
+    required: true,
+};
+
+const SET: Choice = Choice {
+    name: "--set",
+    kind: Kind::Set,
+    required: true,
+};
+
+const FIRST: Choice = Choice {
+    name: "--first",
+    kind: Kind::Number {
+        least: 1,
+        most: 256,
+    },
+    required: true,
+};
+
+const SECOND: Choice = Choice {
+    name: "--second",
+    kind: Kind::Number {
+        least: 1,
+        most: 256,
+    },
+    required: true,
+};
+
+const CLAIM: Choice = Choice {
+    name: "--claim",
+    kind: Kind::Claim,
+    required: true,
+};
+
 impl Verb {
     /// The verb of this name.
     pub(crate) fn named(name: &str) -> Option<Verb>
@@ -110,6 +151,11 @@ impl Verb {
             "check" => Some(Verb::Check),
             "fmea" => Some(Verb::Fmea),
             "make" => Some(Verb::Make),
+            "causes" => Some(Verb::Causes),
+            "check-causes" => Some(Verb::CheckCauses),
+            "orders" => Some(Verb::Orders),
+            "check-orders" => Some(Verb::CheckOrders),
+            "odds" => Some(Verb::Odds),
             _ => None,
         }
     }
@@ -125,6 +171,11 @@ impl Verb {
             Verb::Check => &[MODEL, FAULTS, TOP, CERT],
             Verb::Fmea => &[MODEL, FAULTS, TOPS, ROW_SIZE, DEPTH],
             Verb::Make => &[NUMBER, STAGES, DEPTH, MODEL, FAULTS],
+            Verb::Causes => &[MODEL, FAULTS, CAUSES, TOP, DEPTH, CERT],
+            Verb::CheckCauses => &[MODEL, FAULTS, CAUSES, TOP, CERT],
+            Verb::Orders => &[MODEL, FAULTS, TOP, SET, FIRST, SECOND, DEPTH, CERT],
+            Verb::CheckOrders => &[MODEL, FAULTS, TOP, SET, FIRST, SECOND, CLAIM, CERT],
+            Verb::Odds => &[MODEL, FAULTS, TOP, DEPTH],
         }
     }
 }

@@ -1,10 +1,9 @@
 //! Extends SMV models with faults, replays traces of the extensions, finds their minimal cut sets, checks
 //! certificates of them, makes tables of them, generates cases, bounds probabilities, and takes in common causes and orders of faults.
 //!
-//! `main` hands [`xs_run::run::run`], or for a further verb [`reach::run`], the words of the command line, a desk
-//! over real files, and but for the further verbs the advisers of the search; all that is promised of a run stands at these calls.
-//! The desk over real files is `real_desk`. The file `reach` is the top call of the further verbs, over any desk, and `verbs` calls
-//! the crate of each; what a run of one comes to stands in `specs/Runs.antt`.
+//! `main` hands [`xs_run::run::run`] the words of the command line, a desk over real files, and the advisers of the searches, and ends
+//! with the number of its status; all that is promised of a run stands at that call, and `ended` promises that the number is that
+//! of the status. The desk over real files is `real_desk`.
 //!
 //! ```text
 //! xsap_program extend --model lamp.smv --faults lamp.fei --extended out.smv
@@ -21,20 +20,22 @@
 //! ```
 #![tactic(auto)]
 
-use reach::is_reach;
+ghost use Rattle.std.specs.Prelude.{◌≡◌, IfOk, map, pos};
+ghost use Rattle.xs_loading.specs.Statuses.{number_of as number_of_status};
+ghost use Rattle.xsap_program.specs.Ended.{HasRun, IsEnded};
+
 use real_desk::RealDesk;
 use std::alloc::{AllocError, Global};
 use std::env;
 use std::io::ErrorKind;
 use std::process::ExitCode;
 use xs_adviser::{Active, Adviser, InOrder};
+use xs_desk::Desk;
 use xs_loading::status::Status;
 use xs_run::run::run;
 use xs_value::OutOfMemory;
 
-mod reach;
 mod real_desk;
-mod verbs;
 
 /// The number that the program ends with where a word is not text, which no status has.
 const NOT_TEXT: u8 = 11;
@@ -60,30 +61,52 @@ fn number_of(rt: HostRuntime, alloc: Global, words: &[String]) -> u8 {
         .map(|word| word.as_str())
         .collect::<Vec<&str>>(alloc)
     {
-        Ok(words) => match advised(rt, alloc, &words) {
-            Ok(number) => number,
-            Err(OutOfMemory) => exit_number(&Status::Memory),
-        },
+        Ok(words) => {
+            let mut desk = RealDesk::new(rt);
+            ended(alloc, &words, &mut desk)
+        }
         Err(AllocError) => exit_number(&Status::Memory),
     }
 }
 
-/// The number of a run. Two advisers serve it, unless it is of a further verb: one in the order of the variables, one that
-/// prefers what was learned lately.
-fn advised(rt: HostRuntime, alloc: Global, words: &[&str]) -> Result<u8, OutOfMemory> {
-    let mut desk = RealDesk::new(rt);
-    if is_reach(words) {
-        let status = reach::run(alloc, words, &mut desk);
-        return Ok(status.number() as u8);
+/// The number of the status with which a run with these words over a desk ends.
+fn ended<D: Desk>(alloc: Global, words: &[&str], desk: &mut D) -> u8
+    ensures { IsEnded (map (λ w. w.now) words.now) result (D.files desk.old) (D.files desk.new) (D.said desk.old) (D.said desk.new)
+        (D.faults desk.old) (D.faults desk.new) }
+{
+    match advised(alloc, words, desk) {
+        Ok(status) => exit_number(&status),
+        Err(OutOfMemory) => exit_number(&Status::Memory),
     }
+}
+
+/// The status of a run. Two advisers serve its searches: one in the order of the variables, one that prefers what was learned
+/// lately.
+fn advised<D: Desk>(alloc: Global, words: &[&str], desk: &mut D) -> Result<Status, OutOfMemory>
+    ensures { IfOk result (λ s. HasRun (map (λ w. w.now) words.now) s (D.files desk.old) (D.files desk.new) (D.said desk.old) (D.said desk.new)
+        (D.faults desk.old) (D.faults desk.new)) }
+{
     let mut advisers: Vec<Box<dyn Adviser>> = Vec::new(alloc);
     advisers.push(Box::new(alloc, InOrder::new())?)?;
     advisers.push(Box::new(alloc, Active::new(alloc))?)?;
-    let status = run(alloc, words, &mut desk, advisers);
-    Ok(exit_number(&status))
+    Ok(run(alloc, words, desk, advisers))
 }
 
 /// The number of a status, as the system takes it.
-fn exit_number(status: &Status) -> u8 {
-    status.number() as u8
+fn exit_number(status: &Status) -> u8
+    ensures { pos result ≡ number_of_status status.now }
+{
+    match status {
+        Status::Done => 0,
+        Status::Bounded(_) => 1,
+        Status::Words(_) => 2,
+        Status::Model(_) => 3,
+        Status::Faults(_) => 4,
+        Status::Top(_) => 5,
+        Status::NotAccepted(_) => 6,
+        Status::Desk => 7,
+        Status::Memory => 8,
+        Status::Causes(_) => 9,
+        Status::Set(_) => 10,
+    }
 }

@@ -2,7 +2,7 @@ use Rattle.std.proofs.Common.{Err, inl, sym, ap, ◌∙◌}
 use Rattle.std.proofs.lemmas.Result.{err_from_is_err_and}
 use Rattle.xs_desk.specs.Desk.{said_more}
 use Rattle.xs_loading.proofs.SaidLaws.{rose_later}
-use Rattle.xs_reach_status.proofs.StopLaws.{write_refused, write_desk}
+use Rattle.xs_loading.proofs.StopLaws.{write_refused, write_desk}
 use Rattle.xs_find_causes.proofs.CausesLaws.{has_checked, leaves_checked, says_part}
 use Rattle.xs_find_causes.proofs.causes.check_causes.Goals as goal
 use Rattle.xs_value.proofs.ResultLaws.{same_fault}

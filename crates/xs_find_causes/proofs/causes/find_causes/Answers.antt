@@ -1,9 +1,10 @@
-use Rattle.std.proofs.Common.{Err, inl, sym, ap, ◌∙◌}
+use Rattle.std.proofs.Common.{Err, inl, sym, ap, subst, ◌∙◌}
 use Rattle.std.proofs.lemmas.Result.{err_from_is_err_and}
 use Rattle.xs_desk.specs.Desk.{said_more}
 use Rattle.xs_loading.specs.Answered.{told_maybe}
+use Rattle.xs_loading.specs.Statuses.{IsBoundedAt}
 use Rattle.xs_loading.proofs.SaidLaws.{rose_later}
-use Rattle.xs_reach_status.proofs.StopLaws.{write_refused, write_desk}
+use Rattle.xs_loading.proofs.StopLaws.{write_refused, write_desk}
 use Rattle.xs_find_causes.proofs.CausesLaws.{has_found, leaves_found}
 use Rattle.xs_find_causes.proofs.causes.find_causes.Goals as goal
 use Rattle.xs_value.proofs.ResultLaws.{same_fault}
@@ -36,6 +37,9 @@ returns-clause-ok g c =
     has_found _ _ _ _ c.args.asked.now.cert.now c.args.asked.now.depth _ c.in_ok-found.found c.in_ok-found.ensures.ok c.ended_as.result _ _ _ _ c.ended_as.ensures.ends
     (c.in_ok-conclude.ensures.ok.0 ∙ ap (λ t. told_maybe t c.args.asked.now.cert.now c.in_ok-found.found.cert) c.prepare_causes.ensures.files)
     (c.in_ok-conclude.ensures.ok.1 ∙ ap (λ t. said_more t c.in_ok-found.found.report) c.prepare_causes.ensures.said)
+
+pub returns-clause-depth : goal.returns-clause-depth
+returns-clause-depth g c = subst (IsBoundedAt c.args.asked.now.depth) (sym c.ended_as.ensures.ends) c.in_ok-found.ensures.depth
 
 pub returns-clause-left : goal.returns-clause-left
 returns-clause-left g c =

@@ -1,9 +1,9 @@
-use Rattle.std.proofs.Common.{rules, ◌<◌, ◌^◌, length, sym, subst}
+use Rattle.std.proofs.Common.{rules, ◌<◌, ◌^◌, length, sym, subst, ◌∙◌}
 use Rattle.xs_cert.specs.Seen.{seen}
 use Rattle.xs_check.specs.Matter.{matter_of}
 use Rattle.xs_check.specs.Found.{IsJudged}
 use Rattle.xs_find_causes.proofs.StagedLaws.{event_fits, event_certifies, event_not_accepted}
-use Rattle.xs_find_causes.proofs.CausesLaws.{shared_refused}
+use Rattle.xs_find_causes.proofs.CausesLaws.{one_refusal}
 use Rattle.xs_find_causes.proofs.causes.judge.Goals as goal
 use Rattle.xs_value.proofs.ResultLaws.{same_fault}
 
@@ -22,5 +22,5 @@ returns-in-Yes-clause-ok c =
 pub returns-in-No-clause-refused : goal.returns-in-No-clause-refused
 returns-in-No-clause-refused c r e =
     let l = c.args.staged.now in
-    event_not_accepted l c.requires.event (seen c.args.certificate.now) c.in-No.line c.in-No.rule r (shared_refused _ _ r (sym (same_fault e)) c.from.ensures c.line_stop.ensures)
+    event_not_accepted l c.requires.event (seen c.args.certificate.now) c.in-No.line c.in-No.rule r (one_refusal (sym (same_fault e) ∙ c.line_stop.ensures))
     (subst (λ j. IsJudged (matter_of l.full.model l.typed.model l.events l.loaded.top (seen c.args.certificate.now)) j) c.in-No.is c.in_ok-judged.ensures)

@@ -5,8 +5,7 @@ use Rattle.std.proofs.lemmas.Result.{err_from_is_err_and}
 use Rattle.xs_flat_laws.specs.FaultModes.{mode_of}
 use Rattle.xs_text_laws.specs.AnalysisText.{size_line}
 use Rattle.xs_cert.specs.Seen.{seen}
-use Rattle.xs_reach_status.specs.declared.stop.Stop.TheVariants as stop
-use Rattle.xs_reach_status.proofs.StopLaws.{stop_refused, stop_desk}
+use Rattle.xs_loading.specs.declared.input.Stop.TheVariants as stop
 use Rattle.xs_find_causes.proofs.CausesLaws.{no_file, line_refused, accepts_staged}
 use Rattle.xs_find_causes.proofs.causes.judge_file.Goals as goal
 use Rattle.xs_value.proofs.ResultLaws.{same_fault}
@@ -14,13 +13,13 @@ use Rattle.xs_value.proofs.ResultLaws.{same_fault}
 pub returns-in_err-certificate-clause-refused : goal.returns-in_err-certificate-clause-refused
 returns-in_err-certificate-clause-refused g c r e =
     let exit = err_from_is_err_and c.from_residual.result c.from_residual.ensures.1 in
-    let is = stop_refused _ r (sym exit.2 ∙ same_fault (sym exit.1 ∙ e)) in
-    no_file c.args.staged.now _ _ r is.refused is.told (c.load_certificate.ensures.refused is.refused (c.in_err-certificate.was ∙ ap (λ s. Err s) is.is))
+    let is = sym exit.2 ∙ same_fault (sym exit.1 ∙ e) in
+    no_file c.args.staged.now _ _ r (c.load_certificate.ensures.refused r (c.in_err-certificate.was ∙ ap (λ s. Err s) is))
 
 pub returns-in_err-certificate-clause-failed : goal.returns-in_err-certificate-clause-failed
 returns-in_err-certificate-clause-failed g c e =
     let exit = err_from_is_err_and c.from_residual.result c.from_residual.ensures.1 in
-    let is = stop_desk _ (sym exit.2 ∙ same_fault (sym exit.1 ∙ e)) in
+    let is = sym exit.2 ∙ same_fault (sym exit.1 ∙ e) in
     c.load_certificate.ensures.failed (c.in_err-certificate.was ∙ ap (λ s. Err s) is)
 
 pub returns-in_err-judge-clause-refused : goal.returns-in_err-judge-clause-refused

@@ -1,6 +1,6 @@
 use Rattle.std.proofs.Common.{Err, IsErrOf, sym, ap, ◌∙◌}
 use Rattle.std.proofs.lemmas.Result.{err_from_is_err_and, IfOk-weaker}
-use Rattle.xs_reach_status.specs.declared.stop.Stop.TheVariants as stop
+use Rattle.xs_loading.specs.declared.input.Stop.TheVariants as stop
 use Rattle.xs_find_causes.proofs.CausesLaws.{holds_staged, check_no_staged, check_no_certificate, accepts_causes}
 use Rattle.xs_find_causes.proofs.causes.prepare_check.Goals as goal
 use Rattle.xs_value.proofs.ResultLaws.{same_fault}

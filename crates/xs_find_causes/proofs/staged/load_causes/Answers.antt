@@ -1,7 +1,7 @@
 use Rattle.std.proofs.Common.{Err, IsErrOf, sym, ap, map, subst, ◌∙◌}
 use Rattle.std.proofs.lemmas.Result.{err_from_is_err_and}
 use Rattle.xs_staging.specs.CauseOf.{cause_of}
-use Rattle.xs_reach_status.specs.declared.stop.Stop.TheVariants as stop
+use Rattle.xs_loading.specs.declared.input.Stop.TheVariants as stop
 use Rattle.xs_find_causes.specs.Causes.{flat_in, modes_in, faults_in, extension_in, AreCausesOf}
 use Rattle.xs_find_causes.specs.Refusals.{RefusesBytes}
 use Rattle.xs_find_causes.proofs.CausesLaws.{holds_causes, no_desk_at_causes, file_refused, bytes_refused, refuses_limit}

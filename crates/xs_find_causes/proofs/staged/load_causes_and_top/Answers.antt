@@ -4,8 +4,7 @@ use Rattle.xs_tree.specs.ProgramTree.{program_tree}
 use Rattle.xs_tree.specs.ModelTree.{model_tree}
 use Rattle.xs_staging.specs.CauseOf.{cause_of}
 use Rattle.xs_loading.specs.Loaded.{case_of}
-use Rattle.xs_reach_status.specs.declared.stop.Stop.TheVariants as stop
-use Rattle.xs_reach_status.proofs.StopLaws.{stop_refused, stop_desk}
+use Rattle.xs_loading.specs.declared.input.Stop.TheVariants as stop
 use Rattle.xs_find_causes.proofs.CausesLaws.{has_causes, keeps_limits, staged_no_causes, staged_no_top}
 use Rattle.xs_find_causes.proofs.staged.load_causes_and_top.Goals as goal
 use Rattle.xs_value.proofs.ResultLaws.{same_fault}
@@ -35,16 +34,16 @@ returns-in_err-staged-clause-failed g c e =
 
 pub returns-in-Err-clause-refused : goal.returns-in-Err-clause-refused
 returns-in-Err-clause-refused g c r e of_model of_faults holds =
-    let is = stop_refused _ r (sym c.from.ensures ∙ same_fault e) in
+    let is = same_fault e in
     let p = program_tree c.args.model.now.program in
     let cs = map cause_of c.in_ok-staged.staged.causes in
     let has = has_causes _ _ p c.args.case.now _ cs c.requires.loaded refl c.in_ok-staged.ensures.ok in
-    staged_no_top of_model of_faults _ _ _ (case_of p c.args.case.now) cs r is.refused is.told holds has (keeps_limits c.args.case.now cs _ _ _ c.in_ok-staged.ensures.staged.staged)
-    (c.load_top.ensures.refused is.refused (c.in-Err.is ∙ ap (λ s. Err s) is.is))
+    staged_no_top of_model of_faults _ _ _ (case_of p c.args.case.now) cs r holds has (keeps_limits c.args.case.now cs _ _ _ c.in_ok-staged.ensures.staged.staged)
+    (c.load_top.ensures.refused r (c.in-Err.is ∙ ap (λ s. Err s) is))
 
 pub returns-in-Err-clause-failed : goal.returns-in-Err-clause-failed
 returns-in-Err-clause-failed g c e =
-    absurd (c.load_top.ensures.desk (c.in-Err.is ∙ ap (λ s. Err s) (stop_desk _ (sym c.from.ensures ∙ same_fault e))))
+    absurd (c.load_top.ensures.desk (c.in-Err.is ∙ ap (λ s. Err s) (same_fault e)))
 
 pub returns-in_err-staged-clause-files : goal.returns-in_err-staged-clause-files
 returns-in_err-staged-clause-files g c = c.load_causes.ensures.files

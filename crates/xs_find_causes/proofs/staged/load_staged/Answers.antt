@@ -6,8 +6,7 @@ use Rattle.xs_staging.specs.CauseOf.{cause_of}
 use Rattle.xs_loading.specs.Loaded.{case_of}
 use Rattle.xs_loading.proofs.LoadedLaws.{holds_case}
 use Rattle.xs_loading.proofs.SaidLaws.{rose_later}
-use Rattle.xs_reach_status.specs.declared.stop.Stop.TheVariants as stop
-use Rattle.xs_reach_status.proofs.StopLaws.{stop_refused, stop_desk}
+use Rattle.xs_loading.specs.declared.input.Stop.TheVariants as stop
 use Rattle.xs_find_causes.proofs.CausesLaws.{has_causes, staged_no_model, staged_no_faults, staged_no_rest}
 use Rattle.xs_find_causes.proofs.staged.load_staged.Goals as goal
 use Rattle.xs_value.proofs.ResultLaws.{same_fault}
@@ -33,25 +32,25 @@ returns-clause-staged g c =
 pub returns-in_err-model-clause-refused : goal.returns-in_err-model-clause-refused
 returns-in_err-model-clause-refused g c r e =
     let exit = err_from_is_err_and c.from_residual.result c.from_residual.ensures.1 in
-    let is = stop_refused _ r (sym exit.2 ∙ same_fault (sym exit.1 ∙ e)) in
-    staged_no_model _ _ _ _ _ r is.refused is.told (c.load_model.ensures.refused is.refused (c.in_err-model.was ∙ ap (λ s. Err s) is.is))
+    let is = sym exit.2 ∙ same_fault (sym exit.1 ∙ e) in
+    staged_no_model _ _ _ _ _ r (c.load_model.ensures.refused r (c.in_err-model.was ∙ ap (λ s. Err s) is))
 
 pub returns-in_err-model-clause-failed : goal.returns-in_err-model-clause-failed
 returns-in_err-model-clause-failed g c e =
     let exit = err_from_is_err_and c.from_residual.result c.from_residual.ensures.1 in
-    let is = stop_desk _ (sym exit.2 ∙ same_fault (sym exit.1 ∙ e)) in
+    let is = sym exit.2 ∙ same_fault (sym exit.1 ∙ e) in
     c.load_model.ensures.failed (c.in_err-model.was ∙ ap (λ s. Err s) is)
 
 pub returns-in_err-case-clause-refused : goal.returns-in_err-case-clause-refused
 returns-in_err-case-clause-refused g c r e =
     let exit = err_from_is_err_and c.from_residual-in_err-case.result c.from_residual-in_err-case.ensures.1 in
-    let is = stop_refused _ r (sym exit.2 ∙ same_fault (sym exit.1 ∙ e)) in
-    staged_no_faults _ _ _ _ _ _ _ r is.refused is.told c.load_model.ensures.files c.in_ok-model.ensures.ok (c.load_case.ensures.refused is.refused (c.in_err-case.was ∙ ap (λ s. Err s) is.is))
+    let is = sym exit.2 ∙ same_fault (sym exit.1 ∙ e) in
+    staged_no_faults _ _ _ _ _ _ _ r c.load_model.ensures.files c.in_ok-model.ensures.ok (c.load_case.ensures.refused r (c.in_err-case.was ∙ ap (λ s. Err s) is))
 
 pub returns-in_err-case-clause-failed : goal.returns-in_err-case-clause-failed
 returns-in_err-case-clause-failed g c e =
     let exit = err_from_is_err_and c.from_residual-in_err-case.result c.from_residual-in_err-case.ensures.1 in
-    let is = stop_desk _ (sym exit.2 ∙ same_fault (sym exit.1 ∙ e)) in
+    let is = sym exit.2 ∙ same_fault (sym exit.1 ∙ e) in
     rose_later _ _ _ c.load_model.ensures.later (c.load_case.ensures.failed (c.in_err-case.was ∙ ap (λ s. Err s) is))
 
 pub returns-in_err-found-clause-refused : goal.returns-in_err-found-clause-refused

@@ -4,8 +4,7 @@ use Rattle.xs_tree.specs.ProgramTree.{program_tree}
 use Rattle.xs_tree.specs.ModelTree.{model_tree}
 use Rattle.xs_loading.specs.Loaded.{case_of}
 use Rattle.xs_loading.proofs.LoadedLaws.{holds_case}
-use Rattle.xs_reach_status.specs.declared.stop.Stop.TheVariants as stop
-use Rattle.xs_reach_status.proofs.StopLaws.{stop_refused, stop_desk}
+use Rattle.xs_loading.specs.declared.input.Stop.TheVariants as stop
 use Rattle.xs_find_odds.proofs.OddsLaws.{odds_no_model, odds_no_faults, odds_no_mark, odds_no_top}
 use Rattle.xs_find_odds.proofs.odds.load_marked.Goals as goal
 use Rattle.xs_value.proofs.ResultLaws.{same_fault}
@@ -13,20 +12,20 @@ use Rattle.xs_value.proofs.ResultLaws.{same_fault}
 pub returns-in_err-model-clause-refused : goal.returns-in_err-model-clause-refused
 returns-in_err-model-clause-refused g c r e =
     let exit = err_from_is_err_and c.from_residual.result c.from_residual.ensures.1 in
-    let is = stop_refused _ r (sym exit.2 ∙ same_fault (sym exit.1 ∙ e)) in
-    odds_no_model _ _ _ _ r is.refused is.told (c.load_model.ensures.refused is.refused (c.in_err-model.was ∙ ap (λ s. Err s) is.is))
+    let is = sym exit.2 ∙ same_fault (sym exit.1 ∙ e) in
+    odds_no_model _ _ _ _ r (c.load_model.ensures.refused r (c.in_err-model.was ∙ ap (λ s. Err s) is))
 
 pub returns-in_err-model-clause-failed : goal.returns-in_err-model-clause-failed
 returns-in_err-model-clause-failed g c e =
     let exit = err_from_is_err_and c.from_residual.result c.from_residual.ensures.1 in
-    let is = stop_desk _ (sym exit.2 ∙ same_fault (sym exit.1 ∙ e)) in
+    let is = sym exit.2 ∙ same_fault (sym exit.1 ∙ e) in
     c.load_model.ensures.failed (c.in_err-model.was ∙ ap (λ s. Err s) is)
 
 pub returns-in_err-case-clause-refused : goal.returns-in_err-case-clause-refused
 returns-in_err-case-clause-refused g c r e =
     let exit = err_from_is_err_and c.from_residual-in_err-case.result c.from_residual-in_err-case.ensures.1 in
-    let is = stop_refused _ r (sym exit.2 ∙ same_fault (sym exit.1 ∙ e)) in
-    odds_no_faults _ _ _ _ _ _ r is.refused is.told c.load_model.ensures.files c.in_ok-model.ensures.ok (c.load_case.ensures.refused is.refused (c.in_err-case.was ∙ ap (λ s. Err s) is.is))
+    let is = sym exit.2 ∙ same_fault (sym exit.1 ∙ e) in
+    odds_no_faults _ _ _ _ _ _ r c.load_model.ensures.files c.in_ok-model.ensures.ok (c.load_case.ensures.refused r (c.in_err-case.was ∙ ap (λ s. Err s) is))
 
 pub returns-in_err-odds-clause-refused : goal.returns-in_err-odds-clause-refused
 returns-in_err-odds-clause-refused g c r e =
@@ -45,15 +44,15 @@ returns-in_err-odds-clause-failed g c e =
 pub returns-in_err-top-clause-refused : goal.returns-in_err-top-clause-refused
 returns-in_err-top-clause-refused g c r e =
     let exit = err_from_is_err_and c.from_residual-in_err-top.result c.from_residual-in_err-top.ensures.1 in
-    let is = stop_refused _ r (sym exit.2 ∙ same_fault (sym exit.1 ∙ e)) in
+    let is = sym exit.2 ∙ same_fault (sym exit.1 ∙ e) in
     let p = program_tree c.in_ok-model.model.program in
     let holds = holds_case _ _ c.args.asked.now.top.now c.args.asked.now.top.now _ _ p c.in_ok-case.case c.load_model.ensures.files c.in_ok-model.ensures.ok c.in_ok-case.ensures.ok in
-    odds_no_top _ _ _ _ (case_of p c.in_ok-case.case) r is.refused is.told holds c.in_ok-odds.ensures.all (c.load_top.ensures.refused is.refused (c.in_err-top.was ∙ ap (λ s. Err s) is.is))
+    odds_no_top _ _ _ _ (case_of p c.in_ok-case.case) r holds c.in_ok-odds.ensures.all (c.load_top.ensures.refused r (c.in_err-top.was ∙ ap (λ s. Err s) is))
 
 pub returns-in_err-top-clause-failed : goal.returns-in_err-top-clause-failed
 returns-in_err-top-clause-failed g c e =
     let exit = err_from_is_err_and c.from_residual-in_err-top.result c.from_residual-in_err-top.ensures.1 in
-    let is = stop_desk _ (sym exit.2 ∙ same_fault (sym exit.1 ∙ e)) in
+    let is = sym exit.2 ∙ same_fault (sym exit.1 ∙ e) in
     absurd (c.load_top.ensures.desk (c.in_err-top.was ∙ ap (λ s. Err s) is))
 
 pub returns-clause-ok : goal.returns-clause-ok

@@ -4,7 +4,7 @@ use Rattle.std.proofs.lemmas.Result.{err_from_is_err_and}
 use Rattle.xs_desk.specs.Desk.{SaysPrefix}
 use Rattle.xs_words.specs.Sets.{numbers_of}
 use Rattle.xs_loading.proofs.SaidLaws.{rose_later, says_in_part}
-use Rattle.xs_reach_status.proofs.StopLaws.{write_refused, write_desk}
+use Rattle.xs_loading.proofs.StopLaws.{write_refused, write_desk}
 use Rattle.xs_find_orders.proofs.ClaimLaws.{check_said}
 use Rattle.xs_find_orders.proofs.claims.check_orders.Goals as goal
 use Rattle.xs_value.proofs.ResultLaws.{same_fault}

@@ -24,7 +24,7 @@ returns-clause-refused c r e =
     let s = c.args.staged.now in
     let found = subst (IsJudgedUnlisted (staged_matter (model_tree s.typed.model) (flat_tree c.in_ok-top.top) (seen c.args.certificate.now))) c.in-No.is c.in_ok-judged.ensures in
     claim_refused s c.requires.staged c.args.claim (flat_tree c.in_ok-top.top) c.in_ok-top.ensures.speaks c.in_ok-top.ensures.searchable c.args.certificate.now c.in-No.line c.in-No.rule r
-    (line_refused c.in-No.line c.in-No.rule _ r c.line_stop.ensures (sym c.from.ensures ∙ same_fault e)) found
+    (line_refused c.in-No.line c.in-No.rule _ r c.line_stop.ensures (same_fault e)) found
 
 pub returns-clause-desk : goal.returns-clause-desk
-returns-clause-desk c e = line_no_desk c.in-No.line c.in-No.rule _ c.line_stop.ensures (sym c.from.ensures ∙ same_fault e)
+returns-clause-desk c e = line_no_desk c.in-No.line c.in-No.rule _ c.line_stop.ensures (same_fault e)

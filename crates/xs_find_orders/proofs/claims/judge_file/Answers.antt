@@ -1,7 +1,6 @@
 use Rattle.std.proofs.Common.{Err, sym, ap, subst, ◌∙◌, OnOk}
 use Rattle.std.proofs.lemmas.Result.{err_from_is_err_and}
 use Rattle.xs_cert.specs.Seen.{seen}
-use Rattle.xs_reach_status.proofs.StopLaws.{stop_refused, stop_desk}
 use Rattle.xs_find_orders.specs.Orders.{IsAcceptedClaim, RefusesClaim, claim_in}
 use Rattle.xs_find_orders.specs.Claimed.{staged_in, against_in}
 use Rattle.xs_find_orders.proofs.ClaimLaws.{file_unread, file_unfit, file_accepted}
@@ -17,14 +16,14 @@ judge-requires-clause-checkable g c = c.in_ok-certificate.ensures.checkable
 pub returns-in_err-certificate-clause-refused : goal.returns-in_err-certificate-clause-refused
 returns-in_err-certificate-clause-refused g c r e =
     let exit = err_from_is_err_and c.from_residual.result c.from_residual.ensures.1 in
-    let is = stop_refused _ r (sym exit.2 ∙ same_fault (sym exit.1 ∙ e)) in
+    let is = sym exit.2 ∙ same_fault (sym exit.1 ∙ e) in
     let s = c.args.staged.now in
-    file_unread c.args.cert.now (staged_in s) (against_in s (claim_in c.args.claim.now)) _ r is.refused is.told (c.load_certificate.ensures.refused is.refused (c.in_err-certificate.was ∙ ap (λ s. Err s) is.is))
+    file_unread c.args.cert.now (staged_in s) (against_in s (claim_in c.args.claim.now)) _ r (c.load_certificate.ensures.refused r (c.in_err-certificate.was ∙ ap (λ s. Err s) is))
 
 pub returns-in_err-certificate-clause-failed : goal.returns-in_err-certificate-clause-failed
 returns-in_err-certificate-clause-failed g c e =
     let exit = err_from_is_err_and c.from_residual.result c.from_residual.ensures.1 in
-    let is = stop_desk _ (sym exit.2 ∙ same_fault (sym exit.1 ∙ e)) in
+    let is = sym exit.2 ∙ same_fault (sym exit.1 ∙ e) in
     c.load_certificate.ensures.failed (c.in_err-certificate.was ∙ ap (λ s. Err s) is)
 
 pub returns-clause-ok : goal.returns-clause-ok

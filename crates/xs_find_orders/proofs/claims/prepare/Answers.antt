@@ -1,7 +1,7 @@
 use Rattle.std.proofs.Common.{Err, IsErrOf, sym, ap, ◌∙◌}
 use Rattle.std.proofs.lemmas.Result.{err_from_is_err_and}
 use Rattle.xs_loading.proofs.SaidLaws.{rose_later}
-use Rattle.xs_reach_status.specs.declared.stop.Stop.TheVariants as stop
+use Rattle.xs_loading.specs.declared.input.Stop.TheVariants as stop
 use Rattle.xs_find_orders.specs.declared.pair.PairWords.{PairWords}
 use Rattle.xs_find_orders.proofs.ClaimLaws.{check_no_pair, check_refused, check_done}
 use Rattle.xs_find_orders.proofs.claims.prepare.Goals as goal

@@ -1,8 +1,9 @@
-use Rattle.std.proofs.Common.{Err, inl, inr, sym, ap, ◌∙◌}
+use Rattle.std.proofs.Common.{Err, inl, inr, sym, ap, subst, ◌∙◌}
 use Rattle.std.proofs.lemmas.Result.{err_from_is_err_and}
 use Rattle.xs_words.specs.Sets.{numbers_of}
+use Rattle.xs_loading.specs.Statuses.{IsBoundedAt}
 use Rattle.xs_loading.proofs.SaidLaws.{rose_later}
-use Rattle.xs_reach_status.proofs.StopLaws.{write_refused, write_desk}
+use Rattle.xs_loading.proofs.StopLaws.{write_refused, write_desk}
 use Rattle.xs_find_orders.proofs.OrderLaws.{has_order, orders_in_part}
 use Rattle.xs_find_orders.proofs.orders.find_orders.Goals as goal
 use Rattle.xs_value.proofs.ResultLaws.{same_fault}
@@ -41,6 +42,9 @@ returns-clause-ok g c asked =
     let a = c.args.asked.now in
     has_order a.model.now a.faults.now a.top.now (numbers_of a.set.now) a.first a.second a.depth a.cert.now c.in_ok-found.found _ _ _ _ _ _ c.prepare.ensures.files c.prepare.ensures.said _ c.ended_as.result
     (c.in_ok-found.ensures.ok asked) c.ended_as.ensures.ends c.in_ok-conclude.ensures.ok.0 c.in_ok-conclude.ensures.ok.1
+
+pub returns-clause-depth : goal.returns-clause-depth
+returns-clause-depth g c = subst (IsBoundedAt c.args.asked.now.depth) (sym c.ended_as.ensures.ends) c.in_ok-found.ensures.depth
 
 pub returns-clause-left : goal.returns-clause-left
 returns-clause-left g c =

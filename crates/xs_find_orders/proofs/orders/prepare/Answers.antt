@@ -1,7 +1,7 @@
 use Rattle.std.proofs.Common.{Err, sym, ap, ◌∙◌}
 use Rattle.std.proofs.lemmas.Result.{err_from_is_err_and}
 use Rattle.xs_find_orders.specs.declared.pair.PairWords.{PairWords}
-use Rattle.xs_find_orders.proofs.OrderLaws.{concludes_from}
+use Rattle.xs_find_orders.proofs.OrderLaws.{concludes_from, concluded_within}
 use Rattle.xs_find_orders.proofs.orders.prepare.Goals as goal
 use Rattle.xs_value.proofs.ResultLaws.{same_fault}
 
@@ -18,3 +18,6 @@ returns-clause-ok g c asked =
     let a = c.args.asked.now in
     let w : PairWords = record { model = a.model; faults = a.faults; top = a.top; set = a.set; first = a.first; second = a.second } in
     concludes_from _ c.in_ok-staged.staged c.in_ok-staged.ensures.staged w a.depth c.in_ok-found.field-0 c.in_ok-staged.ensures.ok c.in_ok-staged.ensures.asked c.in_ok-staged.ensures.numbers c.in_ok-found.ensures asked
+
+pub returns-clause-depth : goal.returns-clause-depth
+returns-clause-depth g c = concluded_within c.in_ok-staged.staged c.args.asked.now.depth c.in_ok-found.field-0 c.in_ok-found.ensures

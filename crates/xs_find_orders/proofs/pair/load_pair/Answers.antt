@@ -6,9 +6,8 @@ use Rattle.xs_encode_laws.specs.FlatTraces.{IsNumbered}
 use Rattle.xs_type_laws.specs.Models.{IsTyped}
 use Rattle.xs_words.specs.Sets.{numbers_of}
 use Rattle.xs_loading.proofs.LoadedLaws.{holds_case}
-use Rattle.xs_reach_status.specs.declared.stop.Stop.TheVariants as stops
+use Rattle.xs_loading.specs.declared.input.Stop.TheVariants as stops
 use Rattle.xs_find_orders.specs.Pairs.{IsPair, IsStaged, RefusesStage}
-use Rattle.xs_reach_status.proofs.StopLaws.{stop_refused, stop_desk}
 use Rattle.xs_find_orders.proofs.PairLaws.{pair_no_model, pair_no_faults, pair_no_stage, pair_no_top}
 use Rattle.xs_find_orders.proofs.pair.load_pair.Goals as goal
 use Rattle.xs_value.proofs.ResultLaws.{same_fault}
@@ -28,20 +27,20 @@ returns-in_err-set-clause-failed g c e =
 pub returns-in_err-model-clause-refused : goal.returns-in_err-model-clause-refused
 returns-in_err-model-clause-refused g c r e asked =
     let exit = err_from_is_err_and c.from_residual-in_err-model.result c.from_residual-in_err-model.ensures.1 in
-    let is = stop_refused _ r (sym exit.2 ∙ same_fault (sym exit.1 ∙ e)) in
-    pair_no_model c.args.asked.now.model.now c.args.asked.now.faults.now c.args.asked.now.top.now (numbers_of c.args.asked.now.set.now) c.args.asked.now.first c.args.asked.now.second _ r is.refused is.told (c.load_model.ensures.refused is.refused (c.in_err-model.was ∙ ap (λ s. Err s) is.is))
+    let is = sym exit.2 ∙ same_fault (sym exit.1 ∙ e) in
+    pair_no_model c.args.asked.now.model.now c.args.asked.now.faults.now c.args.asked.now.top.now (numbers_of c.args.asked.now.set.now) c.args.asked.now.first c.args.asked.now.second _ r (c.load_model.ensures.refused r (c.in_err-model.was ∙ ap (λ s. Err s) is))
 
 pub returns-in_err-model-clause-failed : goal.returns-in_err-model-clause-failed
 returns-in_err-model-clause-failed g c e =
     let exit = err_from_is_err_and c.from_residual-in_err-model.result c.from_residual-in_err-model.ensures.1 in
-    let is = stop_desk _ (sym exit.2 ∙ same_fault (sym exit.1 ∙ e)) in
+    let is = sym exit.2 ∙ same_fault (sym exit.1 ∙ e) in
     c.load_model.ensures.failed (c.in_err-model.was ∙ ap (λ s. Err s) is)
 
 pub returns-in_err-case-clause-refused : goal.returns-in_err-case-clause-refused
 returns-in_err-case-clause-refused g c r e asked =
     let exit = err_from_is_err_and c.from_residual-in_err-case.result c.from_residual-in_err-case.ensures.1 in
-    let is = stop_refused _ r (sym exit.2 ∙ same_fault (sym exit.1 ∙ e)) in
-    pair_no_faults c.args.asked.now.model.now c.args.asked.now.faults.now c.args.asked.now.top.now (numbers_of c.args.asked.now.set.now) c.args.asked.now.first c.args.asked.now.second _ _ _ r is.refused is.told c.load_model.ensures.files c.in_ok-model.ensures.ok (c.load_case.ensures.refused is.refused (c.in_err-case.was ∙ ap (λ s. Err s) is.is))
+    let is = sym exit.2 ∙ same_fault (sym exit.1 ∙ e) in
+    pair_no_faults c.args.asked.now.model.now c.args.asked.now.faults.now c.args.asked.now.top.now (numbers_of c.args.asked.now.set.now) c.args.asked.now.first c.args.asked.now.second _ _ _ r c.load_model.ensures.files c.in_ok-model.ensures.ok (c.load_case.ensures.refused r (c.in_err-case.was ∙ ap (λ s. Err s) is))
 
 pub returns-in_err-typed-clause-refused : goal.returns-in_err-typed-clause-refused
 returns-in_err-typed-clause-refused g c r e asked =
@@ -62,19 +61,19 @@ returns-in_err-typed-clause-failed g c e =
 pub returns-in_err-top-clause-refused : goal.returns-in_err-top-clause-refused
 returns-in_err-top-clause-refused g c r e asked =
     let exit = err_from_is_err_and c.from_residual-in_err-top.result c.from_residual-in_err-top.ensures.1 in
-    let is = stop_refused _ r (sym exit.2 ∙ same_fault (sym exit.1 ∙ e)) in
+    let is = sym exit.2 ∙ same_fault (sym exit.1 ∙ e) in
     let p = program_tree c.in_ok-model.model.program in
     let holds = holds_case _ _ c.args.asked.now.top.now c.args.asked.now.top.now _ _ p c.in_ok-case.case c.load_model.ensures.files c.in_ok-model.ensures.ok c.in_ok-case.ensures.ok in
     let numbers : c.in_ok-set.set.items ≡ numbers_of c.args.asked.now.set.now = c.in_ok-set.ensures.numbers asked in
     let of = c.in_ok-typed.ensures.ok in
-    pair_no_top c.args.asked.now.model.now c.args.asked.now.faults.now c.args.asked.now.top.now (numbers_of c.args.asked.now.set.now) c.args.asked.now.first c.args.asked.now.second _ p c.in_ok-case.case r is.refused is.told c.in_ok-case.ensures.loaded holds
+    pair_no_top c.args.asked.now.model.now c.args.asked.now.faults.now c.args.asked.now.top.now (numbers_of c.args.asked.now.set.now) c.args.asked.now.first c.args.asked.now.second _ p c.in_ok-case.case r c.in_ok-case.ensures.loaded holds
     (subst (IsNumbered (length c.in_ok-case.case.limited.faults)) (c.deref.ensures.value ∙ numbers) of.numbered) (subst IsTyped of.model of.typed)
-    (c.load_top.ensures.refused is.refused (c.in_err-top.was ∙ ap (λ s. Err s) is.is))
+    (c.load_top.ensures.refused r (c.in_err-top.was ∙ ap (λ s. Err s) is))
 
 pub returns-in_err-top-clause-failed : goal.returns-in_err-top-clause-failed
 returns-in_err-top-clause-failed g c e =
     let exit = err_from_is_err_and c.from_residual-in_err-top.result c.from_residual-in_err-top.ensures.1 in
-    let is = stop_desk _ (sym exit.2 ∙ same_fault (sym exit.1 ∙ e)) in
+    let is = sym exit.2 ∙ same_fault (sym exit.1 ∙ e) in
     absurd (c.load_top.ensures.desk (c.in_err-top.was ∙ ap (λ s. Err s) is))
 
 pub staged-requires : goal.staged-requires

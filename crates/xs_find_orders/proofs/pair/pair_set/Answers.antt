@@ -1,7 +1,7 @@
 use Rattle.std.proofs.Common.{Err, IsErrOf, sym, subst, ap, ◌∙◌}
 use Rattle.std.proofs.lemmas.Result.{err_from_is_err_and}
 use Rattle.xs_find_orders.specs.Pairs.{IsPair}
-use Rattle.xs_reach_status.specs.declared.stop.Stop.TheVariants as stops
+use Rattle.xs_loading.specs.declared.input.Stop.TheVariants as stops
 use Rattle.xs_find_orders.proofs.pair.pair_set.Goals as goal
 use Rattle.xs_value.proofs.ResultLaws.{same_fault}
 

@@ -2,7 +2,7 @@ use Rattle.std.proofs.Common.{Err, IsErrOf, length, subst, sym, ap, ◌∙◌}
 use Rattle.std.proofs.lemmas.Result.{IfOk-weaker, err_from_is_err_and}
 use Rattle.xs_encode_laws.specs.FlatTraces.{IsNumbered}
 use Rattle.xs_reach_laws.specs.Laws.{IsFaultNumber}
-use Rattle.xs_reach_status.specs.declared.stop.Stop.TheVariants as stops
+use Rattle.xs_loading.specs.declared.input.Stop.TheVariants as stops
 use Rattle.xs_find_orders.specs.Pairs.{IsFirstOutside, outside, unlawful}
 use Rattle.xs_find_orders.proofs.PairLaws.{number_of_fault}
 use Rattle.xs_find_orders.proofs.pair.staged.Goals as goal

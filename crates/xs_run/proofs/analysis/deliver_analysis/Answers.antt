@@ -22,7 +22,7 @@ pub returns-clause-ok : goal.returns-clause-ok
 returns-clause-ok g c =
     let a = c.args.asked.now in
     let first = written_extension a c.requires.loaded.program _ _ _ _ c.in_ok-text.ensures.text c.deref.ensures.value c.in_ok-write_whole.ensures.ok in
-    has_analysed _ _ _ _ _ a.cert.now c.in_ok-found.found c.in_ok-found.ensures _ _ _ _ _ first c.status_of.result c.status_of.ensures c.in_ok-conclude.ensures.ok.0
+    has_analysed _ _ _ _ _ a.cert.now c.in_ok-found.found c.in_ok-found.ensures _ _ _ _ _ first c.ended_as.result c.ended_as.ensures.ends c.in_ok-conclude.ensures.ok.0
     (c.in_ok-conclude.ensures.ok.1 ∙ ap (λ t. said_more t c.in_ok-found.found.report) c.write_whole.ensures.said)
 
 pub returns-clause-part : goal.returns-clause-part

@@ -23,7 +23,7 @@ returns-in_err-say_whole-clause-part g c =
 pub returns-clause-ok : goal.returns-clause-ok
 returns-clause-ok g c =
     has_made c.args.asked.now c.requires _ _ _ _ _ c.deref.ensures.value _ _ c.deref-2.ensures.value c.in_ok-write_whole.ensures.ok (c.say_whole.ensures.files ∙ c.in_ok-write_whole-2.ensures.ok)
-    c.in_ok-found.found c.in_ok-found.ensures _ c.as_slice.ensures _ (c.write_whole-2.ensures.said ∙ c.write_whole.ensures.said) c.status_of.result c.status_of.ensures c.in_ok-say_whole.ensures.ok
+    c.in_ok-found.found c.in_ok-found.ensures _ c.as_slice.ensures _ (c.write_whole-2.ensures.said ∙ c.write_whole.ensures.said) c.ended_as.result c.ended_as.ensures.ends c.in_ok-say_whole.ensures.ok
 
 pub returns-clause-part : goal.returns-clause-part
 returns-clause-part g c =

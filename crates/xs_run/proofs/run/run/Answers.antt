@@ -1,3 +1,6 @@
+use Rattle.std.proofs.Common.{sym, subst}
+use Rattle.xs_words.specs.Commands.{causes, check_causes, orders, check_orders, odds}
+use Rattle.xs_loading.specs.Statuses.{IsFinished}
 use Rattle.xs_run.proofs.ExtensionLemmas.{done_extends}
 use Rattle.xs_run.proofs.OneOutcome.{answers_exactly}
 use Rattle.xs_run.proofs.ReplayedLaws.{done_replays, reaching_is_done}
@@ -5,6 +8,8 @@ use Rattle.xs_run.proofs.AnalysedLaws.{done_analyses, bounded_analyses}
 use Rattle.xs_run.proofs.CheckedLaws.{done_checks}
 use Rattle.xs_run.proofs.TabulatedLaws.{finished_tabulates}
 use Rattle.xs_run.proofs.MadeLaws.{finished_makes}
+use Rattle.xs_run.proofs.FurtherLaws.{finished_or, finished_work}
+use Rattle.xs_run.proofs.ShortLaws.{bounded_is_short}
 use Rattle.xs_run.proofs.run.run.Goals as goal
 
 pub returns-clause-answered : goal.returns-clause-answered
@@ -39,3 +44,41 @@ returns-clause-made g c number stages depth model faults = finished_makes _ _ _ 
 
 pub returns-clause-left : goal.returns-clause-left
 returns-clause-left g c = c.answer.ensures.left
+
+pub returns-clause-caused : goal.returns-clause-caused
+returns-clause-caused g c model faults file top cert depth finished asks =
+    finished_work _ _ _ _ _ _ (causes model faults file top depth cert) _ c.answer.ensures.answered finished asks (λ files o comes stands. finished_or _ _ _ o _ _ _ _ _ finished comes stands)
+
+pub returns-clause-caused_accepted : goal.returns-clause-caused_accepted
+returns-clause-caused_accepted g c model faults file top cert done asks =
+    let finished = subst IsFinished (sym done) tt in
+    finished_work _ _ _ _ _ _ (check_causes model faults file top cert) _ c.answer.ensures.answered finished asks
+    (λ files o comes stands. let all = finished_or _ _ _ o _ _ _ _ _ finished comes stands in (all.2, all.1))
+
+pub returns-clause-ordered : goal.returns-clause-ordered
+returns-clause-ordered g c model faults top set cert first second depth finished asks =
+    finished_work _ _ _ _ _ _ (orders model faults top set first second depth cert) _ c.answer.ensures.answered finished asks
+    (λ files o comes stands. finished_or _ _ _ o _ _ _ _ _ finished comes stands)
+
+pub returns-clause-order_accepted : goal.returns-clause-order_accepted
+returns-clause-order_accepted g c model faults top set claim cert first second done asks =
+    let finished = subst IsFinished (sym done) tt in
+    finished_work _ _ _ _ _ _ (check_orders model faults top set first second claim cert) _ c.answer.ensures.answered finished asks
+    (λ files o comes stands. let all = finished_or _ _ _ o _ _ _ _ _ finished comes stands in (all.2, all.1))
+
+pub returns-clause-bounds : goal.returns-clause-bounds
+returns-clause-bounds g c model faults top depth finished asks =
+    finished_work _ _ _ _ _ _ (odds model faults top depth) _ c.answer.ensures.answered finished asks
+    (λ files o comes stands. let all = finished_or _ _ _ o _ _ _ _ _ finished comes stands in (all.1, all.0))
+
+pub returns-clause-depth : goal.returns-clause-depth
+returns-clause-depth g c = c.answer.ensures.depth
+
+pub returns-clause-short : goal.returns-clause-short
+returns-clause-short g c command k means is = bounded_is_short _ _ _ _ _ _ command k c.answer.ensures.answered means is
+
+pub returns-clause-words : goal.returns-clause-words
+returns-clause-words g c = c.answer.ensures.words
+
+pub returns-clause-meant : goal.returns-clause-meant
+returns-clause-meant g c = c.answer.ensures.meant

@@ -1,10 +1,12 @@
-use Rattle.std.proofs.Common.{Err, inr, ap, ◌∙◌}
+use Rattle.std.proofs.Common.{Some, Err, inr, sym, ap, ◌∙◌}
 use Rattle.xs_words.specs.declared.command.Command.TheVariants as ask
 use Rattle.xs_words.specs.Seen.{seen}
 use Rattle.xs_run.specs.Findings.{analysed_case, analysed_size}
 use Rattle.xs_run.specs.Runs.{analyses, CommandComesTo, IsDelivered}
 use Rattle.xs_run.proofs.OutcomeLemmas.{answers_prepared, stops_at_prepared, finished_answers, failed_finish, not_desk, answers_stop, leaves_stop}
 use Rattle.xs_loading.proofs.SaidLaws.{rose_later}
+use Rattle.xs_run.proofs.StatusLaws.{finished_of, analysed_of, stopped_of}
+use Rattle.std.proofs.lemmas.Result.{IfOk-weaker}
 use Rattle.xs_run.proofs.verbs.analyse_event.Goals as goal
 
 pub returns-in-Ok-clause-answered : goal.returns-in-Ok-clause-answered
@@ -48,3 +50,14 @@ returns-in-Ok-clause-quiet g c quiet =
     let first = c.prepare_analysis.ensures.quiet quiet in
     let then = c.deliver_analysis.ensures.quiet first.0 in
     (then.0, then.1 ∙ first.1)
+
+pub returns-in-Ok-clause-status : goal.returns-in-Ok-clause-status
+returns-in-Ok-clause-status g c =
+    finished_of (seen (ask.Analyse c.args.asked.now)) c.finished.result c.deliver_analysis.result c.finished.ensures
+    (IfOk-weaker c.deliver_analysis.result _ _
+    (λ s h. analysed_of (seen (ask.Analyse c.args.asked.now)) c.in-Ok.analysing.depth (ap (λ n. Some n) (sym c.in-Ok.ensures.asked)) (analysed_case c.in-Ok.analysing) h.event _ h.analysis.sets h.analysis.ending s h.ends
+    h.found.ends)
+    c.deliver_analysis.ensures.ok)
+
+pub returns-in-Err-clause-status : goal.returns-in-Err-clause-status
+returns-in-Err-clause-status g c = stopped_of (seen (ask.Analyse c.args.asked.now)) c.stopped.result c.in-Err.stop _ _ _ _ c.stopped.ensures.stopped

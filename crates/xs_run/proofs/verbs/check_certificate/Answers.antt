@@ -3,6 +3,7 @@ use Rattle.xs_words.specs.declared.command.Command.TheVariants as ask
 use Rattle.xs_words.specs.Seen.{seen}
 use Rattle.xs_run.specs.Runs.{says, CommandComesTo}
 use Rattle.xs_run.proofs.OutcomeLemmas.{answers_prepared, stops_at_prepared, answers_stop, leaves_stop}
+use Rattle.xs_run.proofs.StatusLaws.{answered_of, stopped_of}
 use Rattle.xs_run.proofs.verbs.check_certificate.Goals as goal
 
 pub returns-in-Ok-clause-answered : goal.returns-in-Ok-clause-answered
@@ -26,3 +27,9 @@ pub returns-in-Err-clause-left : goal.returns-in-Err-clause-left
 returns-in-Err-clause-left g c =
     leaves_stop (λ files o. CommandComesTo files (seen (ask.Check c.args.asked.now)) o) _ _ _ _ _ _ c.prepare_check.ensures.files c.prepare_check.ensures.said c.in-Err.stop c.stopped.result
     (λ r is. c.in-Err.ensures.refused r (ap (λ s. Err s) is)) c.stopped.ensures.stopped
+
+pub returns-in-Ok-clause-status : goal.returns-in-Ok-clause-status
+returns-in-Ok-clause-status g c = answered_of (seen (ask.Check c.args.asked.now)) c.deliver_report.result (λ answer. (c.deliver_report.ensures.done answer).0)
+
+pub returns-in-Err-clause-status : goal.returns-in-Err-clause-status
+returns-in-Err-clause-status g c = stopped_of (seen (ask.Check c.args.asked.now)) c.stopped.result c.in-Err.stop _ _ _ _ c.stopped.ensures.stopped

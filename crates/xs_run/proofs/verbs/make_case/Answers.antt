@@ -1,9 +1,11 @@
-use Rattle.std.proofs.Common.{inl, inr, refl}
+use Rattle.std.proofs.Common.{Some, inl, inr, refl, sym, ap}
 use Rattle.xs_words.specs.declared.command.Command.TheVariants as ask
 use Rattle.xs_words.specs.Seen.{seen}
 use Rattle.xs_run.specs.Made.{made_case}
 use Rattle.xs_run.specs.Runs.{makes, MakeComesTo, CommandComesTo, IsDelivered}
 use Rattle.xs_run.proofs.OutcomeLemmas.{answers_prepared, stops_at_prepared, finished_answers, failed_finish, not_desk, for_files}
+use Rattle.xs_run.proofs.StatusLaws.{finished_of, analysed_of}
+use Rattle.std.proofs.lemmas.Result.{IfOk-weaker}
 use Rattle.xs_run.proofs.verbs.make_case.Goals as goal
 
 pub returns-in-Ok-clause-answered : goal.returns-in-Ok-clause-answered
@@ -33,3 +35,10 @@ returns-in-Ok-clause-failed g c =
     failed_finish
     (λ s. IsDelivered (makes (made_case a) a.stages a.depth a.model.now a.faults.now) s (g.D.Desk.files c.args.desk.now) (g.D.Desk.files c.deliver_made.new.desk) (g.D.Desk.said c.args.desk.now) (g.D.Desk.said c.deliver_made.new.desk))
     _ c.deliver_made.result c.finished.result c.finished.ensures c.deliver_made.ensures.ok (λ h. not_desk h.analysis.ending h.ends) c.deliver_made.ensures.failed
+
+pub returns-in-Ok-clause-status : goal.returns-in-Ok-clause-status
+returns-in-Ok-clause-status g c =
+    finished_of (seen (ask.Make c.args.asked.now)) c.finished.result c.deliver_made.result c.finished.ensures
+    (IfOk-weaker c.deliver_made.result _ _
+    (λ s h. analysed_of (seen (ask.Make c.args.asked.now)) c.in-Ok.making.depth (ap (λ n. Some n) (sym c.in-Ok.ensures.asked)) (made_case c.in-Ok.making) h.event _ h.analysis.sets h.analysis.ending s h.ends h.found.ends)
+    c.deliver_made.ensures.ok)

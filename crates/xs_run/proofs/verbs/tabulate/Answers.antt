@@ -1,10 +1,12 @@
-use Rattle.std.proofs.Common.{Err, inr, map, ap}
+use Rattle.std.proofs.Common.{Some, Err, inr, map, sym, ap}
 use Rattle.xs_words.specs.declared.command.Command.TheVariants as ask
 use Rattle.xs_words.specs.Seen.{seen}
 use Rattle.xs_run.specs.Tables.{tabulated_case, tabulated_events}
 use Rattle.xs_run.specs.Runs.{tabulates, CommandComesTo, IsDelivered}
 use Rattle.xs_run.proofs.OutcomeLemmas.{answers_prepared, stops_at_prepared, finished_answers, failed_finish, no_column_desk, answers_stop, leaves_stop}
 use Rattle.xs_loading.proofs.SaidLaws.{rose_later}
+use Rattle.xs_run.proofs.StatusLaws.{finished_of, columns_of, stopped_of}
+use Rattle.std.proofs.lemmas.Result.{IfOk-weaker}
 use Rattle.xs_run.proofs.verbs.tabulate.Goals as goal
 
 pub returns-in-Ok-clause-answered : goal.returns-in-Ok-clause-answered
@@ -42,3 +44,14 @@ returns-in-Ok-clause-failed g c desk =
     (failed_finish
     (λ s. IsDelivered (tabulates (tabulated_case a) (tabulated_events a) a.size a.depth) s (g.D.Desk.files c.prepare_table.new.desk) (g.D.Desk.files c.deliver_table.new.desk) (g.D.Desk.said c.prepare_table.new.desk) (g.D.Desk.said c.deliver_table.new.desk))
     _ c.deliver_table.result c.finished.result c.finished.ensures c.deliver_table.ensures.ok (λ h. no_column_desk (map (λ e. e.ending) h.columns) h.ends) c.deliver_table.ensures.failed desk)
+
+pub returns-in-Ok-clause-status : goal.returns-in-Ok-clause-status
+returns-in-Ok-clause-status g c =
+    finished_of (seen (ask.Fmea c.args.asked.now)) c.finished.result c.deliver_table.result c.finished.ensures
+    (IfOk-weaker c.deliver_table.result _ _
+    (λ s h. columns_of (seen (ask.Fmea c.args.asked.now)) c.in-Ok.tabulating.depth (ap (λ n. Some n) (sym c.in-Ok.ensures.asked.1)) (tabulated_case c.in-Ok.tabulating) (tabulated_events c.in-Ok.tabulating) h.columns s h.found
+    h.ends)
+    c.deliver_table.ensures.ok)
+
+pub returns-in-Err-clause-status : goal.returns-in-Err-clause-status
+returns-in-Err-clause-status g c = stopped_of (seen (ask.Fmea c.args.asked.now)) c.stopped.result c.in-Err.stop _ _ _ _ c.stopped.ensures.stopped

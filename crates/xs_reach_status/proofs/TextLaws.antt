@@ -1,4 +1,0 @@
--- Text that is appended piece by piece.
-use Rattle.std.proofs.lemmas.List.{append_assoc, append-nil}
-
-pub ruleset text_rules = (append_assoc, append-nil)

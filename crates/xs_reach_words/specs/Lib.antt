@@ -1,6 +1,0 @@
-pub mod Commands
-pub mod Table
-pub mod Meaning
-pub mod Laws
-pub mod Reading
-pub mod Seen
