@@ -18,14 +18,14 @@ use Rattle.xs_frames.specs.Bits.{values_of}
 use Rattle.xs_frames.specs.Framed.{frame_at}
 use Rattle.xs_frames.specs.Roles.{Listed, first, step, bad, list_guard}
 use Rattle.xs_frames.specs.Roles as roles
-use Rattle.xs_frames.specs.Guards.{Layout, StandsUpTo, unguarded}
+use Rattle.xs_frames.specs.Guards.{Layout, IsCovered, IsCoveredUpTo, unguarded}
 use Rattle.xs_frames.specs.Guarding.{Meets, places_of, MeetsFrame, MeetsBeside, added_in, IsGuardIn, IsWell, asked_guards, guard_at, guard_of, Tells}
 use Rattle.xs_frames.specs.declared.guarded.Beside.{Beside}
 use Rattle.xs_frames.specs.declared.guarded.Beside.TheVariants.{Nothing, Step, Bad}
 use Rattle.xs_frames.specs.declared.guarded.Guarded.{Guarded}
 use Rattle.xs_frames.proofs.AnswerLemmas.{true_value, true_clause}
 use Rattle.xs_frames.proofs.RoleLaws.{first_in, later_in, Asked, spread, spread_at}
-use Rattle.xs_frames.proofs.HeldLaws.{AreAsked, list_met, frame_met, core_follows, core_negated}
+use Rattle.xs_frames.proofs.HeldLaws.{AreAsked, IsShown, list_met, frame_met, core_follows, core_negated}
 use Rattle.xs_frames.proofs.GuardedLaws.{layout_of, plain_guard, frame_plain}
 use Rattle.xs_lits.proofs.ClauseLists.{member_true}
 use Rattle.xs_value.proofs.ListLaws.{all_from}
@@ -203,9 +203,19 @@ module _ (system : System) (list : List (List Literal)) (frames : List (List (Li
       next zero j e = absurd (no_test e)
       next (suc k) j e = le-leb (suc k) (suc j) (one_more (suc k) j (tested (suc k) j e))
 
-      in_frames : (i : ℕ) → MeetsFrame system frames i v → (j : ℕ) (c : List Literal) → 0 < j → asked_frame i j ≡ true → StandsUpTo l.frames j c → clause_value v c ≡ true
+      in_frames : (i : ℕ) → MeetsFrame system frames i v → (j : ℕ) (c : List Literal) → 0 < j → asked_frame i j ≡ true → IsCoveredUpTo l.frames j c → IsShown l v c
       in_frames zero m j c some on s = absurd (no_test on)
-      in_frames (suc k) m j c some on s = member_true v (frame_at frames (suc k)) c m (subst (λ (fs : List (List (List Literal))). Contains (frame_at fs (suc k)) c) same_frames (s (suc k) (omega arith) (tested (suc k) j on)))
+      in_frames (suc k) m j c some on s = shown (s (suc k) (omega arith) (tested (suc k) j on))
+        where
+          shown : IsCovered (frame_at l.frames (suc k)) c → IsShown l v c
+          shown (p, d, lt, is, part) = record {
+            frame = suc k;
+            from_one = omega arith;
+            part = d;
+            stands = (p, lt, is);
+            is_part = part;
+            holds = member_true v (frame_at frames (suc k)) d m (subst (λ (fs : List (List (List Literal))). Contains (frame_at fs (suc k)) d) same_frames (p, lt, is));
+          }
 
       first_agrees : (i : ℕ) (m : MeetsFrame system frames i v) (x : ℕ) → asks_first i ≡ true → x ≤ places_of system → first_values i m x ≡ v x
       first_agrees zero m x on le = m.agree x le

@@ -7,24 +7,34 @@ use Rattle.xs_lits.specs.Literal.{Literal, plain, opposite}
 use Rattle.xs_lits.specs.Models.{TotalAssignment, literal_value, clause_value, Satisfies, FollowsFrom, IsBelow}
 use Rattle.xs_lits.proofs.ModelLemmas.{clause_value-same, literal_value-same, Satisfies-from_All, literal_value-opposite}
 use Rattle.xs_lits.specs.Derivation.{IsUpTo}
+use Rattle.xs_frames.specs.Chain.{IsPart}
 use Rattle.xs_frames.specs.Framed.{frame_at}
 use Rattle.xs_frames.specs.Roles.{Listed, place, list_guard, gate, retired, renamed, renamed_clause, under_guard}
 use Rattle.xs_frames.specs.Roles as roles
-use Rattle.xs_frames.specs.Guards.{guards_next, StandsUpTo, Layout, IsHeld, of_list, of_frame, of_next, of_retired, AreHeld, unguarded}
+use Rattle.xs_frames.specs.Guards.{guards_next, IsCoveredUpTo, Layout, IsHeld, of_list, of_frame, of_next, of_retired, AreHeld, unguarded}
 use Rattle.xs_frames.specs.Guarding.{Meets}
 use Rattle.xs_frames.proofs.Sets.{from_member, true_member}
 use Rattle.xs_frames.proofs.RoleLaws.{order, first_in, later_in, renamed_low, renamed_high, renamed_value, unguards, unasked, anyway, Asked, spread, spread_at}
-use Rattle.xs_lits.proofs.ClauseLists.{member_true}
+use Rattle.xs_lits.proofs.ClauseLists.{member_true, covered_true}
 use Rattle.xs_value.proofs.ListLaws.{all_from}
 
 -- a clause of literals up to a variable is over those below the next
 pub below_next : (vars : ℕ) (c : List Literal) → All (IsUpTo vars) c → All (IsBelow (vars + 1)) c
 below_next vars c low = λ k d lt. omega (arith, low k d lt)
 
+-- some part of the clause stands in a frame and is true
+pub record IsShown (l : Layout) (v : TotalAssignment) (c : List Literal) : Type 0 where
+  pub frame : ℕ
+  pub from_one : 0 < frame
+  pub part : List Literal
+  pub stands : Contains (frame_at l.frames frame) part
+  pub is_part : IsPart part c
+  pub holds : clause_value v part ≡ true
+
 -- the values make what is asked about true: the guards of frames are so from one frame on, and their clauses, and the lists
 pub record AreAsked (l : Layout) (q : Asked) (v : TotalAssignment) : Type 0 where
   pub next : (j : ℕ) → q.frame j ≡ true → q.frame (suc j) ≡ true
-  pub frames : (j : ℕ) (c : List Literal) → 0 < j → q.frame j ≡ true → StandsUpTo l.frames j c → clause_value v c ≡ true
+  pub frames : (j : ℕ) (c : List Literal) → 0 < j → q.frame j ≡ true → IsCoveredUpTo l.frames j c → IsShown l v c
   pub agree : (which : Listed) (x : ℕ) → q.list which ≡ true → x ≤ l.places → q.values which x ≡ v x
   pub lists : (which : Listed) (c : List Literal) → q.list which ≡ true → Contains (l.list which) c → clause_value (q.values which) c ≡ true
 
@@ -98,8 +108,11 @@ module _ (l : Layout) (vars : ℕ) (added : List (List Literal)) (are : AreHeld 
       by_list which c true on m = anyway w (l.guard which) (renamed_clause l.places (l.base which) c) (list_true which c on m)
       by_list which c false off m = unasked w (l.guard which) (renamed_clause l.places (l.base which) c) (spread_at q l.role v (l.guard which) (list_guard which) (are.is_guard which) ∙ off)
 
-      by_frame : (x j : ℕ) (c : List Literal) (b : Bool) → q.frame j ≡ b → l.role x ≡ roles.frame_guard j → 0 < j → StandsUpTo l.frames j c → clause_value w (under_guard x c) ≡ true
-      by_frame x j c true on r lt s = anyway w x c (low_true c (are.frames_low j c lt (s j lt (omega arith))) (h.frames j c lt on s))
+      shown_true : (c : List Literal) → IsShown l v c → clause_value w c ≡ true
+      shown_true c s = covered_true w s.part c s.is_part (low_true s.part (are.frames_low s.frame s.part s.from_one s.stands) s.holds)
+
+      by_frame : (x j : ℕ) (c : List Literal) (b : Bool) → q.frame j ≡ b → l.role x ≡ roles.frame_guard j → 0 < j → IsCoveredUpTo l.frames j c → clause_value w (under_guard x c) ≡ true
+      by_frame x j c true on r lt s = anyway w x c (shown_true c (h.frames j c lt on s))
       by_frame x j c false off r lt s = unasked w x c (spread_at q l.role v x (roles.frame_guard j) r ∙ off)
 
       by_next : (x y j : ℕ) (b : Bool) → q.frame j ≡ b → l.role x ≡ roles.frame_guard j → l.role y ≡ roles.frame_guard (suc j) → clause_value w (guards_next x y) ≡ true

@@ -6,10 +6,12 @@ use Rattle.std.proofs.lemmas.Bool.Decides.{leb_tells}
 use Rattle.std.proofs.lemmas.List.Elements.{Contains-push, Contains-push_cases, Contains-append_left, Contains-append_right, Contains-append_cases}
 use Rattle.xs_lits.specs.Literal.{Literal, plain, opposite}
 use Rattle.xs_lits.specs.Derivation.{IsUpTo}
+use Rattle.xs_frames.specs.Chain.{IsPart}
 use Rattle.xs_frames.specs.Framed.{frame_at}
 use Rattle.xs_frames.specs.Roles.{Listed, bad, Role, place, list_guard, gate, retired, unused, renamed_clause, under_guard}
 use Rattle.xs_frames.specs.Roles as roles
-use Rattle.xs_frames.specs.Guards.{guards_next, StandsUpTo, IsOld, IsPut, Layout, IsHeld, of_list, of_frame, of_next, of_retired, IsUnder, AreHeld}
+use Rattle.xs_frames.specs.Guards.{guards_next, IsCovered, IsCoveredUpTo, IsOld, IsPut, Layout, IsHeld, of_list, of_frame, of_next, of_retired, IsUnder, AreHeld}
+use Rattle.xs_frames.proofs.Sets.{part_itself, part_more}
 use Rattle.xs_frames.proofs.RoleLaws.{first_in}
 use Rattle.xs_frames.proofs.Framing.{frame_grown as frame_more}
 
@@ -108,6 +110,13 @@ held_as l vars added guard at same_guard same_at are = record {
     under : (i : ℕ) (c : List Literal) → IsUnder l added i c → IsUnder (record l { guard = guard; guard_at = at }) added i c
     under i c u = record { at = u.at; from = u.from; within = u.within; is_added = subst (λ x. Contains added (under_guard x c)) (sym (same_at u.at u.within)) u.is_added }
 
+-- a clause of a frame covers each clause of which it is a part, and itself
+covered_by : (frame : List (List Literal)) (c d : List Literal) → Contains frame c → IsPart c d → IsCovered frame d
+covered_by frame c d m part = (m.0, c, m.1, m.2, part)
+
+covered_itself : (frame : List (List Literal)) (c : List Literal) → Contains frame c → IsCovered frame c
+covered_itself frame c m = covered_by frame c c m (part_itself c)
+
 -- a clause more in the frames up to a number
 pub held_put : (l : Layout) (vars : ℕ) (added : List (List Literal)) (j : ℕ) (c : List Literal) (now : List (List (List Literal))) → AreHeld l vars added → 0 < j → All (IsUpTo l.places) c → IsPut j c l.frames now →
     AreHeld (record l { frames = now }) vars (added ++ under_guard (l.guard_at j) c ∷ [])
@@ -129,15 +138,23 @@ held_put l vars added j c now are some low put = record {
     is_low i d s (inl m) = are.frames_low i d s m
     is_low i d s (inr e) = subst (All (IsUpTo l.places)) (sym e.0) low
 
+    -- where what covers a clause went, the new one covers it
+    still : (i : ℕ) (d : List Literal) → 0 < i → IsCovered (frame_at l.frames i) d → IsCovered (frame_at now i) d
+    still i d from (p, e, lt, is, part) = by_case (put.stays i e from (p, lt, is))
+      where
+        by_case : Contains (frame_at now i) e ⊎ ((i ≤ j) × IsPart c e) → IsCovered (frame_at now i) d
+        by_case (inl m) = covered_by (frame_at now i) e d m part
+        by_case (inr q) = covered_by (frame_at now i) c d (put.here i from q.0) (part_more c e d q.1 part)
+
     kind : (d : List Literal) → IsHeld l d → IsHeld (record l { frames = now }) d
     kind d (of_list which e f m) = of_list which e f m
-    kind d (of_frame x k e f r s t) = of_frame x k e f r s (λ i from le. put.stays i e from (t i from le))
+    kind d (of_frame x k e f r s t) = of_frame x k e f r s (λ i from le. still i e from (t i from le))
     kind d (of_next x y k e r s) = of_next x y k e r s
     kind d (of_retired x m r) = of_retired x m r
 
     by_push : (d : List Literal) → Contains added d ⊎ (under_guard (l.guard_at j) c ≡ d) → IsHeld (record l { frames = now }) d
     by_push d (inl m) = kind d (are.each d m)
-    by_push d (inr e) = of_frame (l.guard_at j) j c (sym e) (are.is_frame j some put.within) some put.here
+    by_push d (inr e) = of_frame (l.guard_at j) j c (sym e) (are.is_frame j some put.within) some (λ i from le. covered_itself (frame_at now i) c (put.here i from le))
 
     under : (i : ℕ) (d : List Literal) → 0 < i → IsOld j c l.frames i d → IsUnder (record l { frames = now }) (added ++ under_guard (l.guard_at j) c ∷ []) i d
     under i d s (inl m) = let u = are.has_frames i d s m in record {
@@ -245,8 +262,8 @@ held_more l vars added more at are filled same_at last_at only next = record {
     shorter : (i : ℕ) (c : List Literal) → Contains (frame_at (l.frames ++ [] ∷ []) i) c → Contains (frame_at l.frames i) c
     shorter i c m = subst (λ f. Contains f c) (frame_more l.frames i) m
 
-    stands : (j : ℕ) (c : List Literal) → StandsUpTo l.frames j c → StandsUpTo (l.frames ++ [] ∷ []) j c
-    stands j c s i some le = subst (λ f. Contains f c) (sym (frame_more l.frames i)) (s i some le)
+    stands : (j : ℕ) (c : List Literal) → IsCoveredUpTo l.frames j c → IsCoveredUpTo (l.frames ++ [] ∷ []) j c
+    stands j c s i some le = subst (λ f. IsCovered f c) (sym (frame_more l.frames i)) (s i some le)
 
     kind : (d : List Literal) → IsHeld l d → IsHeld (record l { frames = l.frames ++ [] ∷ []; guard_at = at; role = with_frame l vars }) d
     kind d (of_list which c e m) = of_list which c e m

@@ -1,10 +1,11 @@
--- Which clauses stand in the frame of a number, and what a clause more, a higher number and a new last frame change.
+-- Which clauses stand in the frame of a number, and what a higher number and a new last frame change.
 use Rattle.std.proofs.Common.{◌≡◌, ◌≢◌, ◌≤◌, ◌<◌, ◌⊎◌, inl, inr, ℕ, zero, suc, ◌+◌, ◌-◌, Bool, true, false, List, [], ◌∷◌, ◌++◌, refl, sym, ◌∙◌, ap, subst, arith, length, take}
 use Rattle.std.specs.Prelude.{slice_index_or, slice_set, Contains, All, nat_le, if◌then◌else◌}
 use Rattle.std.proofs.lemmas.Bool.{cases_lt, cases_eq}
 use Rattle.std.proofs.lemmas.List.{length-set, get_or-set_same, get_or-set_other}
-use Rattle.std.proofs.lemmas.List.Elements.{All-head, All-tail, Contains-append_left, Contains-append_right, Contains-append_cases}
+use Rattle.std.proofs.lemmas.List.Elements.{All-head, All-tail}
 use Rattle.xs_lits.specs.Literal.{Literal}
+use Rattle.xs_frames.specs.Chain.{IsPart}
 use Rattle.xs_frames.specs.Framed.{frame_at}
 use Rattle.xs_frames.specs.Guards.{IsPut}
 use Rattle.xs_frames.specs.Levels.{standing_in, frames_from, frames_of, HasGained}
@@ -109,20 +110,35 @@ in_frame l i c m = by_order (cases_lt l.last i)
 pub to_frame : (l : Levels) (i : ℕ) (c : List Literal) → i ≤ l.last → Contains (standing_in i l.held.items) c → Contains (frame_at (frames_of l) i) c
 to_frame l i c le m = subst (λ xs. Contains xs c) (sym (frame_is l i le)) m
 
+-- each clause of a frame stands in the frame before
+standing_before : (i : ℕ) (hs : List Held) (c : List Literal) → Contains (standing_in (suc i) hs) c → Contains (standing_in i hs) c
+standing_before i hs c m = let s = standing_has (suc i) hs c m in subst (Contains (standing_in i hs)) s.is_it (standing_of i hs s.place s.inside (lower i (held_in hs s.place).highest s.high))
+  where
+    lower : (i n : ℕ) → suc i ≤ n → i ≤ n
+    lower i n le = omega (arith, le)
+
+pub in_frame_before : (l : Levels) (i : ℕ) (c : List Literal) → Contains (frame_at (frames_of l) (suc i)) c → Contains (frame_at (frames_of l) i) c
+in_frame_before l i c m = let w = in_frame l (suc i) c m in to_frame l i c (omega (arith, w.0)) (standing_before i l.held.items c w.1)
+
 -- a clause put into the frames up to a number, where it is told which clauses stand in each
-gained_from : (l now : Levels) (j : ℕ) (c : List Literal) → now.last ≡ l.last → j ≤ l.last →
+pub gained_from : (l now : Levels) (j : ℕ) (c : List Literal) → now.last ≡ l.last → j ≤ l.last →
     ((i : ℕ) → i ≤ j → Contains (standing_in i now.held.items) c) →
-    ((i : ℕ) (d : List Literal) → Contains (standing_in i l.held.items) d → Contains (standing_in i now.held.items) d) →
+    ((i : ℕ) (d : List Literal) → Contains (standing_in i l.held.items) d → Contains (standing_in i now.held.items) d ⊎ ((i ≤ j) × IsPart c d)) →
     ((i : ℕ) (d : List Literal) → Contains (standing_in i now.held.items) d → Contains (standing_in i l.held.items) d ⊎ ((d ≡ c) × (i ≤ j))) →
     HasGained j c (frames_of l) (frames_of now)
 gained_from l now j c last le here stays only = record {
   same = length_frames now ∙ ap suc last ∙ sym (length_frames l);
   within = subst (λ n. j < n) (sym (length_frames l)) (omega (arith, le));
   here = λ i below. to_frame now i c (subst (λ n. i ≤ n) (sym last) (omega (arith, below, le))) (here i below);
-  stays = λ i d m. let w = in_frame l i d m in to_frame now i d (subst (λ n. i ≤ n) (sym last) w.0) (stays i d w.1);
+  stays = λ i d m. let w = in_frame l i d m in on i d (subst (λ n. i ≤ n) (sym last) w.0) (stays i d w.1);
   only = λ i d m. let w = in_frame now i d m in back i d (subst (λ n. i ≤ n) last w.0) (only i d w.1);
+  shrinks = λ i d m. in_frame_before now i d m;
 }
   where
+    on : (i : ℕ) (d : List Literal) → i ≤ now.last → Contains (standing_in i now.held.items) d ⊎ ((i ≤ j) × IsPart c d) → Contains (frame_at (frames_of now) i) d ⊎ ((i ≤ j) × IsPart c d)
+    on i d low (inl m) = inl (to_frame now i d low m)
+    on i d low (inr p) = inr p
+
     back : (i : ℕ) (d : List Literal) → i ≤ l.last → Contains (standing_in i l.held.items) d ⊎ ((d ≡ c) × (i ≤ j)) → Contains (frame_at (frames_of l) i) d ⊎ ((d ≡ c) × (i ≤ j))
     back i d low (inl m) = inl (to_frame l i d low m)
     back i d low (inr e) = inr e
@@ -137,98 +153,61 @@ put_of j c old now g = record {
   only = λ i d some m. g.only i d m;
 }
 
--- a clause more
-standing_push : (i : ℕ) (hs : List Held) (h : Held) → standing_in i (hs ++ h ∷ []) ≡ standing_in i hs ++ standing_in i (h ∷ [])
-standing_push i [] h = refl
-standing_push i (g ∷ hs) h = by_order (cases_lt g.highest i) (standing_push i hs h)
-  where
-    by_order : (g.highest < i) ⊎ (i ≤ g.highest) → standing_in i (hs ++ h ∷ []) ≡ standing_in i hs ++ standing_in i (h ∷ []) → standing_in i (g ∷ hs ++ h ∷ []) ≡ standing_in i (g ∷ hs) ++ standing_in i (h ∷ [])
-    by_order (inl lt) e = stands_not i g (hs ++ h ∷ []) lt ∙ e ∙ sym (ap (λ xs. xs ++ standing_in i (h ∷ [])) (stands_not i g hs lt))
-    by_order (inr le) e = stands i g (hs ++ h ∷ []) le ∙ ap (λ xs. g.clause ∷ xs) e ∙ sym (ap (λ xs. xs ++ standing_in i (h ∷ [])) (stands i g hs le))
+-- a clause with the next number: what stood in a frame stands there still
+module _ (l now : Levels) (i k : ℕ) (h : Held) (last : now.last ≡ l.last) (lt : i < l.last) (inside : k < length l.held.items) (was : (held_in l.held.items k).highest ≡ i)
+    (clause : h.clause ≡ (held_in l.held.items k).clause) (is : h.highest ≡ i + 1) (items : now.held.items ≡ slice_set l.held.items k h) where
+  hs : List Held
+  hs = l.held.items
 
-pub gained_push : (l now : Levels) (j : ℕ) (c : List Literal) → now.last ≡ l.last → j ≤ l.last → now.held.items ≡ l.held.items ++ record { clause = c; highest = j } ∷ [] → HasGained j c (frames_of l) (frames_of now)
-gained_push l now j c last le items = gained_from l now j c last le
-    (λ i below. subst (λ hs. Contains (standing_in i hs) c) (sym items) (subst (λ xs. Contains xs c) (sym (standing_push i l.held.items more))
-    (Contains-append_right (standing_in i l.held.items) (standing_in i (more ∷ [])) c (subst (λ xs. Contains xs c) (sym (stands i more [] below)) (first_member c [])))))
-    (λ i d m. subst (λ hs. Contains (standing_in i hs) d) (sym items) (subst (λ xs. Contains xs d) (sym (standing_push i l.held.items more)) (Contains-append_left (standing_in i l.held.items) (standing_in i (more ∷ [])) d m)))
-    (λ i d m. old i d (Contains-append_cases (standing_in i l.held.items) (standing_in i (more ∷ [])) d
-    (subst (λ xs. Contains xs d) (standing_push i l.held.items more) (subst (λ hs. Contains (standing_in i hs) d) items m))))
-  where
-    more : Held
-    more = record { clause = c; highest = j }
+  at_k : held_in (slice_set hs k h) k ≡ h
+  at_k = get_or-set_same hs k h (record { clause = []; highest = 0 }) inside
 
-    one : (i : ℕ) (d : List Literal) → Contains (standing_in i (more ∷ [])) d → (d ≡ c) × (i ≤ j)
-    one i d m = by_order (cases_lt j i)
-      where
-        none : Contains [] d → ⊥
-        none n = omega (arith, n.1)
+  at_other : (p : ℕ) → p ≢ k → held_in (slice_set hs k h) p ≡ held_in hs p
+  at_other p ne = get_or-set_other hs k p h (record { clause = []; highest = 0 }) ne
 
-        it : (c ≡ d) ⊎ Contains [] d → d ≡ c
-        it (inl e) = sym e
-        it (inr n) = absurd (none n)
+  raised : (a : ℕ) → a ≤ i + 1 → Contains (standing_in a now.held.items) (held_in hs k).clause
+  raised a le = subst (λ xs. Contains (standing_in a xs) (held_in hs k).clause) (sym items)
+      (subst (Contains (standing_in a (slice_set hs k h))) (ap (λ (g : Held). g.clause) at_k ∙ clause)
+      (standing_of a (slice_set hs k h) k (subst (λ n. k < n) (sym (length-set hs k h)) inside) (subst (λ n. a ≤ n) (sym (ap (λ (g : Held). g.highest) at_k ∙ is)) le)))
 
-        by_order : (j < i) ⊎ (i ≤ j) → (d ≡ c) × (i ≤ j)
-        by_order (inl lt) = absurd (none (subst (λ xs. Contains xs d) (stands_not i more [] lt) m))
-        by_order (inr le) = (it (cons_cases c d [] (subst (λ xs. Contains xs d) (stands i more [] le) m)), le)
+  stays_raised : (a : ℕ) (d : List Literal) → Contains (standing_in a hs) d → Contains (standing_in a now.held.items) d
+  stays_raised a d m = by_place (standing_has a hs d m)
+    where
+      next : (a n : ℕ) → a ≤ n → n ≡ i → a ≤ i + 1
+      next a n le e = omega (arith, le, e)
 
-    old : (i : ℕ) (d : List Literal) → Contains (standing_in i l.held.items) d ⊎ Contains (standing_in i (more ∷ [])) d → Contains (standing_in i l.held.items) d ⊎ ((d ≡ c) × (i ≤ j))
-    old i d (inl m) = inl m
-    old i d (inr m) = inr (one i d m)
+      by_place : IsStanding a hs d → Contains (standing_in a now.held.items) d
+      by_place s = by_case (cases_eq s.place k)
+        where
+          by_case : (s.place ≡ k) ⊎ (s.place ≢ k) → Contains (standing_in a now.held.items) d
+          by_case (inl e) = subst (Contains (standing_in a now.held.items)) (ap (λ p. (held_in hs p).clause) (sym e) ∙ s.is_it)
+              (raised a (next a (held_in hs s.place).highest s.high (ap (λ p. (held_in hs p).highest) e ∙ was)))
+          by_case (inr ne) = subst (λ xs. Contains (standing_in a xs) d) (sym items)
+              (subst (Contains (standing_in a (slice_set hs k h))) (ap (λ (g : Held). g.clause) (at_other s.place ne) ∙ s.is_it)
+              (standing_of a (slice_set hs k h) s.place (subst (λ n. s.place < n) (sym (length-set hs k h)) s.inside) (subst (λ n. a ≤ n) (sym (ap (λ (g : Held). g.highest) (at_other s.place ne))) s.high)))
 
--- a clause with the next number
-pub gained_raise : (l now : Levels) (i k : ℕ) (h : Held) → now.last ≡ l.last → i < l.last → k < length l.held.items → (held_in l.held.items k).highest ≡ i →
-    h.clause ≡ (held_in l.held.items k).clause → h.highest ≡ i + 1 → now.held.items ≡ slice_set l.held.items k h → HasGained (i + 1) (held_in l.held.items k).clause (frames_of l) (frames_of now)
-gained_raise l now i k h last lt inside was clause is items = gained_from l now (i + 1) (held_in l.held.items k).clause last (omega (arith, lt)) here stays only
-  where
-    hs : List Held
-    hs = l.held.items
+  only_raised : (a : ℕ) (d : List Literal) → Contains (standing_in a now.held.items) d → Contains (standing_in a hs) d ⊎ ((d ≡ (held_in hs k).clause) × (a ≤ i + 1))
+  only_raised a d m = by_place (standing_has a (slice_set hs k h) d (subst (λ xs. Contains (standing_in a xs) d) items m))
+    where
+      up_to : (a b c : ℕ) → a ≤ b → c ≡ b → a ≤ c
+      up_to a b c le e = omega (arith, le, e)
 
-    at_k : held_in (slice_set hs k h) k ≡ h
-    at_k = get_or-set_same hs k h (record { clause = []; highest = 0 }) inside
+      by_place : IsStanding a (slice_set hs k h) d → Contains (standing_in a hs) d ⊎ ((d ≡ (held_in hs k).clause) × (a ≤ i + 1))
+      by_place s = by_case (cases_eq s.place k)
+        where
+          by_case : (s.place ≡ k) ⊎ (s.place ≢ k) → Contains (standing_in a hs) d ⊎ ((d ≡ (held_in hs k).clause) × (a ≤ i + 1))
+          by_case (inl e) = inr (
+            sym (ap (λ (g : Held). g.clause) (sym at_k ∙ ap (held_in (slice_set hs k h)) (sym e)) ∙ s.is_it) ∙ clause,
+            up_to a (held_in (slice_set hs k h) s.place).highest (i + 1) s.high (sym (ap (λ p. (held_in (slice_set hs k h) p).highest) e ∙ ap (λ (g : Held). g.highest) at_k ∙ is)),
+          )
+          by_case (inr ne) = inl (subst (Contains (standing_in a hs)) (ap (λ (g : Held). g.clause) (sym (at_other s.place ne)) ∙ s.is_it)
+              (standing_of a hs s.place (subst (λ n. s.place < n) (length-set hs k h) s.inside) (subst (λ n. a ≤ n) (ap (λ (g : Held). g.highest) (at_other s.place ne)) s.high)))
 
-    at_other : (p : ℕ) → p ≢ k → held_in (slice_set hs k h) p ≡ held_in hs p
-    at_other p ne = get_or-set_other hs k p h (record { clause = []; highest = 0 }) ne
+  pub frame_raised : (a : ℕ) (d : List Literal) → Contains (frame_at (frames_of l) a) d → Contains (frame_at (frames_of now) a) d
+  frame_raised a d m = let w = in_frame l a d m in to_frame now a d (subst (λ n. a ≤ n) (sym last) w.0) (stays_raised a d w.1)
 
-    up_to : (a b c : ℕ) → a ≤ b → c ≡ b → a ≤ c
-    up_to a b c le e = omega (arith, le, e)
-
-    raised : (a : ℕ) → a ≤ i + 1 → Contains (standing_in a now.held.items) (held_in hs k).clause
-    raised a le = subst (λ xs. Contains (standing_in a xs) (held_in hs k).clause) (sym items)
-        (subst (Contains (standing_in a (slice_set hs k h))) (ap (λ (g : Held). g.clause) at_k ∙ clause)
-        (standing_of a (slice_set hs k h) k (subst (λ n. k < n) (sym (length-set hs k h)) inside) (subst (λ n. a ≤ n) (sym (ap (λ (g : Held). g.highest) at_k ∙ is)) le)))
-
-    here : (a : ℕ) → a ≤ i + 1 → Contains (standing_in a now.held.items) (held_in hs k).clause
-    here a le = raised a le
-
-    stays : (a : ℕ) (d : List Literal) → Contains (standing_in a hs) d → Contains (standing_in a now.held.items) d
-    stays a d m = by_place (standing_has a hs d m)
-      where
-        next : (a n : ℕ) → a ≤ n → n ≡ i → a ≤ i + 1
-        next a n le e = omega (arith, le, e)
-
-        by_place : IsStanding a hs d → Contains (standing_in a now.held.items) d
-        by_place s = by_case (cases_eq s.place k)
-          where
-            by_case : (s.place ≡ k) ⊎ (s.place ≢ k) → Contains (standing_in a now.held.items) d
-            by_case (inl e) = subst (Contains (standing_in a now.held.items)) (ap (λ p. (held_in hs p).clause) (sym e) ∙ s.is_it)
-                (raised a (next a (held_in hs s.place).highest s.high (ap (λ p. (held_in hs p).highest) e ∙ was)))
-            by_case (inr ne) = subst (λ xs. Contains (standing_in a xs) d) (sym items)
-                (subst (Contains (standing_in a (slice_set hs k h))) (ap (λ (g : Held). g.clause) (at_other s.place ne) ∙ s.is_it)
-                (standing_of a (slice_set hs k h) s.place (subst (λ n. s.place < n) (sym (length-set hs k h)) s.inside) (subst (λ n. a ≤ n) (sym (ap (λ (g : Held). g.highest) (at_other s.place ne))) s.high)))
-
-    only : (a : ℕ) (d : List Literal) → Contains (standing_in a now.held.items) d → Contains (standing_in a hs) d ⊎ ((d ≡ (held_in hs k).clause) × (a ≤ i + 1))
-    only a d m = by_place (standing_has a (slice_set hs k h) d (subst (λ xs. Contains (standing_in a xs) d) items m))
-      where
-        by_place : IsStanding a (slice_set hs k h) d → Contains (standing_in a hs) d ⊎ ((d ≡ (held_in hs k).clause) × (a ≤ i + 1))
-        by_place s = by_case (cases_eq s.place k)
-          where
-            by_case : (s.place ≡ k) ⊎ (s.place ≢ k) → Contains (standing_in a hs) d ⊎ ((d ≡ (held_in hs k).clause) × (a ≤ i + 1))
-            by_case (inl e) = inr (
-              sym (ap (λ (g : Held). g.clause) (sym at_k ∙ ap (held_in (slice_set hs k h)) (sym e)) ∙ s.is_it) ∙ clause,
-              up_to a (held_in (slice_set hs k h) s.place).highest (i + 1) s.high (sym (ap (λ p. (held_in (slice_set hs k h) p).highest) e ∙ ap (λ (g : Held). g.highest) at_k ∙ is)),
-            )
-            by_case (inr ne) = inl (subst (Contains (standing_in a hs)) (ap (λ (g : Held). g.clause) (sym (at_other s.place ne)) ∙ s.is_it)
-                (standing_of a hs s.place (subst (λ n. s.place < n) (length-set hs k h) s.inside) (subst (λ n. a ≤ n) (ap (λ (g : Held). g.highest) (at_other s.place ne)) s.high)))
+  pub gained_raise : HasGained (i + 1) (held_in hs k).clause (frames_of l) (frames_of now)
+  gained_raise = gained_from l now (i + 1) (held_in hs k).clause last (omega (arith, lt)) raised (λ a d m. inl (stays_raised a d m)) only_raised
 
 -- the frames of other numbers are as they were
 pub standing_set : (j i k : ℕ) (hs : List Held) (h : Held) → (held_in hs k).highest ≡ i → h.highest ≡ i + 1 → h.clause ≡ (held_in hs k).clause → j ≢ i + 1 → standing_in j (slice_set hs k h) ≡ standing_in j hs

@@ -5,6 +5,7 @@ pub mod Short
 pub mod Framing
 pub mod StatesLeft
 pub mod LevelLaws
+pub mod PutLaws
 pub mod BitLemmas
 pub mod LookLemmas
 pub mod PushLemmas

@@ -22,16 +22,10 @@ use Rattle.xs_frames.specs.Looked.{Blocks}
 use Rattle.xs_frames.specs.declared.guarded.Guarded.{Guarded}
 use Rattle.xs_frames.specs.Parts.{IsPart, IsOfFirst, IsAfter, IsAgreed, AreAgreed, MayStand, HoldsFrames, IsAskable}
 use Rattle.xs_frames.specs.declared.guarded.Beside.TheVariants.{Nothing, Step}
-use Rattle.xs_frames.proofs.Sets.{true_member, from_member}
+use Rattle.xs_frames.proofs.Sets.{true_member, from_member, part_itself, from_filter, to_filter}
 use Rattle.xs_frames.proofs.PushLemmas.{from_map, to_map, next_value, opposite_moved}
 use Rattle.xs_frames.proofs.BitLemmas.{agrees_at, IsOpposed, opposed, all_opposed, all_back, high_enough, all_false, none_apart}
 use Rattle.xs_frames.proofs.LookLemmas.{clause_over, met_number, met_itself, opposed_over, next_over}
-
-pub part_itself : (c : List Literal) → IsPart c c
-part_itself c = All-contains_itself c
-
-pub part_more : (a b c : List Literal) → IsPart a b → IsPart b c → IsPart a c
-part_more a b c p q = λ k d lt. All-contains (Contains c) b (slice_index_or a k d) q (p k d lt)
 
 pub part_all : (P : Literal → Type 0) (d c : List Literal) → IsPart d c → All P c → All P d
 part_all P d c p a = λ k x lt. All-contains P c (slice_index_or d k x) a (p k x lt)
@@ -50,40 +44,6 @@ part_false v d c p f = go (clause_value v d) refl
     go : (b : Bool) → clause_value v d ≡ b → clause_value v d ≡ false
     go false e = e
     go true e = let both : true ≡ false = sym (part_true v d c p e) ∙ f in cc
-
-filter_yes : (p : Literal → Bool) (k : Literal) (c : List Literal) → p k ≡ true → filter p (k ∷ c) ≡ k ∷ filter p c
-filter_yes p k c e = rw e refl
-
-filter_no : (p : Literal → Bool) (k : Literal) (c : List Literal) → p k ≡ false → filter p (k ∷ c) ≡ filter p c
-filter_no p k c e = rw e refl
-
-one_later : (c : List Literal) (k l : Literal) → Contains c l → Contains (k ∷ c) l
-one_later c k l m = (suc m.0, (let r = m.1 in grind (arith, r)), m.2)
-
--- what a test passes stays in a filtered list
-pub to_filter : (p : Literal → Bool) (c : List Literal) (l : Literal) → Contains c l → p l ≡ true → Contains (filter p c) l
-to_filter p [] l m t = absurd (omega (arith, m.1))
-to_filter p (k ∷ c) l m t = by_place m.0 m.1 m.2 (λ r. to_filter p c l r t)
-  where
-    by_place : (i : ℕ) → i < length (k ∷ c) → slice_index_or (k ∷ c) i l ≡ l → (Contains c l → Contains (filter p c) l) → Contains (filter p (k ∷ c)) l
-    by_place zero lt e more = subst (λ (r : List Literal). Contains r l) (sym (filter_yes p k c (ap p e ∙ t))) (0, grind arith, e)
-    by_place (suc i) lt e more = go (p k) refl (more (i, grind (arith, lt), e))
-      where
-        go : (b : Bool) → p k ≡ b → Contains (filter p c) l → Contains (filter p (k ∷ c)) l
-        go true q m = subst (λ (r : List Literal). Contains r l) (sym (filter_yes p k c q)) (one_later (filter p c) k l m)
-        go false q m = subst (λ (r : List Literal). Contains r l) (sym (filter_no p k c q)) m
-
-from_filter : (p : Literal → Bool) (c : List Literal) (l : Literal) → Contains (filter p c) l → Contains c l
-from_filter p [] l m = absurd (omega (arith, m.1))
-from_filter p (k ∷ c) l m = go (p k) refl m (λ r. from_filter p c l r)
-  where
-    by_place : (i : ℕ) → i < length (k ∷ filter p c) → slice_index_or (k ∷ filter p c) i l ≡ l → (Contains (filter p c) l → Contains c l) → Contains (k ∷ c) l
-    by_place zero lt e more = (0, grind arith, e)
-    by_place (suc i) lt e more = one_later c k l (more (i, grind (arith, lt), e))
-
-    go : (b : Bool) → p k ≡ b → Contains (filter p (k ∷ c)) l → (Contains (filter p c) l → Contains c l) → Contains (k ∷ c) l
-    go true q m more = let n = subst (λ (r : List Literal). Contains r l) (filter_yes p k c q) m in by_place n.0 n.1 n.2 more
-    go false q m more = one_later c k l (more (subst (λ (r : List Literal). Contains r l) (filter_no p k c q) m))
 
 -- a filtered list is a part
 pub filter_part : (p : Literal → Bool) (c : List Literal) → IsPart (filter p c) c

@@ -19,9 +19,9 @@ use Rattle.xs_frames.specs.Path.{IsStateMoment, state_in}
 use Rattle.xs_frames.specs.Parts.{IsPart}
 use Rattle.xs_frames.specs.Minimal.{IsPlain, IsWithin, given_up, IsNeeded, IsMinimal}
 use Rattle.xs_frames.specs.declared.guarded.Beside.TheVariants.{Bad}
-use Rattle.xs_frames.proofs.Sets.{true_member}
+use Rattle.xs_frames.proofs.Sets.{true_member, to_filter}
 use Rattle.xs_frames.proofs.PushLemmas.{from_map, to_map}
-use Rattle.xs_frames.proofs.PartLemmas.{to_filter, filter_part, in_front, one_all}
+use Rattle.xs_frames.proofs.PartLemmas.{filter_part, in_front, one_all}
 use Rattle.xs_frames.proofs.BitLemmas.{agrees_read, length_read, over_value}
 use Rattle.xs_frames.proofs.MomentLemmas.{taken_read}
 use Rattle.xs_frames.proofs.LookLemmas.{met_number, met_itself}

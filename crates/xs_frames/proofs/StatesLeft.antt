@@ -2,19 +2,19 @@
 use Rattle.std.proofs.Common.{◌≡◌, ◌≤◌, ◌<◌, ℕ, zero, suc, ◌-◌, Bool, true, false, List, [], ◌∷◌, sym, ◌∙◌, refl, arith, length}
 use Rattle.std.specs.Prelude.{slice_index_or, Contains}
 use Rattle.xs_lits.specs.Literal.{Literal}
-use Rattle.xs_lits.specs.Models.{clause_value}
+use Rattle.xs_lits.specs.Models.{TotalAssignment, clause_value, all_true}
 use Rattle.xs_frames.specs.Chain.{State}
 use Rattle.xs_frames.specs.Framed.{frame_at}
 use Rattle.xs_frames.specs.Counted.{passes, states_left}
 use Rattle.xs_frames.proofs.Count.{Within, count_mono, count_less}
-use Rattle.xs_frames.proofs.Short.{member_true, subset_true}
+use Rattle.xs_frames.proofs.Short.{member_true}
 
--- each clause of a frame still stands in it
+-- what makes a frame true made it true before
 abbrev pub AreKept : List (List (List Literal)) → List (List (List Literal)) → Type 0
-AreKept old now = (i : ℕ) (d : List Literal) → Contains (frame_at old i) d → Contains (frame_at now i) d
+AreKept old now = (i : ℕ) (v : TotalAssignment) → all_true v (frame_at now i) ≡ true → all_true v (frame_at old i) ≡ true
 
-within : (bits : ℕ) (old now : List (List Literal)) → ((d : List Literal) → Contains old d → Contains now d) → Within bits (passes now) (passes old)
-within bits old now f = λ s e t. subset_true (λ v. slice_index_or s (v - 2) false) now old f t
+within : (bits : ℕ) (old now : List (List Literal)) → ((v : TotalAssignment) → all_true v now ≡ true → all_true v old ≡ true) → Within bits (passes now) (passes old)
+within bits old now f = λ s e t. f (λ v. slice_index_or s (v - 2) false) t
 
 -- where the clause is false the test of a frame that has it fails
 fails : (frame : List (List Literal)) (c : List Literal) (s : State) → Contains frame c → clause_value (λ v. slice_index_or s (v - 2) false) c ≡ false → passes frame s ≡ false
@@ -29,7 +29,7 @@ left_mono bits [] [] e k = omega arith
 left_mono bits [] (g ∷ gs) e k = absurd (grind (arith, e))
 left_mono bits (f ∷ fs) [] e k = omega arith
 left_mono bits (f ∷ fs) (g ∷ gs) e k =
-    let rest = left_mono bits fs gs (grind (arith, e)) (λ i d m. k (suc i) d m) in
+    let rest = left_mono bits fs gs (grind (arith, e)) (λ i v t. k (suc i) v t) in
     let here = count_mono bits (passes g) (passes f) (within bits f g (k 0)) in
     omega (arith, rest, here)
 
@@ -39,10 +39,10 @@ pub left_less : (bits i : ℕ) (c : List Literal) (old now : List (List (List Li
 left_less bits i c [] now s e k bits_is lt m yes' no' = absurd (omega (arith, lt))
 left_less bits i c (f ∷ fs) [] s e k bits_is lt m yes' no' = absurd (grind (arith, e))
 left_less bits zero c (f ∷ fs) (g ∷ gs) s e k bits_is lt m yes' no' =
-    let rest = left_mono bits fs gs (grind (arith, e)) (λ i d m. k (suc i) d m) in
+    let rest = left_mono bits fs gs (grind (arith, e)) (λ i v t. k (suc i) v t) in
     let here = count_less bits (passes g) (passes f) s (within bits f g (k 0)) bits_is yes' (fails g c s m no') in
     omega (arith, rest, here)
 left_less bits (suc i) c (f ∷ fs) (g ∷ gs) s e k bits_is lt m yes' no' =
-    let rest = left_less bits i c fs gs s (grind (arith, e)) (λ i d m. k (suc i) d m) bits_is (grind (arith, lt)) m yes' no' in
+    let rest = left_less bits i c fs gs s (grind (arith, e)) (λ i v t. k (suc i) v t) bits_is (grind (arith, lt)) m yes' no' in
     let here = count_mono bits (passes g) (passes f) (within bits f g (k 0)) in
     omega (arith, rest, here)

@@ -1,8 +1,10 @@
 -- What a search keeps of lists and frames: each clause under the guard of its list, or of the last frame in which it holds; and
--- each guard of a frame implies that of the next.
-use Rattle.std.specs.Prelude.{◌≡◌, ◌⊎◌, ℕ, suc, ◌+◌, ◌-◌, ◌≤◌, ◌<◌, List, [], ◌∷◌, All, Contains, length, filter, nat_le}
+-- each guard of a frame implies that of the next. A clause that went from the frames stays in the search: in its place some clause
+-- that is a part of it stands in each of its frames.
+use Rattle.std.specs.Prelude.{◌≡◌, ◌⊎◌, ℕ, suc, ◌+◌, ◌-◌, ◌≤◌, ◌<◌, List, [], ◌∷◌, All, Any, Contains, length, filter, nat_le}
 use Rattle.xs_lits.specs.Literal.{Literal, plain, opposite}
 use Rattle.xs_lits.specs.Derivation.{IsUpTo}
+use Rattle.xs_frames.specs.Chain.{IsPart}
 use Rattle.xs_frames.specs.Framed.{frame_at}
 use Rattle.xs_frames.specs.Roles.{Listed, Role, place, list_guard, gate, retired, unused, renamed_clause, under_guard}
 use Rattle.xs_frames.specs.Roles as roles
@@ -11,16 +13,24 @@ use Rattle.xs_frames.specs.Roles as roles
 abbrev pub StandsUpTo : List (List (List Literal)) → ℕ → List Literal → Type 0
 StandsUpTo frames j c = (i : ℕ) → 0 < i → i ≤ j → Contains (frame_at frames i) c
 
+-- some clause of the frame is a part of this one, so the frame implies it
+abbrev pub IsCovered : List (List Literal) → List Literal → Type 0
+IsCovered frame c = Any (λ d. IsPart d c) frame
+
+-- that is so in each frame from number 1 up to another
+abbrev pub IsCoveredUpTo : List (List (List Literal)) → ℕ → List Literal → Type 0
+IsCoveredUpTo frames j c = (i : ℕ) → 0 < i → i ≤ j → IsCovered (frame_at frames i) c
+
 -- the clause stood there, or it is the one that was put there
 abbrev pub IsOld : ℕ → List Literal → List (List (List Literal)) → ℕ → List Literal → Type 0
 IsOld j c old i d = Contains (frame_at old i) d ⊎ ((d ≡ c) × (i ≤ j))
 
--- a clause was put into the frames from number 1 up to another, and nothing else changed there
+-- a clause was put into the frames from number 1 up to another, some of which it is a part may be gone there, and nothing else changed
 pub record IsPut (j : ℕ) (c : List Literal) (old now : List (List (List Literal))) : Type 0 where
   pub same : length now ≡ length old
   pub within : j < length old
   pub here : StandsUpTo now j c
-  pub stays : (i : ℕ) (d : List Literal) → 0 < i → Contains (frame_at old i) d → Contains (frame_at now i) d
+  pub stays : (i : ℕ) (d : List Literal) → 0 < i → Contains (frame_at old i) d → Contains (frame_at now i) d ⊎ ((i ≤ j) × IsPart c d)
   pub only : (i : ℕ) (d : List Literal) → 0 < i → Contains (frame_at now i) d → IsOld j c old i d
 
 -- that the guard of a frame implies the next
@@ -39,11 +49,11 @@ pub record Layout : Type 0 where
   pub guard_at : ℕ → ℕ
   pub role : ℕ → Role
 
--- An added clause is one of a list, renamed, under the list's guard; or one of the frames under a guard; or says that a guard
+-- An added clause is one of a list, renamed, under the list's guard; or one that the frames imply under a guard; or says that a guard
 -- implies the next; or holds since something is not asked about any more.
 pub data IsHeld (l : Layout) (d : List Literal) : Type 0 where
   of_list : (which : Listed) (c : List Literal) → d ≡ under_guard (l.guard which) (renamed_clause l.places (l.base which) c) → Contains (l.list which) c → IsHeld l d
-  of_frame : (x j : ℕ) (c : List Literal) → d ≡ under_guard x c → l.role x ≡ roles.frame_guard j → 0 < j → StandsUpTo l.frames j c → IsHeld l d
+  of_frame : (x j : ℕ) (c : List Literal) → d ≡ under_guard x c → l.role x ≡ roles.frame_guard j → 0 < j → IsCoveredUpTo l.frames j c → IsHeld l d
   of_next : (x y j : ℕ) → d ≡ guards_next x y → l.role x ≡ roles.frame_guard j → l.role y ≡ roles.frame_guard (suc j) → IsHeld l d
   of_retired : (x : ℕ) → Contains d (opposite (plain x)) → l.role x ≡ retired → IsHeld l d
 

@@ -1,7 +1,9 @@
 -- Frames by the number of the highest frame in which a clause holds: it is kept once, and stands in each frame up to that one.
-use Rattle.std.specs.Prelude.{◌≡◌, ◌≢◌, ◌⊎◌, ℕ, zero, suc, ◌+◌, ◌≤◌, ◌<◌, List, [], ◌∷◌, All, Contains, length, slice_index_or, nat_le, if◌then◌else◌}
+use Rattle.std.specs.Prelude.{◌≡◌, ◌≢◌, ◌⊎◌, ℕ, zero, suc, ◌+◌, ◌≤◌, ◌<◌, Bool, not, ◌&&◌, List, [], ◌∷◌, ◌++◌, All, Contains, filter, length, slice_index_or, nat_le, if◌then◌else◌}
 use Rattle.xs_lits.specs.Literal.{Literal}
+use Rattle.xs_simplify.specs.Resolution.{subsumes}
 use Rattle.xs_lits.specs.declared.system.System.{System}
+use Rattle.xs_frames.specs.Chain.{IsPart}
 use Rattle.xs_frames.specs.Framed.{frame_at, IsFramed}
 use Rattle.xs_frames.specs.Growing.{Keeps, HasGrown}
 use Rattle.xs_frames.specs.declared.levels.Held.{Held}
@@ -25,13 +27,24 @@ frames_of l = frames_from 0 (suc l.last) l.held.items
 abbrev pub held_at : Levels → ℕ → Held
 held_at l k = slice_index_or l.held.items k (record { clause = []; highest = 0 })
 
--- a clause now stands in the frames up to a number, and nothing else changed
+-- The clause says no more than another one in the frames up to a number: it stands in no higher one, and has all literals of that
+-- other one. So it is no shorter, where that one has no literal twice.
+abbrev pub outdone : ℕ → List Literal → Held → Bool
+outdone j c h = nat_le h.highest j && (nat_le (length c) (length h.clause) && subsumes c h.clause)
+
+-- a clause put into the frames up to a number, in the place of those that say no more there
+abbrev pub with_clause : ℕ → List Literal → List Held → List Held
+with_clause j c hs = filter (λ h. not (outdone j c h)) hs ++ record { clause = c; highest = j } ∷ []
+
+-- A clause now stands in the frames up to a number, some of the clauses there of which it is a part may be gone, and nothing else
+-- changed. Each clause of a frame still stands in the frame before.
 pub record HasGained (j : ℕ) (c : List Literal) (old now : List (List (List Literal))) : Type 0 where
   pub same : length now ≡ length old
   pub within : j < length old
   pub here : (i : ℕ) → i ≤ j → Contains (frame_at now i) c
-  pub stays : (i : ℕ) (d : List Literal) → Contains (frame_at old i) d → Contains (frame_at now i) d
+  pub stays : (i : ℕ) (d : List Literal) → Contains (frame_at old i) d → Contains (frame_at now i) d ⊎ ((i ≤ j) × IsPart c d)
   pub only : (i : ℕ) (d : List Literal) → Contains (frame_at now i) d → Contains (frame_at old i) d ⊎ ((d ≡ c) × (i ≤ j))
+  pub shrinks : (i : ℕ) (d : List Literal) → Contains (frame_at now (suc i)) d → Contains (frame_at now i) d
 
 -- no clause has this number
 pub record IsEmptyLevel (l : Levels) (i : ℕ) : Type 0 where

@@ -1,16 +1,13 @@
 -- Parts of clauses, and what makes a clause one that may be put into the frames up to a number.
-use Rattle.std.specs.Prelude.{◌≡◌, ℕ, suc, Bool, List, Option, Some, None, All, Contains, slice_index_or, false}
+use Rattle.std.specs.Prelude.{◌≡◌, ℕ, suc, Bool, List, Option, Some, None, slice_index_or, false}
 use Rattle.xs_lits.specs.Literal.{Literal}
 use Rattle.xs_lits.specs.Hints.{HasNoOpposites}
 use Rattle.xs_lits.specs.declared.system.System.{System}
+pub use Rattle.xs_frames.specs.Chain.{IsPart}
 use Rattle.xs_frames.specs.Chain.{State, IsFirstState, IsStepOf, Makes, IsOverBits}
 use Rattle.xs_frames.specs.Framed.{InNumber}
 use Rattle.xs_frames.specs.Apart.{IsKept}
 use Rattle.xs_frames.specs.declared.guarded.Guarded.{Guarded}
-
--- each literal of the one clause stands in the other
-abbrev pub IsPart : List Literal → List Literal → Type 0
-IsPart d c = All (Contains c) d
 
 module _ (system : System) where
   -- each first state makes the clause true

@@ -1,11 +1,14 @@
 //! Each clause of the frames once, with the number of the highest frame in which it holds: it stands in the frames up to that
 //! one. The frame of number i is then all clauses whose number is i or more, and a clause goes to the next frame by a
-//! change of its number. Contracts see the frames as `frames_of` lists them (`specs/Levels.antt`).
-ghost use Rattle.std.specs.Prelude.{◌≡◌, ◌≢◌, ◌<◌, [], ◌∷◌, ◌++◌, length, slice_set, IfOk, OnOk, OnErr, IsTrue, All, false};
-ghost use Rattle.xs_frames.specs.Levels.{standing_in, held_at, IsFilledLevel};
+//! change of its number. A clause that says no more than a new one, in none but the frames of that one, goes.
+//! Contracts see the frames as `frames_of` lists them (`specs/Levels.antt`).
+ghost use Rattle.std.specs.Prelude.{◌≡◌, ◌≢◌, ◌<◌, [], length, slice_set, IfOk, OnOk, OnErr, IsTrue, All, false};
+ghost use Rattle.xs_simplify.specs.Resolution.{has_literal, subsumes};
+ghost use Rattle.xs_frames.specs.Levels.{standing_in, held_at, outdone, with_clause, IsFilledLevel};
 
 use std::alloc::Global;
 use xs_lits::clause::{Clause, ClauseList};
+use xs_lits::lit::Lit;
 use xs_value::OutOfMemory;
 
 /// A clause, and the number of the highest frame in which it holds.
@@ -26,6 +29,29 @@ pub struct Levels {
     pub last: usize,
 }
 
+/// Whether the literal is one of these.
+fn has(lits: &[Lit], lit: Lit) -> bool
+    ensures { result ≡ has_literal lit lits.now }
+{
+    lits.contains(&lit)
+}
+
+/// Whether each literal of the one clause is in the other.
+fn is_within(lits: &[Lit], others: &[Lit]) -> bool
+    ensures { result ≡ subsumes lits.now others.now }
+{
+    lits.iter().all(|lit| has(others, *lit))
+}
+
+/// Whether a clause says no more than the one of these literals does in the frames up to a number.
+fn is_outdone(held: &Held, highest: usize, lits: &[Lit]) -> bool
+    ensures { result ≡ outdone highest lits.now held.now }
+{
+    held.highest <= highest
+        && lits.len() <= held.clause.lits().len()
+        && is_within(lits, held.clause.lits())
+}
+
 impl Levels {
     /// The frame of number 0 without clauses; takes no memory.
     pub fn new(alloc: Global) -> Levels
@@ -38,13 +64,17 @@ impl Levels {
         }
     }
 
-    /// Puts a clause into the frames up to a number. Where there is no memory all stays as it was.
+    /// Puts a clause into the frames up to a number, in the place of those that say no more there and stand in no higher
+    /// frame. Where there is no memory all stays as it was.
     pub fn put(&mut self, highest: usize, clause: Clause) -> Result<(), OutOfMemory>
         ensures last { self.new.last ≡ self.old.last }
-        ensures ok { OnOk result (self.new.held.items ≡ self.old.held.items ++ record { clause = clause; highest = highest } ∷ []) }
+        ensures ok { OnOk result (self.new.held.items ≡ with_clause highest clause self.old.held.items) }
         ensures err { OnErr result (self.new.held.items ≡ self.old.held.items) }
     {
-        self.held.push(Held { clause, highest })?;
+        self.held.reserve(1)?;
+        self.held
+            .retain(|held| !is_outdone(held, highest, clause.lits()));
+        self.held.push_reserved(Held { clause, highest });
         Ok(())
     }
 

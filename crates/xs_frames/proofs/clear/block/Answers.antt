@@ -2,7 +2,8 @@ use Rattle.std.proofs.Common.{◌≡◌, ◌<◌, ◌≤◌, ℕ, suc, arith, le
 use Rattle.xs_frames.specs.Levels.{frames_of}
 use Rattle.xs_frames.specs.Guarding.{places_of}
 use Rattle.xs_frames.specs.Apart.{apart_system, apart_list}
-use Rattle.xs_frames.proofs.LevelLaws.{length_frames, gained_push, put_of}
+use Rattle.xs_frames.proofs.LevelLaws.{length_frames, put_of}
+use Rattle.xs_frames.proofs.PutLaws.{gained_put}
 use Rattle.xs_frames.proofs.QueryLemmas.{bits_up_to}
 use Rattle.xs_frames.proofs.clear.block.Goals as goal
 
@@ -19,4 +20,4 @@ pub returns-clause-kept : goal.returns-clause-kept
 returns-clause-kept c =
     c.in_ok-add.ensures (apart_system c.args.system.now) (apart_list (places_of c.args.system.now) c.args.bad.now) (frames_of c.args.frames.now) (frames_of c.put.new.self) c.requires.kept
     (put_of c.args.level c.args.clause (frames_of c.args.frames.now) (frames_of c.put.new.self)
-    (gained_push c.args.frames.now c.put.new.self c.args.level c.args.clause c.put.ensures.last c.requires.level c.in_ok-put.ensures.ok))
+    (gained_put c.args.frames.now c.put.new.self c.args.level c.args.clause c.put.ensures.last c.requires.level c.in_ok-put.ensures.ok))

@@ -4,7 +4,8 @@ use Rattle.xs_lits.specs.Literal.{Literal, opposite}
 use Rattle.xs_frames.specs.Bits.{moved_back, literals_from}
 use Rattle.xs_frames.specs.Levels.{frames_of}
 use Rattle.xs_frames.specs.Parts.{IsPart, IsAfter}
-use Rattle.xs_frames.proofs.PartLemmas.{part_more, opposed_back, next_above, may_stand, blocks_of, broken_over}
+use Rattle.xs_frames.proofs.Sets.{part_more}
+use Rattle.xs_frames.proofs.PartLemmas.{opposed_back, next_above, may_stand, blocks_of, broken_over}
 use Rattle.xs_frames.proofs.clear.blocking.Goals as goal
 
 pub join-requires : goal.join-requires

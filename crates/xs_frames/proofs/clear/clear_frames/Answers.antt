@@ -7,7 +7,8 @@ use Rattle.xs_frames.specs.Path.{AreOwed, IsPath}
 use Rattle.xs_frames.specs.Looked.{IsLook}
 use Rattle.xs_frames.specs.Counted.{work_left}
 use Rattle.xs_frames.specs.declared.clear.Look.TheVariants.{IsFirst, Deeper, Blocked}
-use Rattle.xs_frames.proofs.LevelLaws.{level_is, level_low, owed_fits, gained_push}
+use Rattle.xs_frames.proofs.LevelLaws.{level_is, level_low, owed_fits}
+use Rattle.xs_frames.proofs.PutLaws.{gained_put}
 use Rattle.xs_frames.proofs.OwedLemmas.{look_nothing, look_first, look_deeper, look_blocked, owed_less, work_deeper, work_blocked, BlocksNewest, levelled_blocked, stronger_blocked, levelled_stays, stronger_stays, level_some}
 use Rattle.xs_frames.proofs.clear.clear_frames.Goals as goal
 
@@ -115,7 +116,7 @@ looks-smaller g c =
     let level : c.level_of-level.result ≡ c.looks.frames.last + 1 - length c.looks.owed = grind (arith, common_steps) in
     let popped : c.looks.owed ≡ c.pop.new.self ++ c.pop.ensures.0 ∷ [] = c.pop.ensures.1 in
     let now : HasGained c.level_of-level.result c.in-Blocked.clause (frames_of c.looks.frames) (frames_of c.block.new.frames) =
-    gained_push c.looks.frames c.block.new.frames c.level_of-level.result c.in-Blocked.clause c.block.ensures.last (subst (λ (n : ℕ). n ≤ c.looks.frames.last) (sym level) (level_low c.looks.frames.last (length c.looks.owed) b.some)) c.in_ok-block-in-Blocked.ensures.ok in
+    gained_put c.looks.frames c.block.new.frames c.level_of-level.result c.in-Blocked.clause c.block.ensures.last (subst (λ (n : ℕ). n ≤ c.looks.frames.last) (sym level) (level_low c.looks.frames.last (length c.looks.owed) b.some)) c.in_ok-block-in-Blocked.ensures.ok in
     let is : c.level_of-level.result ≡ length (frames_of c.looks.frames) - length c.looks.owed = level ∙ sym (level_is c.looks.frames (length c.looks.owed)) in
     let at : c.level_of-level.result ≡ length (frames_of c.looks.frames) - length (c.pop.new.self ++ c.pop.ensures.0 ∷ []) = is ∙ ap (λ (o : List Assignment). length (frames_of c.looks.frames) - length o) popped in
     let owed : AreOwed c.args.system.now c.args.bad.now (frames_of c.looks.frames) (c.pop.new.self ++ c.pop.ensures.0 ∷ []) = subst (λ (o : List Assignment). AreOwed c.args.system.now c.args.bad.now (frames_of c.looks.frames) o) popped c.looks.invariant.owed in
@@ -132,7 +133,7 @@ looks-preserved g c =
     let level : c.level_of-level.result ≡ c.looks.frames.last + 1 - length c.looks.owed = grind (arith, common_steps) in
     let popped : c.looks.owed ≡ c.pop.new.self ++ c.pop.ensures.0 ∷ [] = c.pop.ensures.1 in
     let now : HasGained c.level_of-level.result c.in-Blocked.clause (frames_of c.looks.frames) (frames_of c.block.new.frames) =
-    gained_push c.looks.frames c.block.new.frames c.level_of-level.result c.in-Blocked.clause c.block.ensures.last (subst (λ (n : ℕ). n ≤ c.looks.frames.last) (sym level) (level_low c.looks.frames.last (length c.looks.owed) b.some)) c.in_ok-block-in-Blocked.ensures.ok in
+    gained_put c.looks.frames c.block.new.frames c.level_of-level.result c.in-Blocked.clause c.block.ensures.last (subst (λ (n : ℕ). n ≤ c.looks.frames.last) (sym level) (level_low c.looks.frames.last (length c.looks.owed) b.some)) c.in_ok-block-in-Blocked.ensures.ok in
     let is : c.level_of-level.result ≡ length (frames_of c.looks.frames) - length c.looks.owed = level ∙ sym (level_is c.looks.frames (length c.looks.owed)) in
     let at : c.level_of-level.result ≡ length (frames_of c.looks.frames) - length (c.pop.new.self ++ c.pop.ensures.0 ∷ []) = is ∙ ap (λ (o : List Assignment). length (frames_of c.looks.frames) - length o) popped in
     let owed : AreOwed c.args.system.now c.args.bad.now (frames_of c.looks.frames) (c.pop.new.self ++ c.pop.ensures.0 ∷ []) = subst (λ (o : List Assignment). AreOwed c.args.system.now c.args.bad.now (frames_of c.looks.frames) o) popped c.looks.invariant.owed in

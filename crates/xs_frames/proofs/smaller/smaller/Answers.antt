@@ -1,7 +1,8 @@
 use Rattle.std.proofs.Common.{refl, sym, ◌∙◌, subst}
 use Rattle.xs_frames.specs.Levels.{frames_of}
 use Rattle.xs_frames.specs.Parts.{AreAgreed}
-use Rattle.xs_frames.proofs.PartLemmas.{part_itself, part_more, asked_more, holds_stays}
+use Rattle.xs_frames.proofs.Sets.{part_itself, part_more}
+use Rattle.xs_frames.proofs.PartLemmas.{asked_more, holds_stays}
 use Rattle.xs_frames.proofs.smaller.smaller.Goals as goal
 
 pub turns-init : goal.turns-init

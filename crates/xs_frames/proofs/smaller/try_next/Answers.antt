@@ -2,7 +2,8 @@ use Rattle.std.proofs.Common.{◌≤◌, ◌<◌, ◌+◌, not, List, ◌∙◌,
 use Rattle.xs_lits.specs.Literal.{Literal}
 use Rattle.xs_frames.specs.Levels.{frames_of}
 use Rattle.xs_frames.specs.Parts.{IsPart, MayStand}
-use Rattle.xs_frames.proofs.PartLemmas.{part_itself, part_more, part_all, part_apart, some_of, chosen_part}
+use Rattle.xs_frames.proofs.Sets.{part_itself, part_more}
+use Rattle.xs_frames.proofs.PartLemmas.{part_all, part_apart, some_of, chosen_part}
 use Rattle.std.specs.Prelude.{filter, nat_eq}
 use Rattle.xs_frames.proofs.smaller.try_next.Goals as goal
 
