@@ -156,7 +156,7 @@ put_of j c old now g = record {
 -- a clause with the next number: what stood in a frame stands there still
 module _ (l now : Levels) (i k : ℕ) (h : Held) (last : now.last ≡ l.last) (lt : i < l.last) (inside : k < length l.held.items) (was : (held_in l.held.items k).highest ≡ i)
     (clause : h.clause ≡ (held_in l.held.items k).clause) (is : h.highest ≡ i + 1) (items : now.held.items ≡ slice_set l.held.items k h) where
-  hs : List Held
+  abbrev pub hs : List Held
   hs = l.held.items
 
   at_k : held_in (slice_set hs k h) k ≡ h

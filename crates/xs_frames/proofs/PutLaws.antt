@@ -46,20 +46,20 @@ outdone_tells j c h e =
     part t = All-weaker (λ l. has_literal l h.clause ≡ true) (Contains h.clause) (λ l has. contains_from_has l h.clause has) c (AllPass-from_list_all (λ l. has_literal l h.clause) c t)
 
 module _ (j : ℕ) (c : List Literal) (hs : List Held) where
-  more : Held
-  more = record { clause = c; highest = j }
+  abbrev pub newest : Held
+  newest = record { clause = c; highest = j }
 
-  rest : List Held
-  rest = filter (λ h. not (outdone j c h)) hs
+  abbrev left : List Held
+  left = filter (λ h. not (outdone j c h)) hs
 
   put_here : (i : ℕ) → i ≤ j → Contains (standing_in i (with_clause j c hs)) c
-  put_here i le = standing i (with_clause j c hs) more (Contains-push rest more) le
+  put_here i le = standing i (with_clause j c hs) newest (Contains-push left newest) le
 
   put_stays : (i : ℕ) (d : List Literal) → Contains (standing_in i hs) d → Contains (standing_in i (with_clause j c hs)) d ⊎ ((i ≤ j) × IsPart c d)
   put_stays i d m = by_held (of_standing i hs d m)
     where
       between : (a b n : ℕ) → a ≤ b → b ≤ n → a ≤ n
-      between a b n le more = omega (arith, le, more)
+      between a b n le lt = omega (arith, le, lt)
 
       by_held : IsOf i hs d → Contains (standing_in i (with_clause j c hs)) d ⊎ ((i ≤ j) × IsPart c d)
       by_held o = by_test (outdone j c o.held) refl
@@ -67,21 +67,21 @@ module _ (j : ℕ) (c : List Literal) (hs : List Held) where
           by_test : (b : Bool) → outdone j c o.held ≡ b → Contains (standing_in i (with_clause j c hs)) d ⊎ ((i ≤ j) × IsPart c d)
           by_test true e = let t = outdone_tells j c o.held e in inr (between i o.held.highest j o.high t.0, subst (IsPart c) o.is_it t.1)
           by_test false e = inl (subst (Contains (standing_in i (with_clause j c hs))) o.is_it
-              (standing i (with_clause j c hs) o.held (Contains-append_left rest (more ∷ []) o.held (to_filter (λ h. not (outdone j c h)) hs o.held o.inside (not_from_false (outdone j c o.held) e))) o.high))
+              (standing i (with_clause j c hs) o.held (Contains-append_left left (newest ∷ []) o.held (to_filter (λ h. not (outdone j c h)) hs o.held o.inside (not_from_false (outdone j c o.held) e))) o.high))
 
   put_only : (i : ℕ) (d : List Literal) → Contains (standing_in i (with_clause j c hs)) d → Contains (standing_in i hs) d ⊎ ((d ≡ c) × (i ≤ j))
   put_only i d m = by_held (of_standing i (with_clause j c hs) d m)
     where
       by_held : IsOf i (with_clause j c hs) d → Contains (standing_in i hs) d ⊎ ((d ≡ c) × (i ≤ j))
-      by_held o = by_case (Contains-push_cases rest more o.held o.inside)
+      by_held o = by_case (Contains-push_cases left newest o.held o.inside)
         where
-          by_case : Contains rest o.held ⊎ (more ≡ o.held) → Contains (standing_in i hs) d ⊎ ((d ≡ c) × (i ≤ j))
+          by_case : Contains left o.held ⊎ (newest ≡ o.held) → Contains (standing_in i hs) d ⊎ ((d ≡ c) × (i ≤ j))
           by_case (inl m) = inl (subst (Contains (standing_in i hs)) o.is_it (standing i hs o.held (from_filter (λ h. not (outdone j c h)) hs o.held m) o.high))
           by_case (inr e) = inr (sym (ap (λ (g : Held). g.clause) e ∙ o.is_it), subst (λ n. i ≤ n) (sym (ap (λ (g : Held). g.highest) e)) o.high)
 
   -- what holds of each clause and of the new one holds of each after that
-  pub put_all : (P : Held → Type 0) → All P hs → P more → All P (with_clause j c hs)
-  put_all P all here = All-push P rest more (All-filter (λ h. not (outdone j c h)) P hs all) here
+  pub put_all : (P : Held → Type 0) → All P hs → P newest → All P (with_clause j c hs)
+  put_all P all here = All-push P left newest (All-filter (λ h. not (outdone j c h)) P hs all) here
 
 pub gained_put : (l now : Levels) (j : ℕ) (c : List Literal) → now.last ≡ l.last → j ≤ l.last → now.held.items ≡ with_clause j c l.held.items → HasGained j c (frames_of l) (frames_of now)
 gained_put l now j c last le items = gained_from l now j c last le
