@@ -5,7 +5,8 @@
 //! renamed, so that those of two lists never meet. A clause that holds in the frames up to a number is kept once, as `guard of that frame ->
 //! clause`, and each guard implies the next frame's: so under the guard of a frame just its clauses have to hold.
 //! The frame of number 0 is the list of the first states. Bad states and frames that are not asked about any more
-//! are retired: their guard is false from then on. What the search learns stays.
+//! are retired: their guard is false from then on. What the search learns stays, and so does a clause whose place in the frames
+//! another one took.
 ghost use Rattle.std.specs.Prelude.{◌≡◌, ◌≤◌, ◌<◌, ◌+◌, ◌*◌, ◌^◌, ◌∷◌, ◌++◌, [], IfOk, OnOk, All, length};
 ghost use Rattle.xs_lits.specs.Literal.{opposite};
 ghost use Rattle.xs_lits.specs.Derivation.{IsUpTo};

@@ -10,7 +10,8 @@
 //! `specs/Chain.antt` and `specs/Framed.antt`; which systems frames are made of, and which lists they
 //! clear, in `specs/Condition.antt`.
 //!
-//! A clause is kept once, with the number of the highest frame in which it holds (`src/levels.rt`, `specs/Levels.antt`).
+//! A clause is kept once, with the number of the highest frame in which it holds, until a clause that says more takes its place
+//! (`src/levels.rt`, `specs/Levels.antt`).
 //! All queries go to one search that is kept, over the first states, the steps, the frames and the bad states that
 //! are asked about, each under a guard of its own; so what it learns stays (`src/guarded.rt`, `specs/Guarding.antt`).
 //!
