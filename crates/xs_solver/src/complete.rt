@@ -3,32 +3,47 @@
 //! A search that is kept over many questions holds clauses of which most say nothing of the one that is asked: they
 //! are true because of a guard that is free. So before a free choice is made, [`complete`] sees whether all clauses are true
 //! once each free variable is false. The clause at which it stopped last is looked at first, so that mostly one clause
-//! is looked at for each choice; that all are true is seen clause by clause before it is answered.
-ghost use Rattle.std.specs.Prelude.{◌≡◌, ◌≤◌, length, All, IfOk, IfSome};
+//! is looked at for each choice, and all of them once for each answer.
+ghost use Rattle.std.specs.Prelude.{◌≡◌, ◌≤◌, None, length, All, IsTrue, IfOk, IfSome};
 ghost use Rattle.xs_lits.specs.Assignment.{IsInRange};
 ghost use Rattle.xs_solver.specs.Trail.{IsLeast};
-ghost use Rattle.xs_solver.specs.Complete.{IsFilled, IsCompletion};
+ghost use Rattle.xs_solver.specs.Complete.{IsFilled, IsCompletion, WouldBeTrue, WouldHold, WouldHoldBetween};
 
 use crate::clauses::{len, lits};
-use crate::find::{Found, find};
 use crate::trail::Trail;
 use xs_lits::assign::Assign;
 use xs_lits::lit::Lit;
 use xs_lits::store::Store;
 use xs_value::OutOfMemory;
 
+// Whether a literal is true once each free variable is false.
+fn would_be_true(lit: Lit, assign: &Assign) -> bool
+    requires { IsInRange assign.now lit }
+    ensures { IsTrue result → WouldBeTrue assign.now lit }
+{
+    // (that its variable is a positive number is what `var` says)
+    let _var = lit.var();
+    assign.value(lit).unwrap_or(lit.is_negated())
+}
+
 // Whether a clause is true once each free variable is false.
 fn holds(lits: &[Lit], assign: &Assign) -> bool
     requires { All (IsInRange assign.now) lits.now }
+    ensures { IsTrue result → WouldHold assign.now lits.now }
 {
-    lits.iter()
-        .any(|lit| assign.value(*lit).unwrap_or(lit.is_negated()))
+    for lit in lits {
+        if would_be_true(*lit, assign) {
+            return true;
+        }
+    }
+    false
 }
 
 // The place of the first clause from one place up to another that is not true once each free variable is false.
 fn first_open<S: Store>(clauses: &S, assign: &Assign, from: usize, to: usize) -> Option<usize>
     requires in_range { All (All (IsInRange assign.now)) (S.held clauses.now).clauses }
     requires within { to ≤ length (S.held clauses.now).clauses }
+    ensures { result ≡ None → WouldHoldBetween assign.now (S.held clauses.now).clauses from to }
 {
     let mut i = from;
     while i < to {
@@ -40,10 +55,11 @@ fn first_open<S: Store>(clauses: &S, assign: &Assign, from: usize, to: usize) ->
     None
 }
 
-// Whether all clauses are true once each free variable is false. What is answered is seen anew before it is used.
+// Whether all clauses are true once each free variable is false.
 fn would_hold<S: Store>(clauses: &S, trail: &mut Trail, open: usize) -> bool
     requires { All (All (IsInRange trail.old.values)) (S.held clauses.now).clauses }
-    ensures { trail.new ≡ trail.old }
+    ensures same { trail.new ≡ trail.old }
+    ensures hold { IsTrue result → All (WouldHold trail.old.values) (S.held clauses.now).clauses }
 {
     let count = len(clauses);
     let from = open.min(count);
@@ -51,9 +67,16 @@ fn would_hold<S: Store>(clauses: &S, trail: &mut Trail, open: usize) -> bool
         trail.note_open(at);
         return false;
     }
-    let before = first_open(clauses, trail.assign(), 0, from);
-    trail.note_open(before.unwrap_or(0));
-    before.is_none()
+    match first_open(clauses, trail.assign(), 0, from) {
+        Some(at) => {
+            trail.note_open(at);
+            false
+        }
+        None => {
+            trail.note_open(0);
+            true
+        }
+    }
 }
 
 // The assignment with each free variable false, where no variable below one is free.
@@ -87,8 +110,5 @@ pub fn complete<S: Store>(clauses: &S, trail: &mut Trail) -> Result<Option<Assig
         return Ok(None);
     }
     let all = filled(trail.assign(), trail.least())?;
-    match find(clauses, &all) {
-        Found::Nothing => Ok(Some(all)),
-        Found::Conflict(_) | Found::Next(_, _) => Ok(None),
-    }
+    Ok(Some(all))
 }
