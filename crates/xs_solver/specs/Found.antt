@@ -1,5 +1,5 @@
 -- What a look at all clauses finds.
-use Rattle.std.specs.Prelude.{◌≡◌, ◌≢◌, ◌<◌, ℕ, List, All, Contains, Some, None, true, false, length, slice_index_or}
+use Rattle.std.specs.Prelude.{◌≡◌, ◌≢◌, ◌<◌, ℕ, List, All, Contains, Some, None, true, false, take, length, slice_index_or}
 use Rattle.xs_lits.specs.Literal.{Literal}
 use Rattle.xs_lits.specs.Assignment.{Assignment, value_of}
 use Rattle.xs_lits.specs.Truth.{truth_of}
@@ -27,9 +27,10 @@ IsUseful clauses a (Conflict number) = truth_at clauses a number ≡ Some False
 IsUseful clauses a (Next number l) = truth_at clauses a number ≡ Some (UnitClause l)
 IsUseful clauses a Nothing = Unit {0}
 
--- an assumption that is free or false, or where all are true a free variable, or that there is none
+-- an assumption that is free, where so many of the first ones are true; one that is false; or where all are true a free variable, or that
+-- there is none
 abbrev pub IsPick : Assignment → List Literal → Pick → Type 0
-IsPick a assumptions (Assume l) = Contains assumptions l × (value_of a l ≡ None)
+IsPick a assumptions (Assume l count) = Contains assumptions l × (value_of a l ≡ None) × All (λ p. value_of a p ≡ Some true) (take count assumptions)
 IsPick a assumptions (Refuted l) = Contains assumptions l × (value_of a l ≡ Some false)
 IsPick a assumptions Choose = All (λ p. value_of a p ≡ Some true) assumptions × HasFree a
 IsPick a assumptions Done = All (λ p. value_of a p ≡ Some true) assumptions × ((x : ℕ) → 0 < x → x < length a → slice_index_or a x None ≢ None)
