@@ -256,9 +256,9 @@ module _ (system : System) (list : List (List Literal)) (frames : List (List (Li
       lists bad c on in_list = bad_true b n c on (subst (λ (cs : List (List Literal)). Contains cs c) same_bad in_list)
 
 -- a core under the guards, without them
-pub tells_unsat : (g : Guarded) (b : Beside) (i : ℕ) (all : List (List Literal)) (assumptions core : List Literal) → IsWell g → i < length g.frames.items → All (IsUpTo g.places) assumptions →
-    IsRefuted (added_in g) all (asked_guards g b i ++ assumptions) core → Tells g b i assumptions (Unsat (unguarded g.places core))
-tells_unsat g b i all assumptions core w lt low r system list frames h = record {
+pub tells_unsat : (g : Guarded) (cores : Bool) (b : Beside) (i : ℕ) (all : List (List Literal)) (assumptions core : List Literal) → IsWell g → i < length g.frames.items → All (IsUpTo g.places) assumptions →
+    IsRefuted cores (added_in g) all (asked_guards g b i ++ assumptions) core → Tells g b i assumptions (Unsat (unguarded g.places core))
+tells_unsat g cores b i all assumptions core w lt low r system list frames h = record {
   negated = core_negated g.places (asked_guards g b i) assumptions core (λ l m. (are_guards g b i w lt l m).above) r.negated;
   follows = λ v m n. core_follows layout g.search.kept.vars (added_in g) h.held (asked_of held_system held_list frames v i b (frame_held v i m) (beside_held v b n)) v (asked_guards g b i) assumptions core
       (are_asked held_system held_list frames v layout i b (frame_held v i m) (beside_held v b n) h.places refl refl refl refl) r.follows r.negated (λ l c. on v (frame_held v i m) (beside_held v b n) l c) low;

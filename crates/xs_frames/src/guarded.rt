@@ -146,7 +146,7 @@ impl Guarded {
         requires small { vars < 2 ^ 62 }
         ensures { IfOk result (λ g. IsEmpty places vars g) }
     {
-        let search = Search::new(alloc, vars, KeepNone)?;
+        let search = Search::forgetful(alloc, vars)?;
         let mut frames = Vec::new(alloc);
         frames.push(Lit::new(places + 1, false))?;
         Ok(Guarded {

@@ -389,3 +389,25 @@ fn keeps_what_was_added(rt: HostRuntime) -> Result<(), Fail> {
     assert_eq!(rt; over_three(rt.alloc())?, ((MODEL, 1, MODEL), 3, 1));
     Ok(())
 }
+
+// The same questions over two variables, and how many clauses there are then.
+fn counted(
+    alloc: Global,
+    mut search: Search<KeepNone>,
+) -> Result<((usize, usize, usize), usize), OutOfMemory>
+    requires { search.kept.vars ≡ 2 }
+{
+    let mut panel = Panel::new(Vec::new(alloc));
+    let found = over_two(alloc, &mut search, &mut panel)?;
+    Ok((found, search.count()))
+}
+
+#[test]
+fn forgets_what_refuted(rt: HostRuntime) -> Result<(), Fail> {
+    let alloc = rt.alloc();
+    let kept = counted(alloc, Search::new(alloc, 2, KeepNone)?)?;
+    assert_eq!(rt; kept, ((MODEL, 1, MODEL), 3));
+    let forgotten = counted(alloc, Search::forgetful(alloc, 2)?)?;
+    assert_eq!(rt; forgotten, ((MODEL, 1, MODEL), 2));
+    Ok(())
+}

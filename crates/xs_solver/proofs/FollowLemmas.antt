@@ -1,5 +1,5 @@
 -- The store's trail begins with the literals that it has followed, whatever is made true or taken back.
-use Rattle.std.proofs.Common.{◌≡◌, ℕ, ◌+◌, ◌≤◌, List, [], ◌∷◌, ◌++◌, length, take, reverse, replicate, Option, None, Some, refl, sym, ap, ◌∙◌, arith}
+use Rattle.std.proofs.Common.{◌≡◌, ℕ, ◌+◌, ◌≤◌, Bool, List, [], ◌∷◌, ◌++◌, length, take, reverse, replicate, Option, None, Some, refl, sym, ap, ◌∙◌, arith}
 use Rattle.std.specs.Prelude.{slice_get}
 use Rattle.std.proofs.lemmas.List.{map-append, take-map, take-take, take-append-le, replicate-append-replicate, length-map, length-take, length-append, reverse-reverse, reverse-append}
 use Rattle.xs_lits.specs.Literal.{Literal}
@@ -115,7 +115,7 @@ sound_followed clauses assumptions t k h = record {
   justified = h.justified;
 }
 
-pub advance_followed : (clauses : List (List Literal)) (assumptions : List Literal) (t u : TrailValue) (k : ℕ) (answer : Option Verdict) → IsAdvance clauses assumptions (record t { followed = k }) u answer → IsAdvance clauses assumptions t u answer
-advance_followed clauses assumptions t u k None h = h
-advance_followed clauses assumptions t u k (Some (Sat a)) h = h
-advance_followed clauses assumptions t u k (Some (Unsat c)) h = h
+pub advance_followed : (cores : Bool) (clauses : List (List Literal)) (assumptions : List Literal) (t u : TrailValue) (k : ℕ) (answer : Option Verdict) → IsAdvance cores clauses assumptions (record t { followed = k }) u answer → IsAdvance cores clauses assumptions t u answer
+advance_followed cores clauses assumptions t u k None h = h
+advance_followed cores clauses assumptions t u k (Some (Sat a)) h = h
+advance_followed cores clauses assumptions t u k (Some (Unsat c)) h = h

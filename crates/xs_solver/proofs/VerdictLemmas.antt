@@ -5,7 +5,7 @@ use Rattle.std.specs.List.{list_any}
 use Rattle.std.proofs.lemmas.Bool.{cases_Bool}
 use Rattle.std.proofs.lemmas.Option.{none-some}
 use Rattle.std.proofs.lemmas.List.{get_or_append_left, length-append}
-use Rattle.std.proofs.lemmas.List.Elements.{All-nil, All-push, All-contains}
+use Rattle.std.proofs.lemmas.List.Elements.{All-nil, All-push}
 use Rattle.std.proofs.lemmas.List.Folds.{Any-from_list_any}
 use Rattle.xs_lits.specs.Literal.{Literal, signed}
 use Rattle.xs_lits.specs.Assignment.{Assignment, IsInRange, value_of, is_true_in}
@@ -19,8 +19,9 @@ use Rattle.xs_lits.proofs.TruthLemmas.{truth_of-True, truth_of-False, value_true
 use Rattle.xs_lits.proofs.DeriveModelLemmas.{FollowsFrom-EndsFalse}
 use Rattle.xs_lits.specs.declared.step.Step.{Step}
 use Rattle.xs_solver.specs.Found.{IsTrueIn}
-use Rattle.xs_solver.specs.Search.{AreSteps, with_steps, Grows, IsSolution, IsRefutation}
-use Rattle.xs_solver.specs.Verdict.{IsFull, IsCore, IsAdvance, IsVerdict}
+use Rattle.xs_solver.specs.Kept.{IsRefuted, IsAnswer}
+use Rattle.xs_solver.specs.Search.{AreSteps, with_steps, Grows, IsSolution}
+use Rattle.xs_solver.specs.Verdict.{IsFull, IsCore, IsAdvance, IsAmong, IsVerdict}
 use Rattle.xs_solver.specs.TrailRecord.{TrailValue}
 use Rattle.xs_solver.specs.declared.solve.Verdict.{Verdict}
 use Rattle.xs_solver.specs.declared.solve.Verdict.TheVariants.{Sat, Unsat}
@@ -87,21 +88,33 @@ all_follow vars v (s ∷ ss) cs steps model =
     (Satisfies-from_All v (cs ++ s.clause ∷ [])
     (All-push (λ c. clause_value v c ≡ true) cs s.clause (All-from_Satisfies v cs model) (FollowsFrom-EndsFalse vars cs s.clause s.hints steps.0.ends v model)))
 
-pub refutation : (vars : ℕ) (givens ds : List (List Literal)) (assumptions c : List Literal) (kept_old kept_new : Option (List Step)) → Grows vars givens kept_old ds kept_new → IsCore ds assumptions c → IsRefutation vars givens assumptions kept_old kept_new c
-refutation vars givens ds assumptions c kept_old kept_new grows core =
-    let listed : Contains (with_steps givens grows.steps) c = subst (λ (xs : List (List Literal)). Contains xs c) grows.clauses core.listed in
-    record {
-      negated = core.negated;
-      follows = λ v model. All-contains (λ d. clause_value v d ≡ true) (with_steps givens grows.steps) c
-          (All-from_Satisfies v (with_steps givens grows.steps) (all_follow vars v grows.steps givens grows.are_steps model)) listed;
-      steps = grows.steps;
-      are_steps = grows.are_steps;
-      kept = grows.kept;
-      listed = listed;
-    }
+-- what refutes where clauses have grown by steps refutes those that they grew from
+refuted : (cores : Bool) (vars : ℕ) (givens ds : List (List Literal)) (assumptions c : List Literal) (kept_old kept_new : Option (List Step)) → Grows vars givens kept_old ds kept_new → IsCore cores ds assumptions c → IsRefuted cores givens ds assumptions c
+refuted cores vars givens ds assumptions c kept_old kept_new grows core = record {
+  negated = core.negated;
+  follows = λ v model. core.follows v (subst (Satisfies v) (sym grows.clauses) (all_follow vars v grows.steps givens grows.are_steps model));
+  listed = core.listed;
+}
 
-pub verdict_of : (vars : ℕ) (givens ds : List (List Literal)) (assumptions : List Literal) (old new : TrailValue) (kept_old kept_new : Option (List Step)) (v : Verdict) → Grows vars givens kept_old ds kept_new → length old.values ≡ vars + 1 → IsAdvance ds assumptions old new (Some v) → IsVerdict vars givens assumptions kept_old kept_new v
-verdict_of vars givens ds assumptions old new kept_old kept_new (Sat a) grows places h =
+pub answer_from : (cores : Bool) (vars : ℕ) (givens ds : List (List Literal)) (assumptions : List Literal) (old new : TrailValue) (kept_old kept_new : Option (List Step)) (v : Verdict) → Grows vars givens kept_old ds kept_new → length old.values ≡ vars + 1 → IsAdvance cores ds assumptions old new (Some v) → IsAnswer cores vars givens ds assumptions v
+answer_from cores vars givens ds assumptions old new kept_old kept_new (Sat a) grows places h =
     solution vars givens ds assumptions a kept_old kept_new grows (h.1 ∙ places) h.0
-verdict_of vars givens ds assumptions old new kept_old kept_new (Unsat c) grows places h =
-    refutation vars givens ds assumptions c kept_old kept_new grows h
+answer_from cores vars givens ds assumptions old new kept_old kept_new (Unsat c) grows places h =
+    refuted cores vars givens ds assumptions c kept_old kept_new grows h
+
+-- where cores are kept, an answer is a verdict whose steps were kept
+pub verdict_of : (vars : ℕ) (givens ds : List (List Literal)) (assumptions : List Literal) (kept_old kept_new : Option (List Step)) (v : Verdict) → Grows vars givens kept_old ds kept_new → IsAnswer true vars givens ds assumptions v → IsVerdict vars givens assumptions kept_old kept_new v
+verdict_of vars givens ds assumptions kept_old kept_new (Sat a) grows h = h
+verdict_of vars givens ds assumptions kept_old kept_new (Unsat c) grows h = record {
+  negated = h.negated;
+  follows = h.follows;
+  steps = grows.steps;
+  are_steps = grows.are_steps;
+  kept = grows.kept;
+  listed = subst (λ (xs : List (List Literal)). Contains xs c) grows.clauses (h.listed refl);
+}
+
+-- and what refutes is one of the clauses
+pub among : (vars : ℕ) (givens ds : List (List Literal)) (assumptions : List Literal) (v : Verdict) → IsAnswer true vars givens ds assumptions v → IsAmong ds v
+among vars givens ds assumptions (Sat a) h = tt
+among vars givens ds assumptions (Unsat c) h = h.listed refl

@@ -1,4 +1,4 @@
-use Rattle.std.proofs.Common.{◌≤◌, ◌-◌}
+use Rattle.std.proofs.Common.{◌-◌}
 use Rattle.xs_solver.specs.Complete.{WouldHoldBetween}
 use Rattle.xs_solver.proofs.complete.first_open.Given as goal
 

@@ -1,4 +1,4 @@
-use Rattle.std.proofs.Common.{◌≡◌, ℕ, List, Option, Some, None, length, refl, subst}
+use Rattle.std.proofs.Common.{◌≡◌, ℕ, Option, Some, None, length, refl, subst}
 use Rattle.xs_lits.specs.Assignment.{Assignment}
 use Rattle.xs_solver.specs.Complete.{WouldHoldBetween}
 use Rattle.xs_solver.proofs.CompleteLemmas.{between_all}

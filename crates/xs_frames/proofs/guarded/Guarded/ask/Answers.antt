@@ -35,7 +35,7 @@ pub returns-in-Sat-clause-verdict : goal.returns-in-Sat-clause-verdict
 returns-in-Sat-clause-verdict g c =
     let s = c.args.self.now in
     let under : c.as_slice.result.now ≡ asked_guards s c.args.beside c.args.frame ++ c.args.assumptions.now = grind (arith, common_steps) in
-    let answer = subst (IsAnswer s.search.kept.vars (added_in s) c.ask.new.self.kept.clauses c.as_slice.result.now) c.in-Sat.is c.in_ok-values.ensures.answer in
+    let answer = subst (IsAnswer s.search.cores s.search.kept.vars (added_in s) c.ask.new.self.kept.clauses c.as_slice.result.now) c.in-Sat.is c.in_ok-values.ensures.answer in
     tells_sat s c.args.beside c.args.frame s.search.kept.vars c.args.assumptions.now c.in-Sat.values c.requires.well c.requires.frame (subst (λ (ls : List Literal). IsSolution s.search.kept.vars (added_in s) ls c.in-Sat.values) under answer)
 
 pub returns-clause-asked : goal.returns-clause-asked
@@ -48,7 +48,7 @@ pub returns-clause-verdict : goal.returns-clause-verdict
 returns-clause-verdict g c =
     let s = c.args.self.now in
     let under : c.as_slice.result.now ≡ asked_guards s c.args.beside c.args.frame ++ c.args.assumptions.now = grind (arith, common_steps) in
-    let answer = subst (IsAnswer s.search.kept.vars (added_in s) c.ask.new.self.kept.clauses c.as_slice.result.now) c.in-Unsat.is c.in_ok-values.ensures.answer in
+    let answer = subst (IsAnswer s.search.cores s.search.kept.vars (added_in s) c.ask.new.self.kept.clauses c.as_slice.result.now) c.in-Unsat.is c.in_ok-values.ensures.answer in
     subst (λ (core : List Literal). Tells s c.args.beside c.args.frame c.args.assumptions.now (Unsat core)) (sym c.in_ok-without_guards-in-Unsat.ensures)
-    (tells_unsat s c.args.beside c.args.frame c.ask.new.self.kept.clauses c.args.assumptions.now c.in-Unsat.core c.requires.well c.requires.frame c.requires.up_to
-    (subst (λ (ls : List Literal). IsRefuted (added_in s) c.ask.new.self.kept.clauses ls c.in-Unsat.core) under answer))
+    (tells_unsat s s.search.cores c.args.beside c.args.frame c.ask.new.self.kept.clauses c.args.assumptions.now c.in-Unsat.core c.requires.well c.requires.frame c.requires.up_to
+    (subst (λ (ls : List Literal). IsRefuted s.search.cores (added_in s) c.ask.new.self.kept.clauses ls c.in-Unsat.core) under answer))
