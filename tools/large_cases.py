@@ -412,11 +412,11 @@ def sizes():
     above = "refused words 7 at 15\n"
     return {"m": units(count), "f": LOST}, [
         analyse(top, 0, whole, more=["--size", str(count)]), check(top, 0, "accepted\n"),
-        edited(2, head, head.replace("size 256", "size 257")), check(top, 6, "not accepted line 2 rule 1\n", "k"),
-        edited(2, head, head.replace("size 256", "size 255")), check(top, 6, "not accepted line 4 rule 2\n", "k"),
-        analyse(top, 0, report(names, [], "complete\nsize 255\n"), more=["--size", "255"]), check(top, 0, "accepted\nsize 255\n"),
-        analyse("u1.down & u256.down", 0, report(names, [], "complete\nsize 1\n"), more=["--size", "1"]),
-        analyse("u1.down", 2, above, more=["--size", str(count + 1)])]
+        edited(2, head, f"{head[:-len(str(count))]}{count + 1}"), check(top, 6, "not accepted line 2 rule 1\n", "k"),
+        edited(2, head, f"{head[:-len(str(count))]}{count - 1}"), check(top, 6, "not accepted line 4 rule 2\n", "k"),
+        analyse(top, 0, report(names, [], f"complete\nsize {count - 1}\n"), more=["--size", str(count - 1)]), check(top, 0, f"accepted\nsize {count - 1}\n"),
+        analyse(f"u1.down & u{count}.down", 0, report(names, [], "complete\nsize 1\n"), more=["--size", "1"]),
+        analyse("u1.down", 2, above, more=["--size", "257"])]
 
 
 @case("256 modes of a slice")
@@ -427,7 +427,7 @@ def modes():
     made = LAMP.replace("  x :=", "  x#nominal :=") + woven("S", "x", "boolean", modes_of(MOST_FAULTS))
     return {"m": LAMP, "f": instructions(MOST_FAULTS)}, [
         extend(0, faults_said(names) + "extended\n"), wrote("x", made), analyse("x", 0, report(names, singles(MOST_FAULTS))),
-        analyse("x", 1, report(names, singles(MOST_FAULTS), "bounded 1 bits 267\n"), 1),
+        analyse("x", 1, report(names, singles(MOST_FAULTS), f"bounded 1 bits {2 + MOST_FAULTS.bit_length() + MOST_FAULTS}\n"), 1),
         becomes("f", instructions(MOST_FAULTS + 1)), extend(4, "refused faults weave 9 at 259\n")]
 
 
@@ -626,12 +626,12 @@ def common_causes():
 @case("orders in a set of 256 faults")
 def order_of_all():
     count, names = MOST_FAULTS, unit_names(MOST_FAULTS)
-    top, never = downs(range(1, count + 1), ALL), downs(range(1, count), ALL) + " & !u256.down"
+    top, never = downs(range(1, count + 1), ALL), downs(range(1, count), ALL) + f" & !u{count}.down"
     return {"m": units(count), "f": LOST}, [
         orders(top, count, 1, count, 0, f"pair 1 {count} either\ntrace 1\ntrace 2\n", names),
         orders(top, count, 1, count, 1, f"pair 1 {count} none to 0 bits {4 * count + 2}\n", names, 0),
         orders(never, count, 1, count, 0, f"pair 1 {count} none\n", names), check_orders(never, count, 1, count, "none", 0, "accepted\n"),
-        becomes("m", units(count - 1)), orders("u1.down", count, 1, count, 10, "refused set count 1 at 256\n", names)]
+        becomes("m", units(count - 1)), orders("u1.down", count, 1, count, 10, f"refused set count 1 at {count}\n", names)]
 
 
 @case("an order in a set of 256 faults that a guard makes")
@@ -690,7 +690,7 @@ def at_first():
     return {"m": units(count), "f": away}, [
         extend(0, faults_said(names) + "extended\n"), wrote("x", made),
         analyse(top, 1, report(names, singles(count), f"bounded 0 bits {4 * count}\n"), 0),
-        analyse("u1.down & u256.down", 0, report(names, [[1, 256]]))]
+        analyse(f"u1.down & u{count}.down", 0, report(names, [[1, count]]))]
 
 
 @case("60 faults that have come and gone")
@@ -751,7 +751,7 @@ def sections():
 def shallow_table():
     names, count = unit_names(MOST_FAULTS), MOST_FAULTS
     rows = ["", *(f" {a}" for a in range(1, count + 1)), *(f" {a} {b}" for a in range(1, count + 1) for b in range(a + 1, count + 1))]
-    said = faults_said(names) + "tops 1\ntop 1 bounded 0 bits 1024\n" + "".join(f"row{it} : unknown\n" for it in rows)
+    said = faults_said(names) + f"tops 1\ntop 1 bounded 0 bits {4 * count}\n" + "".join(f"row{it} : unknown\n" for it in rows)
     return {"m": units(count), "f": LOST, "t": "u1.down;"}, [
         fmea(2, 1, said, 0), fmea(3, 2, "refused words 7 at 9\n", 0)]
 
