@@ -1,23 +1,18 @@
 """The recipes of the large cases: models near the limits of docs/MANUAL.md, with the answers that follow from how they are made.
 
-`CASES` has each case by its name: a function that returns the files of the case and its steps. A step is the words of a run, the status,
-and what it says without the texts of traces, as a text or a pattern; or a function that changes files in the folder or looks at them.
-`analyse` and the others below make steps for a verb. A step of `orders` that shows traces has the names of its set, and one of
-`causes` has which faults each cause strikes, so that the traces can be judged.
-
+`CASES` has each case by its name: a function that returns the files of the case and its steps, as tools/large_texts.py makes them.
 Most models are units that nothing takes down but a fault, so that the minimal cut sets of an event over units can be read off the event.
-Where the text of a written extension is compared, the model is written as the program prints one.
 """
 import functools
 import random
 import re
 
-DEEP = 1_000_000_000
-MODEL_BYTES, TRACE_BYTES, TOP_BYTES = 1 << 20, 1 << 24, 1 << 16
-MOST_BITS, MOST_COST, MOST_FAULTS, MOST_TOPS, HIGHEST = 4096, 50_000, 256, 64, 1000
-FILES = ["--model", "m", "--faults", "f"]
-# What a boolean that is held by `:=` costs, and what a slice with one permanent mode and no guard adds, with the bit of its fault.
-HELD_COST, SLICE_COST = 3, 46
+from large_texts import (
+    ALL, ANY, CERTIFICATE_BYTES, DEEP, HELD_COST, HIGHEST, LAMP, LOST, MODEL_BYTES, MOST_BITS, MOST_COST, MOST_FAULTS, MOST_TOPS, SLICE_COST,
+    STUCK, TOP_BYTES, TRACE_BYTES, analyse, becomes, causes, check, check_causes, check_orders, definitions, downs, each, each_line, edited,
+    extend, faults_said, filled, fmea, low, make, odds, orders, rename, replay, report, sets_said, singles, slice_text, unit_names, units, woven,
+    wrote)
+
 CASES = {}
 
 
@@ -28,186 +23,6 @@ def case(name):
         return recipe
 
     return put
-
-
-# Words of the verbs, over the files m and f and those that a verb has of its own.
-
-
-def extend(status, said):
-    return [*"extend --model m --faults f --extended x".split()], status, said
-
-
-def analyse(top, status, said, depth=DEEP, more=()):
-    return ["analyse", *FILES, "--top", top, "--depth", str(depth), "--extended", "x", "--cert", "c", *more], status, said
-
-
-def check(top, status, said, cert="c"):
-    return ["check", *FILES, "--top", top, "--cert", cert], status, said
-
-
-def replay(top, status, said, trace="t"):
-    return ["replay", *FILES, "--trace", trace, "--top", top], status, said
-
-
-def fmea(size, status, said, depth=DEEP):
-    return ["fmea", *FILES, "--tops", "t", "--size", str(size), "--depth", str(depth)], status, said
-
-
-def make(number, stages, depth, status, said):
-    return ["make", "--number", str(number), "--stages", str(stages), "--depth", str(depth), "--model", "a", "--faults", "b"], status, said
-
-
-def odds(top, status, said, depth=DEEP):
-    return ["odds", *FILES, "--top", top, "--depth", str(depth)], status, said
-
-
-def causes(top, status, said, struck, depth=DEEP):
-    return ["causes", *FILES, "--causes", "s", "--top", top, "--depth", str(depth), "--cert", "c"], status, said, struck
-
-
-def check_causes(top, status, said):
-    return ["check-causes", *FILES, "--causes", "s", "--top", top, "--cert", "c"], status, said
-
-
-def ordering(verb, top, count, first, second):
-    """The words of an order in the set of the faults from 1 to a number."""
-    numbers = " ".join(str(it) for it in range(1, count + 1))
-    return [verb, *FILES, "--top", top, "--set", numbers, "--first", str(first), "--second", str(second)]
-
-
-def orders(top, count, first, second, status, said, names, depth=DEEP):
-    return [*ordering("orders", top, count, first, second), "--depth", str(depth), "--cert", "c"], status, said, names
-
-
-def check_orders(top, count, first, second, claim, status, said):
-    return [*ordering("check-orders", top, count, first, second), "--claim", claim, "--cert", "c"], status, said
-
-
-def wrote(name, text):
-    """A step that compares a written file."""
-    def look(folder):
-        found = (folder / name).read_text()
-        at = next((i for i, (a, b) in enumerate(zip(found, text)) if a != b), min(len(found), len(text)))
-        return [] if found == text else [f"{name} differs at byte {at}: {found[at:at + 60]!r}, wanted {text[at:at + 60]!r}"]
-
-    return look
-
-
-def rename(old, new):
-    """A step that takes one file for another."""
-    def move(folder):
-        (folder / new).write_bytes((folder / old).read_bytes())
-        return []
-
-    return move
-
-
-def becomes(name, text):
-    """A step that writes a file."""
-    def write(folder):
-        (folder / name).write_text(text)
-        return []
-
-    return write
-
-
-def edited(line, old, new):
-    """A step that writes the certificate as `k` with a line changed, counted from 1."""
-    def change(folder):
-        lines = (folder / "c").read_text().split("\n")
-        found, lines[line - 1] = lines[line - 1], new
-        (folder / "k").write_text("\n".join(lines))
-        return [] if found == old else [f"line {line} of the certificate is {found[:80]!r}, wanted {old!r}"]
-
-    return change
-
-
-# What reports say.
-
-
-def faults_said(names):
-    return f"faults {len(names)}\n" + "".join(f"fault {i} {it}\n" for i, it in enumerate(names, 1))
-
-
-def sets_said(sets):
-    return f"sets {len(sets)}\n" + "".join(" ".join(["set", *map(str, it)]) + "\n" for it in sets)
-
-
-def report(names, sets, end="complete\n"):
-    """What an analysis says, without the texts of its traces."""
-    return faults_said(names) + sets_said(sets) + "".join(f"trace {i + 1}\n" for i in range(len(sets))) + end
-
-
-def singles(count):
-    return [[i] for i in range(1, count + 1)]
-
-
-# Models and instructions.
-
-
-def each(piece, count, between=""):
-    """Returns the pieces for the numbers from 1 on, in which `@` stands for the number."""
-    return between.join(piece.replace("@", str(i)) for i in range(1, count + 1))
-
-
-def units(count, more=""):
-    """A model of units that nothing takes down, with further items of `main` behind them."""
-    return f"MODULE Unit\nVAR\n  down : boolean;\nASSIGN\n  down := FALSE;\nMODULE main\nVAR\n{each('  u@ : Unit;' + chr(10), count)}{more}"
-
-
-LOST = "EXTENSION OF MODULE Unit\n  SLICE Fail AFFECTS down WITH\n    MODE lost : Permanent StuckAt(TRUE);\n"
-
-
-def unit_names(count):
-    return [f"u{i}.Fail.lost" for i in range(1, count + 1)]
-
-
-def downs(numbers, by):
-    return by.join(f"u{i}.down" for i in numbers)
-
-
-ANY, ALL = " | ", " & "
-# A boolean that a fault sets, with as many further items as wanted behind it.
-LAMP = "MODULE main\nVAR\n  x : boolean;\nASSIGN\n  x := FALSE;\n"
-STUCK = "EXTENSION OF MODULE main\n  SLICE S AFFECTS x WITH\n    MODE on : Permanent StuckAt(TRUE);\n"
-
-
-def slice_text(name, variable, modes):
-    """The instructions of a slice whose modes are each a name with a mark or not, a kind with the effect, and a guard or nothing."""
-    lines = "".join(f"    MODE {mode} : {effect}{' WHEN ' + guard if guard else ''};\n" for mode, effect, guard, *_ in modes)
-    return f"  SLICE {name} AFFECTS {variable} WITH\n{lines}"
-
-
-def woven(name, variable, declared, modes):
-    """The sections that a slice adds to its module, as the manual tells how they are written. A mode has a fourth part, the branch of its
-    effect, and a fifth, the further section or nothing; both with @ for the name of the mode."""
-    at, nominal = f"{name}#mode", f"{name}#nominal"
-    steps, reads, free, rules = "", "", f"{{{nominal}}}", ""
-    symbols = [f"{name}#{mode.split()[0]}" for mode, *_ in modes]
-    for symbol, (_, effect, guard, branch, rule) in zip(symbols, modes):
-        stays = symbol if effect.startswith("Permanent") else f"{{{symbol}, {nominal}}}"
-        steps += f"({at} = {symbol}) : {stays}; "
-        reads += f"({at} = {symbol}) : {branch}; "
-        free = f"({free} union ({guard or 'TRUE'} ? {{{symbol}}} : {{{nominal}}}))"
-        rules += f"TRANS\n  {rule.replace('@', symbol)};\n" if rule else ""
-    return (
-        f"VAR\n  {variable}#nominal : {declared};\n  {at} : {{{', '.join([nominal, *symbols])}}};\nASSIGN\n  init({at}) := {nominal};\n"
-        f"  next({at}) := case {steps}TRUE : {free}; esac;\n  {variable} := case {reads}TRUE : {variable}#nominal; esac;\n{rules}"
-    )
-
-
-def definitions(cost, name="x"):
-    """Defines that cost so much, each of which needs the one behind it, and that all mean the name."""
-    count, rest = divmod(cost - 1, 3)
-    chain = "".join(f"  d{i} := d{i + 1} & {name};\n" for i in range(1, count))
-    return f"DEFINE\n{chain}  d{count} := {name} & {name};\n  e := {'!' * rest}{name};\n"
-
-
-def low(name, leaves):
-    """The conjunction of a name with itself, with so many leaves, as a tree that is not high."""
-    many, rest = divmod(leaves, 200)
-    parts = ["(" + "&".join([name] * 200) + ")"] * many + [name] * rest
-    return f"({'&'.join(parts)})"
 
 
 # The limits on what a model has.
@@ -226,8 +41,8 @@ def modules():
     main = "MODULE main\nVAR\n  top : M59;\n"
     names = ["top" + ".below" * (59 - i) + f".S{i}.flip" for i in range(59, 0, -1)]
     model = "".join(f"MODULE {name}\nVAR\n{text}" for name, text in inner) + main
-    made = "".join(
-        f"MODULE {name}\nVAR\n{text.replace('  v :=', '  v#nominal :=')}{woven(f'S{i}', 'v', 'boolean', [flip])}" for i, (name, text) in enumerate(inner, 1))
+    own = lambda text: text.replace("  v :=", "  v#nominal :=")
+    made = "".join(f"MODULE {name}\nVAR\n{own(text)}{woven(f'S{i}', 'v', 'boolean', [flip])}" for i, (name, text) in enumerate(inner, 1))
     faults = "".join(f"EXTENSION OF MODULE M{i}\n{slice_text(f'S{i}', 'v', [flip])}" for i in range(1, 60))
     return {"m": model, "f": faults}, [
         extend(0, faults_said(names) + "extended\n"), wrote("x", made + main), analyse("top.v", 0, report(names, singles(59))),
@@ -255,7 +70,7 @@ def instances():
 
 def wires(count):
     """Wires of which each has the value of the one before it."""
-    return f"MODULE main\nVAR\n{each('  v@ : boolean;' + chr(10), count)}ASSIGN\n  v1 := FALSE;\n" + "".join(
+    return f"MODULE main\nVAR\n{each_line('  v@ : boolean;', count)}ASSIGN\n  v1 := FALSE;\n" + "".join(
         f"  v{i} := v{i - 1};\n" for i in range(2, count + 1))
 
 
@@ -277,7 +92,7 @@ def no_first_moment():
 def wide(count, more=""):
     """Numbers of 31 bits that stay 0, beside 32 units of 4 bits with their faults."""
     kept = "ASSIGN\n" + each("  init(n@) := 0;\n  next(n@) := n@;\n", count)
-    return units(32, each("  n@ : 0..2147483647;\n", count) + more + kept)
+    return units(32, each_line("  n@ : 0..2147483647;", count) + more + kept)
 
 
 @case("4,096 bits of a state")
@@ -288,14 +103,14 @@ def bits():
         extend(0, faults_said(names) + "extended\n"), analyse(top, 0, report(names, [[1, 32]])),
         analyse(top, 1, report(names, [[1, 32]], "bounded 1 bits 4096\n"), 1),
         becomes("m", wide(128, "  c : boolean;\n")), extend(4, "refused faults type 9 at 0\n"),
-        becomes("m", wide(128, each("  c@ : boolean;\n", 97))), extend(3, "refused model type 9 at 0\n")]
+        becomes("m", wide(128, each_line("  c@ : boolean;", 97))), extend(3, "refused model type 9 at 0\n")]
 
 
 @case("500 inputs, 500 latches, 400 frozen numbers")
 def inputs():
     latched = "ASSIGN\n  x := FALSE;\n" + each("  init(s@) := FALSE;\n  next(s@) := s@ | i@;\n", 500)
-    model = f"MODULE main\nIVAR\n{each('  i@ : boolean;' + chr(10), 500)}VAR\n  x : boolean;\n{each('  s@ : boolean;' + chr(10), 500)}FROZENVAR\n" \
-        f"{each('  f@ : 0..3;' + chr(10), 400)}{latched}DEFINE\n  set := {each('s@', 500, ALL)};\n  three := {each('f@ = 3', 400, ALL)};\n"
+    model = f"MODULE main\nIVAR\n{each_line('  i@ : boolean;', 500)}VAR\n  x : boolean;\n{each_line('  s@ : boolean;', 500)}FROZENVAR\n" \
+        f"{each_line('  f@ : 0..3;', 400)}{latched}DEFINE\n  set := {each('s@', 500, ALL)};\n  three := {each('f@ = 3', 400, ALL)};\n"
     return {"m": model, "f": STUCK}, [
         analyse("set & three & x", 0, report(["S.on"], [[1]])), analyse("set & three", 0, report(["S.on"], [[]])),
         analyse("set & three & f1 < 3", 0, report(["S.on"], []))]
@@ -375,7 +190,7 @@ def top_costs():
 
 @case("products of 31 bits")
 def products():
-    model = "MODULE main\nVAR\n  n : 0..46340;\nASSIGN\n  n := 46340;\nDEFINE\n" + each("  p@ := n * n;\n", 8)
+    model = "MODULE main\nVAR\n  n : 0..46340;\nASSIGN\n  n := 46340;\nDEFINE\n" + each_line("  p@ := n * n;", 8)
     three = "EXTENSION OF MODULE main SLICE S AFFECTS n WITH MODE low : Permanent StuckAt(3);"
     every = lambda value: each(f"p@ = {value}", 8, ALL)
     return {"m": model, "f": three}, [
@@ -389,7 +204,8 @@ def symbols():
     faults = "EXTENSION OF MODULE main SLICE S AFFECTS x WITH MODE last : Permanent StuckAt(s2000); MODE wild : Transient Random;"
     names = ["S.last", "S.wild"]
     return {"m": model, "f": faults}, [
-        extend(0, faults_said(names) + "extended\n"), analyse("x = s2000", 0, report(names, [[1], [2]])), analyse("x = s1999", 0, report(names, [[2]]))]
+        extend(0, faults_said(names) + "extended\n"), analyse("x = s2000", 0, report(names, [[1], [2]])),
+        analyse("x = s1999", 0, report(names, [[2]]))]
 
 
 # Faults and instructions.
@@ -414,7 +230,8 @@ def sizes():
         analyse(top, 0, whole, more=["--size", str(count)]), check(top, 0, "accepted\n"),
         edited(2, head, f"{head[:-len(str(count))]}{count + 1}"), check(top, 6, "not accepted line 2 rule 1\n", "k"),
         edited(2, head, f"{head[:-len(str(count))]}{count - 1}"), check(top, 6, "not accepted line 4 rule 2\n", "k"),
-        analyse(top, 0, report(names, [], f"complete\nsize {count - 1}\n"), more=["--size", str(count - 1)]), check(top, 0, f"accepted\nsize {count - 1}\n"),
+        analyse(top, 0, report(names, [], f"complete\nsize {count - 1}\n"), more=["--size", str(count - 1)]),
+        check(top, 0, f"accepted\nsize {count - 1}\n"),
         analyse(f"u1.down & u{count}.down", 0, report(names, [], "complete\nsize 1\n"), more=["--size", "1"]),
         analyse("u1.down", 2, above, more=["--size", "257"])]
 
@@ -447,7 +264,7 @@ def six_modes(i):
 
 @case("40 slices with 6 modes, in instructions of 50 thousand bytes")
 def slices():
-    model = f"MODULE main\nVAR\n{each('  n@ : 0..9;' + chr(10), 40)}ASSIGN\n{each('  n@ := 5;' + chr(10), 40)}"
+    model = f"MODULE main\nVAR\n{each_line('  n@ : 0..9;', 40)}ASSIGN\n{each_line('  n@ := 5;', 40)}"
     instructions = "EXTENSION OF MODULE main\n" + "".join(slice_text(f"S{i}", f"n{i}", six_modes(i)) for i in range(1, 41))
     made = re.sub(r"(n\d+) :=", r"\1#nominal :=", model) + "".join(woven(f"S{i}", f"n{i}", "0..9", six_modes(i)) for i in range(1, 41))
     names = [f"S{i}.{mode}" for i in range(1, 41) for mode in ("high", "up", "wild", "never", "frozen", "ramp")]
@@ -465,7 +282,7 @@ def slices():
 @case("24 faults of which each lets the next one come")
 def chain():
     count, bits_of = 24, sum((2 * i - 1).bit_length() for i in range(1, 25))
-    model = f"MODULE main\nVAR\n{each('  x@ : boolean;' + chr(10), count)}ASSIGN\n{each('  x@ := FALSE;' + chr(10), count)}"
+    model = f"MODULE main\nVAR\n{each_line('  x@ : boolean;', count)}ASSIGN\n{each_line('  x@ := FALSE;', count)}"
     modes_of = lambda i: [("on", "Permanent StuckAt(TRUE)", f"x{i - 1}" if i > 1 else "", "TRUE", "")]
     names, everyone = [f"S{i}.on" for i in range(1, count + 1)], list(range(1, count + 1))
     instructions = "EXTENSION OF MODULE main\n" + "".join(slice_text(f"S{i}", f"x{i}", modes_of(i)) for i in everyone)
@@ -505,7 +322,8 @@ def hand_certificate(count):
 @case("a certificate of 1,000 clauses that is made without the program")
 def certificate():
     count = 1000
-    model = f"MODULE main\nVAR\n{each('  x@ : boolean;' + chr(10), count)}ASSIGN\n{each('  init(x@) := FALSE;' + chr(10) + '  next(x@) := x@;' + chr(10), count)}"
+    model = f"MODULE main\nVAR\n{each_line('  x@ : boolean;', count)}ASSIGN\n"
+    model += each("  init(x@) := FALSE;\n  next(x@) := x@;\n", count)
     text, top, last = hand_certificate(count), each("x@", count, ANY), 3 * count + 8
     final = text.split("\n")[last - 1]
     cut = final.rsplit(" ", 1)[0]
@@ -514,6 +332,14 @@ def certificate():
         edited(count + 6, "step -2 : 1 6 4", "step -2 : 1 6 5"), check(top, 6, f"not accepted line {count + 6} rule 9\n", "k"),
         edited(count + 4, f"clause -{count + 1}", f"clause -{count + 2}"), check(top, 6, f"not accepted line {count + 4} rule 8\n", "k"),
         becomes("c", "old"), analyse(top, 0, report([], [])), check(top, 0, "accepted\n")]
+
+
+@case("a certificate of 268,435,456 bytes, in which a trace is no text")
+def longest_certificate():
+    head, tail = "xsap-certificate 2\nbits 4 faults 1 size 1\nsets 1\nset 1\ntrace 1\n", "\ninvariant 0\nfirst 0\nnext 0\nbad 0\nend\n"
+    return {"m": LAMP, "f": STUCK}, [
+        filled("c", head, tail, CERTIFICATE_BYTES), check("x", 6, "not accepted line 5 rule 4\n"),
+        filled("c", head, tail, CERTIFICATE_BYTES + 1), check("x", 6, f"refused cert length 1 at {CERTIFICATE_BYTES}\n")]
 
 
 def shifting(moments, odd=None):
@@ -535,7 +361,7 @@ def shifting(moments, odd=None):
 def traces():
     count = 5000
     shifted = "  init(s1) := FALSE;\n  next(s1) := given;\n" + "".join(f"  init(s{i}) := FALSE;\n  next(s{i}) := s{i - 1};\n" for i in range(2, 21))
-    model = f"MODULE main\nIVAR\n  given : boolean;\nVAR\n  n : 0..{count - 1};\n{each('  s@ : boolean;' + chr(10), 20)}  x : boolean;\n" \
+    model = f"MODULE main\nIVAR\n  given : boolean;\nVAR\n  n : 0..{count - 1};\n{each_line('  s@ : boolean;', 20)}  x : boolean;\n" \
         f"ASSIGN\n  init(n) := 0;\n  next(n) := n + 1;\n{shifted}  x := FALSE;\n"
     top, text, lines = f"n = {count - 1} & x", shifting(count), 26
     blinks = STUCK.replace("Permanent", "Transient")
@@ -561,7 +387,7 @@ def tops():
     events = [downs(sorted(it), ALL) for it in wanted] + ["u1.down & !u1.down", "TRUE"]
     rows = [set(), *({a} for a in range(1, count + 1)), *({a, b} for a in range(1, count + 1) for b in range(a + 1, count + 1))]
     entries = lambda row: " ".join([*("yes" if it <= row else "no" for it in wanted), "no", "yes"])
-    head = faults_said(names) + f"tops {MOST_TOPS}\n" + each("top @ complete\n", MOST_TOPS)
+    head = faults_said(names) + f"tops {MOST_TOPS}\n" + each_line("top @ complete", MOST_TOPS)
     said = "".join(f"{' '.join(['row', *map(str, sorted(row))])} : {entries(row)}\n" for row in rows)
     return {"m": units(count), "f": LOST, "t": ";".join(events)}, [
         fmea(2, 0, head + said), becomes("t", ";".join([*events, "TRUE"])), fmea(2, 5, "refused top count 1 at 65\n")]
@@ -596,7 +422,7 @@ def depths():
 def marks():
     count, one = MOST_FAULTS, 10**18
     shares = [3**20 * i + 1 for i in range(1, count + 1)]
-    model = f"MODULE main\nVAR\n{each('  x@ : boolean;' + chr(10), count)}ASSIGN\n{each('  x@ := FALSE;' + chr(10), count)}"
+    model = f"MODULE main\nVAR\n{each_line('  x@ : boolean;', count)}ASSIGN\n{each_line('  x@ := FALSE;', count)}"
     instructions = "EXTENSION OF MODULE main\n" + "".join(
         slice_text(f"S{i}", f"x{i}", [(f"on {{0.{it:018}}}", "Permanent StuckAt(TRUE)", "")]) for i, it in enumerate(shares, 1))
     sets = [*singles(count - 2), [count - 1, count]]
@@ -684,9 +510,9 @@ def handed():
 def at_first():
     count, names = MOST_FAULTS, unit_names(MOST_FAULTS)
     top, away = downs(range(1, count + 1), ANY), LOST.replace("WITH", "INITIALLY ANY WITH")
-    made = units(count).replace("  down :=", "  down#nominal :=").replace("MODULE main", woven("Fail", "down", "boolean", [
-        ("lost", "Permanent StuckAt(TRUE)", "", "TRUE", "")]).replace("init(Fail#mode) := Fail#nominal", "init(Fail#mode) := {Fail#nominal, Fail#lost}")
-        + "MODULE main")
+    added = woven("Fail", "down", "boolean", [("lost", "Permanent StuckAt(TRUE)", "", "TRUE", "")])
+    added = added.replace("init(Fail#mode) := Fail#nominal", "init(Fail#mode) := {Fail#nominal, Fail#lost}")
+    made = units(count).replace("  down :=", "  down#nominal :=").replace("MODULE main", f"{added}MODULE main")
     return {"m": units(count), "f": away}, [
         extend(0, faults_said(names) + "extended\n"), wrote("x", made),
         analyse(top, 1, report(names, singles(count), f"bounded 0 bits {4 * count}\n"), 0),
@@ -696,11 +522,13 @@ def at_first():
 @case("60 faults that have come and gone")
 def gone():
     count = 60
-    model = "MODULE Unit\nVAR\n  down : boolean;\n  seen : boolean;\nASSIGN\n  down := FALSE;\n  init(seen) := FALSE;\n  next(seen) := seen | down;\n" \
-        f"MODULE main\nVAR\n{each('  u@ : Unit;' + chr(10), count)}DEFINE\n  all := {each('u@.seen', count, ALL)};\n  now := {each('u@.down', count, ANY)};\n"
+    latch = "  down := FALSE;\n  init(seen) := FALSE;\n  next(seen) := seen | down;\n"
+    model = units(count).replace("  down : boolean;\n", "  down : boolean;\n  seen : boolean;\n").replace("  down := FALSE;\n", latch)
+    model += f"DEFINE\n  all := {each('u@.seen', count, ALL)};\n  now := {each('u@.down', count, ANY)};\n"
     names = unit_names(count)
     return {"m": model, "f": LOST.replace("Permanent", "Transient")}, [
-        analyse("all & !now", 0, report(names, [list(range(1, count + 1))])), analyse("all & !now", 1, report(names, [], f"bounded 1 bits {5 * count}\n"), 1)]
+        analyse("all & !now", 0, report(names, [list(range(1, count + 1))])),
+        analyse("all & !now", 1, report(names, [], f"bounded 1 bits {5 * count}\n"), 1)]
 
 
 @case("a ring of 100 cells")
@@ -716,8 +544,9 @@ def ring():
 @case("a case of 4,000 branches and a set of 4,000 numbers")
 def branches():
     count = 4000
-    model = f"MODULE main\nVAR\n  n : 0..{count - 1};\nASSIGN\n  n := 0;\nDEFINE\n  d := case {''.join(f'n = {i} : {count - i}; ' for i in range(1, count))}TRUE : 0; esac;\n" \
-        f"  odd := n in {{{', '.join(str(i) for i in range(1, 2 * count, 2))}}};\n"
+    cases = "".join(f"n = {i} : {count - i}; " for i in range(1, count))
+    odd = ", ".join(str(i) for i in range(1, 2 * count, 2))
+    model = f"MODULE main\nVAR\n  n : 0..{count - 1};\nASSIGN\n  n := 0;\nDEFINE\n  d := case {cases}TRUE : 0; esac;\n  odd := n in {{{odd}}};\n"
     faults = f"EXTENSION OF MODULE main SLICE S AFFECTS n WITH MODE last : Permanent StuckAt({count - 1}); MODE up : Permanent Offset(6);"
     names = ["S.last", "S.up"]
     return {"m": model, "f": faults}, [
@@ -735,12 +564,13 @@ def wide_trace():
     return {"m": wires(count), "f": STUCK.replace("x", "v1"), "t": text}, [
         replay("v1998", 0, "reaches\nfailed S.on\n"), replay("!v1998", 6, "not accepted moment 399 top\n"),
         becomes("t", text.replace(late, late.replace("v1998 = FALSE", "v1998 = TRUE"))), replay("v1998", 6, "not accepted moment 300 step\n"),
-        becomes("t", text.replace(late, late.replace("v1998 = FALSE", "v1998 = 0"))), replay("v1998", 6, f"refused trace read 3 at {300 * 2001 + 1999}\n")]
+        becomes("t", text.replace(late, late.replace("v1998 = FALSE", "v1998 = 0"))),
+        replay("v1998", 6, f"refused trace read 3 at {300 * 2001 + 1999}\n")]
 
 
 @case("9,900 conditions and 3,300 specifications, each in its section")
 def sections():
-    model = LAMP + each("INVAR\n  TRUE;\nTRANS\n  TRUE;\nINIT\n  TRUE;\n", 3300) + each("CTLSPEC AG x @\n", 3300)
+    model = LAMP + each("INVAR\n  TRUE;\nTRANS\n  TRUE;\nINIT\n  TRUE;\n", 3300) + each_line("CTLSPEC AG x @", 3300)
     written = LAMP.replace("  x :=", "  x#nominal :=") + each("INVAR\n  TRUE;\nTRANS\n  TRUE;\nINIT\n  TRUE;\n", 3300)
     written += woven("S", "x", "boolean", [("on", "Permanent StuckAt(TRUE)", "", "TRUE", "")])
     return {"m": model, "f": STUCK}, [
@@ -781,5 +611,6 @@ def staged_bits():
     model = wide(128).replace("n1 : 0..2147483647", "n1 : 0..536870911")
     top = "u1.down & u2.down"
     return {"m": model, "f": LOST}, [
-        orders(top, 2, 1, 2, 0, "pair 1 2 either\ntrace 1\ntrace 2\n", names[:2]), becomes("m", model.replace("n1 : 0..536870911", "n1 : 0..536870912")),
+        orders(top, 2, 1, 2, 0, "pair 1 2 either\ntrace 1\ntrace 2\n", names[:2]),
+        becomes("m", model.replace("n1 : 0..536870911", "n1 : 0..536870912")),
         orders(top, 2, 1, 2, 4, "refused faults type 9 at 0\n", []), analyse(top, 0, report(names, [[1, 2]]))]
