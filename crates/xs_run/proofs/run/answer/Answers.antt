@@ -1,4 +1,5 @@
-use Rattle.std.proofs.Common.{map, inr}
+use Rattle.std.proofs.Common.{map, inr, sym, subst}
+use Rattle.xs_words.specs.Meaning.{Means}
 use Rattle.xs_words.specs.Seen.{seen}
 use Rattle.xs_run.proofs.ExtensionLemmas.{words_not_asked}
 use Rattle.xs_run.proofs.OutcomeLemmas.{answers_words, stops_at_words, answers_carried, stops_carried}
@@ -7,20 +8,20 @@ use Rattle.xs_run.proofs.run.answer.Goals as goal
 
 pub returns-in-Ok-clause-answered : goal.returns-in-Ok-clause-answered
 returns-in-Ok-clause-answered g c answer =
-    answers_carried _ _ _ _ _ (seen c.in-Ok.command) c.carry_out.result c.in-Ok.ensures.found c.carry_out.ensures.answered answer
+    answers_carried _ _ _ _ _ (seen c.new.result) c.carry_out.result (subst (λ a. Means (map (λ w. w.now) c.args.words.now) (seen a)) (sym c.new.ensures) c.in-Ok.ensures.found) c.carry_out.ensures.answered answer
 
 pub returns-in-Ok-clause-left : goal.returns-in-Ok-clause-left
-returns-in-Ok-clause-left g c = stops_carried _ _ _ _ _ (seen c.in-Ok.command) c.in-Ok.ensures.found c.carry_out.ensures.left
+returns-in-Ok-clause-left g c = stops_carried _ _ _ _ _ (seen c.new.result) (subst (λ a. Means (map (λ w. w.now) c.args.words.now) (seen a)) (sym c.new.ensures) c.in-Ok.ensures.found) c.carry_out.ensures.left
 
 pub returns-in-Ok-clause-depth : goal.returns-in-Ok-clause-depth
 returns-in-Ok-clause-depth g c command k means is =
-    depth_asked (map (λ w. w.now) c.args.words.now) (seen c.in-Ok.command) command c.carry_out.result k c.in-Ok.ensures.found means c.carry_out.ensures.status is
+    depth_asked (map (λ w. w.now) c.args.words.now) (seen c.new.result) command c.carry_out.result k (subst (λ a. Means (map (λ w. w.now) c.args.words.now) (seen a)) (sym c.new.ensures) c.in-Ok.ensures.found) means c.carry_out.ensures.status is
 
 pub returns-in-Ok-clause-words : goal.returns-in-Ok-clause-words
 returns-in-Ok-clause-words g c rule place answer broken = words_not_asked (map (λ w. w.now) c.args.words.now) (seen c.in-Ok.command) rule place c.in-Ok.ensures.found broken
 
 pub returns-in-Ok-clause-meant : goal.returns-in-Ok-clause-meant
-returns-in-Ok-clause-meant g c f is = never_words (seen c.in-Ok.command) c.carry_out.result f c.carry_out.ensures.status is
+returns-in-Ok-clause-meant g c f is = never_words (seen c.new.result) c.carry_out.result f c.carry_out.ensures.status is
 
 pub returns-in-Err-clause-answered : goal.returns-in-Err-clause-answered
 returns-in-Err-clause-answered g c answer =
