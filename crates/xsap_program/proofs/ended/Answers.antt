@@ -10,7 +10,7 @@ pub returns-in-Err : goal.returns-in-Err
 returns-in-Err g c =
     record {
       ending = status.Memory;
-      is_number = c.exit_number.ensures;
+      is_number = c.exit_number-in-Err.ensures;
       has_run = without_memory (map (λ w. w.now) c.args.words.now) (g.D.Desk.files c.args.desk.now) (g.D.Desk.files c.advised.new.desk) (g.D.Desk.said c.args.desk.now) (g.D.Desk.said c.advised.new.desk)
           (g.D.Desk.faults c.args.desk.now) (g.D.Desk.faults c.advised.new.desk);
     }
