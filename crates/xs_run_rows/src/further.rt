@@ -265,7 +265,12 @@ fn refusals_and_odds_are_said(rt: HostRuntime) -> Result<(), OutOfMemory> {
 }
 
 /// The number that a check of these bytes ends with.
-fn checked(alloc: Global, given: &[File], cert: &[u8], words: &[&str]) -> Result<i32, OutOfMemory> {
+fn checked<'a>(
+    alloc: Global,
+    given: &[File<'a>],
+    cert: &'a [u8],
+    words: &[&str],
+) -> Result<i32, OutOfMemory> {
     let mut files: Vec<File> = Vec::new(alloc);
     files.extend_from_slice(given)?;
     files.push(("c", Some(cert)))?;
