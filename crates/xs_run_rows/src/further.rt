@@ -3,7 +3,7 @@
 
 use crate::desks::{BOTH, DARK, FLASH, File, LAMP, SWITCHES, desk_of, ran, shows, written};
 use std::alloc::Global;
-use xs_desk::{CallKind, Fail};
+use xs_desk::{CallKind, Fail, write_whole};
 use xs_value::OutOfMemory;
 
 /// The switch b may be stuck only where a is.
@@ -265,17 +265,12 @@ fn refusals_and_odds_are_said(rt: HostRuntime) -> Result<(), OutOfMemory> {
 }
 
 /// The number that a check of these bytes ends with.
-fn checked<'a>(
-    alloc: Global,
-    given: &[File<'a>],
-    cert: &'a [u8],
-    words: &[&str],
-) -> Result<i32, OutOfMemory> {
-    let mut files: Vec<File> = Vec::new(alloc);
-    files.extend_from_slice(given)?;
-    files.push(("c", Some(cert)))?;
-    let mut desk = desk_of(alloc, &files, &[])?;
-    Ok(ran(alloc, words, &mut desk, Vec::new(alloc)))
+fn checked(alloc: Global, given: &[File], cert: &[u8], words: &[&str]) -> Result<i32, OutOfMemory> {
+    let mut desk = desk_of(alloc, given, &[])?;
+    match write_whole(&mut desk, "c", cert) {
+        Ok(()) => Ok(ran(alloc, words, &mut desk, Vec::new(alloc))),
+        Err(_stop) => Err(OutOfMemory),
+    }
 }
 
 #[test]
