@@ -274,8 +274,7 @@ def slices():
         for it in ["", *(f" {i}" for i in range(1, 241))])
     again = [extend(0, "faults 0\nextended\n"), wrote("x", made)]
     return {"m": model, "f": instructions, "t": "n7 = 9; n40 = 1"}, [
-        extend(0, faults_said(names) + "extended\n"), wrote("x", made), analyse("n40 = 1", 0, report(names, [[237], [240]])),
-        analyse("n7 = 9 & n33 = 9", 0, report(names, [[a, b] for a in (37, 38, 39) for b in (193, 194, 195)])),
+        extend(0, faults_said(names) + "extended\n"), wrote("x", made),
         analyse("n7 = 9 & n7 = n40 - 1 & n40 < 6", 0, report(names, [])), fmea(1, 0, said), rename("x", "m"), becomes("f", ""), *again]
 
 
