@@ -14,14 +14,14 @@ use Rattle.xs_frames.specs.declared.levels.Levels.{Levels}
 use Rattle.xs_frames.proofs.Short.{first_member, later_member}
 
 -- whether a clause stands in a frame
-stands : (i : ℕ) (h : Held) (hs : List Held) → i ≤ h.highest → standing_in i (h ∷ hs) ≡ h.clause ∷ standing_in i hs
+pub stands : (i : ℕ) (h : Held) (hs : List Held) → i ≤ h.highest → standing_in i (h ∷ hs) ≡ h.clause ∷ standing_in i hs
 stands i h hs le = go (nat_le i h.highest) refl
   where
     go : (b : Bool) → nat_le i h.highest ≡ b → (if b then h.clause ∷ standing_in i hs else standing_in i hs) ≡ h.clause ∷ standing_in i hs
     go true e = refl
     go false e = absurd (grind (arith, le, e))
 
-stands_not : (i : ℕ) (h : Held) (hs : List Held) → h.highest < i → standing_in i (h ∷ hs) ≡ standing_in i hs
+pub stands_not : (i : ℕ) (h : Held) (hs : List Held) → h.highest < i → standing_in i (h ∷ hs) ≡ standing_in i hs
 stands_not i h hs lt = go (nat_le i h.highest) refl
   where
     go : (b : Bool) → nat_le i h.highest ≡ b → (if b then h.clause ∷ standing_in i hs else standing_in i hs) ≡ standing_in i hs
@@ -71,12 +71,12 @@ standing_of i (h ∷ hs) (suc k) lt le = by_order (cases_lt h.highest i) (standi
     by_order (inr le) m = subst (λ xs. Contains xs (held_in hs k).clause) (sym (stands i h hs le)) (later_member h.clause (held_in hs k).clause (standing_in i hs) m)
 
 -- the list of a number
-from_is : (k n i m : ℕ) (hs : List Held) → m ≡ i + k → i < n → frame_at (frames_from k n hs) i ≡ standing_in m hs
+pub from_is : (k n i m : ℕ) (hs : List Held) → m ≡ i + k → i < n → frame_at (frames_from k n hs) i ≡ standing_in m hs
 from_is k zero i m hs e lt = absurd (omega (arith, lt))
 from_is k (suc n) zero m hs e lt = ap (λ z. standing_in z hs) (omega (arith, e))
 from_is k (suc n) (suc i) m hs e lt = from_is (suc k) n i m hs (omega (arith, e)) (omega (arith, lt))
 
-from_past : (k n i : ℕ) (hs : List Held) → n ≤ i → frame_at (frames_from k n hs) i ≡ []
+pub from_past : (k n i : ℕ) (hs : List Held) → n ≤ i → frame_at (frames_from k n hs) i ≡ []
 from_past k zero i hs le = refl
 from_past k (suc n) zero hs le = absurd (omega (arith, le))
 from_past k (suc n) (suc i) hs le = from_past (suc k) n i hs (omega (arith, le))
@@ -90,7 +90,7 @@ frame_is l i le = from_is 0 (suc l.last) i i l.held.items (none i) (omega (arith
 pub frame_past : (l : Levels) (i : ℕ) → l.last < i → frame_at (frames_of l) i ≡ []
 frame_past l i lt = from_past 0 (suc l.last) i l.held.items (omega (arith, lt))
 
-length_from : (k n : ℕ) (hs : List Held) → length (frames_from k n hs) ≡ n
+pub length_from : (k n : ℕ) (hs : List Held) → length (frames_from k n hs) ≡ n
 length_from k zero hs = refl
 length_from k (suc n) hs = ap suc (length_from (suc k) n hs)
 
@@ -231,7 +231,7 @@ none_stand : (i : ℕ) (hs : List Held) → All (λ (h : Held). h.highest < i) h
 none_stand i [] a = refl
 none_stand i (h ∷ hs) a = stands_not i h hs (All-head (λ (h : Held). h.highest < i) h hs a) ∙ none_stand i hs (All-tail (λ (h : Held). h.highest < i) h hs a)
 
-from_more : (k n m : ℕ) (hs : List Held) → m ≡ n + k → frames_from k (suc n) hs ≡ frames_from k n hs ++ standing_in m hs ∷ []
+pub from_more : (k n m : ℕ) (hs : List Held) → m ≡ n + k → frames_from k (suc n) hs ≡ frames_from k n hs ++ standing_in m hs ∷ []
 from_more k zero m hs e = ap (λ z. standing_in z hs ∷ []) (omega (arith, e))
 from_more k (suc n) m hs e = ap (λ fs. standing_in k hs ∷ fs) (from_more (suc k) n m hs (omega (arith, e)))
 

@@ -3,6 +3,7 @@ pub mod Sets
 pub mod MomentLemmas
 pub mod Short
 pub mod Framing
+pub mod FreshLaws
 pub mod StatesLeft
 pub mod LevelLaws
 pub mod PutLaws

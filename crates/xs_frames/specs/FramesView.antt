@@ -1,7 +1,7 @@
 -- What the fields of `Frames` stand for.
-use Rattle.std.specs.Prelude.{◌≡◌, false}
+use Rattle.std.specs.Prelude.{◌≡◌, false, All}
 use Rattle.xs_frames.specs.FramesRecord.{FramesValue}
-use Rattle.xs_frames.specs.Condition.{IsFit}
+use Rattle.xs_frames.specs.Condition.{IsFit, IsOverNow}
 use Rattle.xs_frames.specs.Levels.{frames_of, IsLevelled}
 use Rattle.xs_frames.specs.Apart.{IsKept}
 use Rattle.xs_frames.specs.Parts.{AreAgreed}
@@ -12,8 +12,10 @@ abbrev pub value_of : Inside → FramesValue
 value_of f = record { system = f.system; frames = frames_of f.levels; bad = f.bad; spent = f.spent }
 
 -- the frames are those of the system, what is known of its first states is so, and unless memory was wanted the search holds the frames
+-- and bad states that may be asked about
 pub record AreSound (f : Inside) : Type 0 where
   pub fit : IsFit f.system
   pub levelled : IsLevelled f.system f.levels
   pub agreed : AreAgreed f.system f.outline.agreed.items
+  pub bad : f.spent ≡ false → All (All (IsOverNow f.system)) f.bad
   pub kept : f.spent ≡ false → IsKept f.system f.bad (frames_of f.levels) f.kept

@@ -6,7 +6,7 @@
 //! clause`, and each guard implies the next frame's: so under the guard of a frame just its clauses have to hold.
 //! The frame of number 0 is the list of the first states. Bad states and frames that are not asked about any more
 //! are retired: their guard is false from then on. What the search learns stays, and so does a clause whose place in the frames
-//! another one took.
+//! another one took, until the search is made anew ([`crate::fresh`]).
 ghost use Rattle.std.specs.Prelude.{◌≡◌, ◌≤◌, ◌<◌, ◌+◌, ◌*◌, ◌^◌, ◌∷◌, ◌++◌, [], IfOk, OnOk, All, length};
 ghost use Rattle.xs_lits.specs.Literal.{opposite};
 ghost use Rattle.xs_lits.specs.Derivation.{IsUpTo};
@@ -27,7 +27,11 @@ use xs_lits::lit::Lit;
 use xs_lits::recorder::KeepNone;
 use xs_solver::kept::Search;
 use xs_solver::solve::Verdict;
+use xs_solver::work::Work;
 use xs_value::OutOfMemory;
+
+/// How many clauses more than twice those that it begins with a search may have.
+const SLACK: usize = 200;
 
 /// What is asked about beside a frame.
 #[derive(Clone, Copy, Debug, PartialEq, Eq)]
@@ -38,6 +42,15 @@ pub enum Beside {
     Step,
     /// The bad states.
     Bad,
+}
+
+/// What the searches before this one did, and how many clauses this one may have: of this contracts see nothing.
+#[derive(Clone, Copy)]
+pub struct Past {
+    /// What they did, all in all.
+    pub work: Work,
+    /// How many clauses there may be until the search is made anew.
+    pub most: usize,
 }
 
 /// The search, and which of its literals are guards.
@@ -55,6 +68,37 @@ pub struct Guarded {
     pub bad: Lit,
     /// The guard of each frame; that of number 0 is the guard of the first states.
     pub frames: Vec<Lit>,
+    /// What was before it.
+    pub past: Past,
+}
+
+/// How many clauses a search may have that begins with so many.
+fn most_of(count: usize) -> usize {
+    count.saturating_mul(2).saturating_add(SLACK)
+}
+
+/// What a search did that was asked nothing.
+fn no_work() -> Work {
+    Work {
+        questions: 0,
+        literals: 0,
+        visited: 0,
+        listed: 0,
+        learned: 0,
+        clauses: 0,
+    }
+}
+
+/// What two searches did, the later one last.
+fn both(past: Work, now: Work) -> Work {
+    Work {
+        questions: past.questions.saturating_add(now.questions),
+        literals: past.literals.saturating_add(now.literals),
+        visited: past.visited.saturating_add(now.visited),
+        listed: past.listed.saturating_add(now.listed),
+        learned: past.learned.saturating_add(now.learned),
+        clauses: now.clauses,
+    }
 }
 
 /// The highest variable of states and inputs.
@@ -133,14 +177,15 @@ impl Guarded {
         let apart_step = simpler_apart(alloc, places, system.step.as_slice())?;
         let first = highest(&apart_first).max(places) - places;
         let step = highest(&apart_step).max(places) - places;
-        let mut held = Guarded::empty(alloc, places, places + 3 + first + step)?;
+        let most = most_of(apart_first.len().saturating_add(apart_step.len()));
+        let mut held = Guarded::empty(alloc, places, places + 3 + first + step, most)?;
         held.fill(Lit::new(places + 1, false), places + 3, &apart_first)?;
         held.fill(Lit::new(places + 2, false), places + 3 + first, &apart_step)?;
         Ok(held)
     }
 
-    /// A search with no clause, with the guards of the three lists above the places.
-    fn empty(alloc: Global, places: u64, vars: u64) -> Result<Guarded, OutOfMemory>
+    /// A search with no clause, with the guards of the three lists above the places, that may have so many clauses.
+    fn empty(alloc: Global, places: u64, vars: u64, most: usize) -> Result<Guarded, OutOfMemory>
         requires low { places < 2 ^ 31 }
         requires room { places + 3 ≤ vars }
         requires small { vars < 2 ^ 62 }
@@ -156,7 +201,30 @@ impl Guarded {
             step: Lit::new(places + 2, false),
             bad: Lit::new(places + 3, false),
             frames,
+            past: Past {
+                work: no_work(),
+                most,
+            },
         })
+    }
+
+    /// What this search and those before it have done.
+    pub fn work(&self) -> Work {
+        both(self.past.work, self.search.work())
+    }
+
+    /// Whether the search has no more clauses than it may have.
+    pub fn is_small(&self) -> bool {
+        self.search.count() <= self.past.most
+    }
+
+    /// Notes what the searches before this one did. It may have twice the clauses that it has now.
+    pub fn note_past(&mut self, work: Work)
+        requires { IsWell self.old }
+        ensures { HasAsked self.old self.new }
+    {
+        let most = most_of(self.search.count());
+        self.past = Past { work, most };
     }
 
     /// Adds a clause as it is.

@@ -13,7 +13,8 @@
 //! A clause is kept once, with the number of the highest frame in which it holds, until a clause that says more takes its place
 //! (`src/levels.rt`, `specs/Levels.antt`).
 //! All queries go to one search that is kept, over the first states, the steps, the frames and the bad states that
-//! are asked about, each under a guard of its own; so what it learns stays (`src/guarded.rt`, `specs/Guarding.antt`).
+//! are asked about, each under a guard of its own; so what it learns stays (`src/guarded.rt`, `specs/Guarding.antt`), until it has twice the
+//! clauses that it began with: then it is made anew over what is alive (`src/fresh.rt`).
 //!
 //! The same frames serve for other bad states: `begin_again` goes back to the frontier 0, and keeps the search with all that it
 //! has learned; what was blocked in later frames goes.
@@ -35,6 +36,7 @@ mod bits;
 mod clear;
 mod condition;
 mod frames;
+mod fresh;
 mod guarded;
 mod highest;
 mod levels;

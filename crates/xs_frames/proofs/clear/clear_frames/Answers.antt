@@ -26,8 +26,8 @@ returns-in-IsFirst-clause-cleared g c =
     subst (IsPath c.args.system.now c.args.bad.now (length (frames_of c.looks.frames) - 1)) (sym c.reversed.ensures)
     (look_first c.args.system.now c.args.bad.now (frames_of c.looks.frames) c.looks.owed c.looks.invariant.owed look)
 
-pub looks-smaller-in-Continue-branch-3 : goal.looks-smaller-in-Continue-branch-3
-looks-smaller-in-Continue-branch-3 g c =
+pub looks-smaller-in-Continue-branch-4 : goal.looks-smaller-in-Continue-branch-4
+looks-smaller-in-Continue-branch-4 g c =
     let seen : IsLook c.args.system.now c.args.bad.now (frames_of c.looks.frames) c.looks.owed c.in_ok-look_once.field-0 =
     subst (λ (o : List Assignment). IsLook c.args.system.now c.args.bad.now (frames_of c.looks.frames) o c.in_ok-look_once.field-0) c.as_slice.ensures c.in_ok-look_once.ensures.look in
     let look : IsLook c.args.system.now c.args.bad.now (frames_of c.looks.frames) c.looks.owed (Deeper c.in-Deeper.moment) = subst (IsLook c.args.system.now c.args.bad.now (frames_of c.looks.frames) c.looks.owed) c.in-Deeper.is seen in
@@ -36,8 +36,8 @@ looks-smaller-in-Continue-branch-3 g c =
     subst (λ (o : List Assignment). work_left c.args.system.now.state_bits (frames_of c.looks.frames) o < work_left c.args.system.now.state_bits (frames_of c.looks.frames) c.looks.owed) (sym pushed)
     (work_deeper c.args.system.now c.args.bad.now (frames_of c.looks.frames) c.looks.owed c.in-Deeper.moment more.0)
 
-pub looks-preserved-in-Continue-branch-3 : goal.looks-preserved-in-Continue-branch-3
-looks-preserved-in-Continue-branch-3 g c =
+pub looks-preserved-in-Continue-branch-4 : goal.looks-preserved-in-Continue-branch-4
+looks-preserved-in-Continue-branch-4 g c =
     let seen : IsLook c.args.system.now c.args.bad.now (frames_of c.looks.frames) c.looks.owed c.in_ok-look_once.field-0 =
     subst (λ (o : List Assignment). IsLook c.args.system.now c.args.bad.now (frames_of c.looks.frames) o c.in_ok-look_once.field-0) c.as_slice.ensures c.in_ok-look_once.ensures.look in
     let look : IsLook c.args.system.now c.args.bad.now (frames_of c.looks.frames) c.looks.owed (Deeper c.in-Deeper.moment) = subst (IsLook c.args.system.now c.args.bad.now (frames_of c.looks.frames) c.looks.owed) c.in-Deeper.is seen in

@@ -27,6 +27,7 @@ invariant_of-self c =
     record {
       fit = c.self.invariant.fit;
       agreed = c.self.invariant.agreed;
+      bad = λ ready. c.self.invariant.bad c.if-self.false;
       levelled = levelled_new c.self.inside.system c.new.result c.new.ensures.held c.new.ensures.last;
       kept = λ ready.
           subst (λ (fs : List (List (List Literal))). IsKept c.self.inside.system c.self.inside.bad fs c.begin_again-answer.new.self)
