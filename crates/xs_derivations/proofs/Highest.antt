@@ -13,7 +13,8 @@ left a b n h = omega (arith, h)
 right : (a b n : ℕ) → max a b ≤ n → b ≤ n
 right a b n h = omega (arith, h)
 
-all_below : (n : ℕ) (ls : List Literal) → highest_in ls ≤ n → All (IsUpTo n) ls
+-- each literal is at most what the highest is at most
+pub all_below : (n : ℕ) (ls : List Literal) → highest_in ls ≤ n → All (IsUpTo n) ls
 all_below n [] h = All-nil (IsUpTo n)
 all_below n (l ∷ ls) h = All-cons (IsUpTo n) l ls (left l.var (highest_in ls) n h) (all_below n ls (right l.var (highest_in ls) n h))
 

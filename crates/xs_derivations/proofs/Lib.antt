@@ -1,2 +1,4 @@
+mod CoveringLaws
 mod Highest
+mod MarkLaws
 mod StepLemmas

@@ -52,7 +52,7 @@ fn highest(clauses: &[Clause]) -> u64
 }
 
 /// The highest variable of a clause, at least 1.
-fn highest_in(lits: &[Lit]) -> u64
+pub(crate) fn highest_in(lits: &[Lit]) -> u64
     ensures { result ≡ highest_in lits.now }
 {
     let mut most = 1;

@@ -3,22 +3,22 @@ use Rattle.std.specs.Prelude.{Contains}
 use Rattle.std.proofs.lemmas.Bool.{false≢true, both_ways}
 use Rattle.std.proofs.lemmas.List.{take_all}
 use Rattle.std.proofs.lemmas.List.Elements.{All-more}
-use Rattle.xs_derivations.proofs.steps.is_within.Goals as goal
+use Rattle.xs_derivations.proofs.covering.is_within.Goals as goal
 
-pub returns-then-not-contains : goal.returns-then-not-contains
-returns-then-not-contains c =
+pub returns-then-not-is_needed : goal.returns-then-not-is_needed
+returns-then-not-is_needed c =
     let needed = c.args.needed.now in
-    let is_not : c.contains.result ≡ false = grind arith in (
+    let is_not : c.is_needed.result ≡ false = grind arith in (
       (λ e. absurd (false≢true e)),
-      (λ all. absurd (both_ways _ is_not (c.contains.ensures.1 (subst (Contains needed) (sym c.lit-item.is) (all c.loop-lit.lit-index c.lit-item.result c.loop-lit-test.true))))),
+      (λ all. absurd (both_ways _ is_not (c.is_needed.ensures.1 (subst (Contains needed) (sym c.lit-item.is) (all c.loop-lit.lit-index c.lit-item.result c.loop-lit-test.true))))),
     )
 
 pub loop-lit-preserved : goal.loop-lit-preserved
 loop-lit-preserved c =
     let needed = c.args.needed.now in
-    let is : IsTrue c.contains.result = grind arith in
+    let is : IsTrue c.is_needed.result = grind arith in
     All-more (Contains needed) c.args.clause.now c.loop-lit.lit-index c.lit-item.result c.loop-lit-test.true c.loop-lit.invariant
-    (subst (Contains needed) c.lit-item.is (c.contains.ensures.0 is))
+    (subst (Contains needed) c.lit-item.is (c.is_needed.ensures.0 is))
 
 pub returns : goal.returns
 returns c =
