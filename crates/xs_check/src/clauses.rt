@@ -12,8 +12,8 @@ ghost use Rattle.xs_check.specs.Found.{Finds};
 
 use crate::judged::Judged;
 use crate::question::Question;
+use xs_derivations::has_no_opposites;
 use xs_lits::clause::ClauseList;
-use xs_lits::hints::has_no_opposites;
 use xs_lits::lit::Lit;
 
 /// Judges the clauses of the invariant, the first of which has this line.
