@@ -34,7 +34,7 @@ for_visits : (g : Graph) (j : ℕ) (ks : List ℕ) (ts : List Task) → IsFor g 
 for_visits g j [] ts h = h
 for_visits g j (k ∷ ks) ts h = for_visits g j ks ts h
 
-end_behind : (ks : List ℕ) (ts : List Task) (k : ℕ) → HasEnd ts k → HasEnd (visits ks ++ ts) k
+pub end_behind : (ks : List ℕ) (ts : List Task) (k : ℕ) → HasEnd ts k → HasEnd (visits ks ++ ts) k
 end_behind [] ts k h = h
 end_behind (j ∷ ks) ts k h = end_behind ks ts k h
 
@@ -43,7 +43,7 @@ visits_hang g [] ts each h = h
 visits_hang g (k ∷ ks) ts each h = (for_visits g k ks ts (each k (inl refl)), visits_hang g ks ts (λ j a. each j (inr a)) h)
 
 -- what is to be ended leads to what is for it
-ends_lead : (g : Graph) (k j : ℕ) (ts : List Task) → HasEnd ts k → IsFor g j ts → Hangs g ts → Reaches g (g k) j
+pub ends_lead : (g : Graph) (k j : ℕ) (ts : List Task) → HasEnd ts k → IsFor g j ts → Hangs g ts → Reaches g (g k) j
 ends_lead g k j [] h to hangs = absurd h
 ends_lead g k j (Visit i ∷ ts) h to hangs = ends_lead g k j ts h to hangs.1
 ends_lead g k j (End i ∷ ts) (inl e) to hangs = start (subst (λ n. Has (g n) j) e to)
@@ -105,19 +105,19 @@ laying_first g count =
     all_of after (between, all, e) = subst (LaysAll g [] (upto count)) (sym e) all
 
 -- marks after one is set
-mark_same : (ms : List Mark) (k : ℕ) (m : Mark) → k < length ms → mark_at (set ms k m) k ≡ m
+pub mark_same : (ms : List Mark) (k : ℕ) (m : Mark) → k < length ms → mark_at (set ms k m) k ≡ m
 mark_same [] k m within = absurd (omega arith)
 mark_same (x ∷ ms) zero m within = refl
 mark_same (x ∷ ms) (suc k) m within = mark_same ms k m (omega arith)
 
-mark_other : (ms : List Mark) (k j : ℕ) (m : Mark) → (k ≡ j → ⊥) → mark_at (set ms k m) j ≡ mark_at ms j
+pub mark_other : (ms : List Mark) (k j : ℕ) (m : Mark) → (k ≡ j → ⊥) → mark_at (set ms k m) j ≡ mark_at ms j
 mark_other [] k j m other = refl
 mark_other (x ∷ ms) zero zero m other = absurd (other refl)
 mark_other (x ∷ ms) zero (suc j) m other = refl
 mark_other (x ∷ ms) (suc k) zero m other = refl
 mark_other (x ∷ ms) (suc k) (suc j) m other = mark_other ms k j m (λ e. other (ap suc e))
 
-same_or : (k j : ℕ) → (k ≡ j) ⊎ (k ≡ j → ⊥)
+pub same_or : (k j : ℕ) → (k ≡ j) ⊎ (k ≡ j → ⊥)
 same_or zero zero = inl refl
 same_or zero (suc j) = inr (λ e. differs j e)
   where

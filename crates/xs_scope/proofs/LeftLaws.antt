@@ -16,7 +16,7 @@ use Rattle.std.proofs.lemmas.Option.{same_Some as some_same}
 use Rattle.xs_tree.specs.Values.{opposite}
 
 -- an open mark is closed
-work_taken : {M : Type 0} (is_open : M → Bool) (work : ℕ → ℕ) (marks : List M) (k : ℕ) (old new : M) → slice_get marks k ≡ Some old → is_open old ≡ true → is_open new ≡ false →
+pub work_taken : {M : Type 0} (is_open : M → Bool) (work : ℕ → ℕ) (marks : List M) (k : ℕ) (old new : M) → slice_get marks k ≡ Some old → is_open old ≡ true → is_open new ≡ false →
     open_work is_open work marks ≡ work k + open_work is_open work (set marks k new)
 work_taken is_open work [] k old new is opened closed = cc
 work_taken is_open work (m ∷ marks) zero old new is opened closed = rw (ap is_open (some_same m old is) ∙ opened, closed) (omega arith)
@@ -25,7 +25,7 @@ work_taken is_open work (m ∷ marks) (suc k) old new is opened closed =
     omega (arith, more)
 
 -- any mark is closed
-work_not_more : {M : Type 0} (is_open : M → Bool) (work : ℕ → ℕ) (marks : List M) (k : ℕ) (new : M) → is_open new ≡ false →
+pub work_not_more : {M : Type 0} (is_open : M → Bool) (work : ℕ → ℕ) (marks : List M) (k : ℕ) (new : M) → is_open new ≡ false →
     open_work is_open work (set marks k new) ≤ open_work is_open work marks
 work_not_more is_open work [] k new closed = omega arith
 work_not_more is_open work (m ∷ marks) zero new closed = rw closed (omega arith)
@@ -34,7 +34,7 @@ work_not_more is_open work (m ∷ marks) (suc k) new closed =
     omega (arith, more)
 
 -- a number that is linked to nothing
-unlinked : (ks : List ℕ) → ((b : ℕ) → Has ks b → ⊥) → length ks ≡ 0
+pub unlinked : (ks : List ℕ) → ((b : ℕ) → Has ks b → ⊥) → length ks ≡ 0
 unlinked [] none = refl
 unlinked (k ∷ ks) none = absurd (none k (inl refl))
 

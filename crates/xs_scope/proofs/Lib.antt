@@ -34,6 +34,9 @@ pub mod LayLaws
 pub mod LeftLaws
 pub mod NamingLaws
 pub mod OrderLaws
+pub mod LeadLaws
+pub mod FinishLaws
+pub mod ComponentLaws
 pub mod KeyLaws
 pub mod RootLaws
 pub mod NeedLaws

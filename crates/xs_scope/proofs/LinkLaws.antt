@@ -3,7 +3,7 @@ use Rattle.std.proofs.Common.{◌≡◌, ℕ, zero, suc, ◌+◌, ◌<◌, ◌�
 use Rattle.std.proofs.lemmas.List.{length-map, length-replicate}
 use Rattle.std.specs.Prelude.{slice_get, Vec}
 use Rattle.std.specs.declared.alloc.Global.{Global}
-use Rattle.xs_scope.specs.declared.needs.Links.{Links}
+use Rattle.xs_scope.specs.declared.links.Links.{Links}
 use Rattle.xs_scope.specs.Links.{Has, graph_of, row_of, rows, links_at, linked_to, all_linked_to, turned_from, AreTurned}
 
 abbrev items_in : Vec ℕ Global → List ℕ

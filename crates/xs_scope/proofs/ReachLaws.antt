@@ -4,7 +4,7 @@ use Rattle.std.proofs.lemmas.List.{length-replicate, length-set}
 use Rattle.std.specs.Prelude.{slice_get, Vec}
 use Rattle.std.specs.declared.alloc.Global.{Global}
 use Rattle.xs_flat_laws.proofs.Lists.{get_within}
-use Rattle.xs_scope.specs.declared.needs.Links.{Links}
+use Rattle.xs_scope.specs.declared.links.Links.{Links}
 use Rattle.xs_scope.specs.Links.{Has, Graph, graph_of, row_of, Reaches, start, further, IsWithin, AreReached, is_marked, told_mark, spread_by, IsSpreading}
 use Rattle.xs_scope.proofs.LinkLaws.{has_left, has_right, has_either}
 

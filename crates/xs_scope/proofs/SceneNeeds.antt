@@ -11,7 +11,7 @@ use Rattle.xs_flat_laws.specs.Model.{Root, roots_of, AddsAll}
 use Rattle.xs_flat_laws.proofs.Conditions.{each_at}
 use Rattle.xs_flat_laws.proofs.Lists.{get_within}
 use Rattle.xs_scope.specs.declared.names.Scene.{Scene}
-use Rattle.xs_scope.specs.declared.needs.Links.{Links}
+use Rattle.xs_scope.specs.declared.links.Links.{Links}
 use Rattle.xs_scope.specs.declared.needs.Named.{Named}
 use Rattle.xs_scope.specs.declared.needs.Needs.{Needs}
 use Rattle.xs_scope.specs.SceneTree.{IsDefined, IsScene, program_of}

@@ -17,5 +17,6 @@ pub mod Links
 pub mod Spreads
 pub mod Laying
 pub mod Left
+pub mod Components
 pub mod Naming
 pub mod Walking

@@ -2,7 +2,7 @@
 use Rattle.std.specs.Prelude.{◌≡◌, ◌↔◌, ℕ, zero, suc, ◌<◌, Bool, true, false, List, [], ◌∷◌, ◌++◌, length, map, Option, Some, None, slice_get, set, if◌then◌else◌, Vec}
 use Rattle.std.specs.declared.alloc.Global.{Global}
 use Rattle.xs_tree.specs.Trace.{AtSome}
-use Rattle.xs_scope.specs.declared.needs.Links.{Links}
+use Rattle.xs_scope.specs.declared.links.Links.{Links}
 
 -- the number is among these
 abbrev pub Has : List ℕ → ℕ → Type 0

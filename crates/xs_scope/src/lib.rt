@@ -9,7 +9,8 @@
 //! `specs/NeedsTree.antt` (which definitions lie on a circle or read an input).
 //!
 //! The passes stand one to a file, in this order: `modules`, `walk`, `symbols`, `names`, `formals` and
-//! `needs`. Each is linear in what it reads or makes.
+//! `needs`, which stands on `links` (the graph of the definitions) and `circles`. Each is linear in what it reads
+//! or makes.
 //!
 //! ```text
 //! // MODULE main VAR a : M(on); on : boolean;  MODULE M(p) DEFINE q := !p;
@@ -18,9 +19,11 @@
 #![tactic(auto)]
 
 pub mod bounds;
+mod circles;
 pub mod fault;
 pub mod formals;
 pub mod items;
+mod links;
 pub mod modules;
 pub mod names;
 pub mod needs;

@@ -2,32 +2,30 @@
 //!
 //! The definitions are a graph of numbers: each is linked to those that it names, in written order. One walk
 //! over the graph, depth first, orders the definitions and tells whether there is a circle at all. Only if
-//! there is one, and so the program will be refused, is each definition searched for on its own. What
-//! reads an input is all that is reached from what names one, over the links from their other ends.
+//! there is one, and so the program will be refused, a second pass finds which definitions are on one
+//! (`circles`). What reads an input is all that is reached from what names one, over the links from their
+//! other ends.
 
-ghost use Rattle.std.specs.Prelude.{◌≡◌, ◌<◌, ◌↔◌, true, ◌||◌, [], ◌∷◌, ◌++◌, length, reverse, set, slice_get, replicate, false, unwrap_or, IfOk, OnOk};
+ghost use Rattle.std.specs.Prelude.{◌≡◌, true, ◌||◌, [], ◌∷◌, ◌++◌, length, reverse, set, slice_get, replicate, false, unwrap_or, IfOk, OnOk};
 ghost use Rattle.xs_scope.specs.SceneTree.{IsScene, program_of};
 ghost use Rattle.xs_scope.specs.FoundAt.{found_at};
 ghost use Rattle.xs_scope.specs.NeedsTree.{AreNeeds};
-ghost use Rattle.xs_scope.specs.Links.{Reaches, graph_of, rows, linked_to, all_linked_to, AreTurned, AreReached, IsCircle, AreCircles, is_marked, spread_by};
+ghost use Rattle.xs_scope.specs.Links.{graph_of, rows, AreReached, is_marked, spread_by};
 ghost use Rattle.xs_scope.specs.Laying.{IsInto, mark_at, visits, upto, lay_of, lay_by, IsLaid, placed_from};
 ghost use Rattle.xs_scope.specs.Spreads.{spread_of};
+ghost use Rattle.xs_scope.specs.Components.{IsFinished};
 ghost use Rattle.xs_scope.specs.Naming.{needed, is_input, needs_of, reads_of, number_if, IsFoundAt, AreFoundIn, IsNamed};
 ghost use Rattle.xs_scope.specs.declared.needs.Mark.TheVariants as Mark;
 ghost use Rattle.xs_scope.specs.declared.needs.Task.TheVariants as Task;
 
+use crate::circles::circles_of;
+use crate::links::Links;
 use crate::names::{Defined, Scene};
 use crate::uses::Uses;
 use crate::walk::Meaning;
 use std::alloc::Global;
 use xs_tree::model::Role;
 use xs_value::{Dotted, OutOfMemory};
-
-/// For each definition the others that it is linked to, by their places in the scene's list.
-#[derive(Drop)]
-struct Links {
-    of: Vec<Vec<usize>>,
-}
 
 /// What the definitions of a scene need of one another.
 #[derive(Drop)]
@@ -53,7 +51,13 @@ impl Needs {
         let back = named.links.turned(alloc)?;
         let laid = order_of(alloc, &named.links)?;
         let places = places_of(alloc, count, laid.order.as_slice())?;
-        let on_circle = circles_of(alloc, &named.links, laid.circle)?;
+        let on_circle = circles_of(
+            alloc,
+            &named.links,
+            &back,
+            laid.order.as_slice(),
+            laid.circle,
+        )?;
         let reads_input = reached_from(alloc, &back, named.inputs.as_slice())?;
         Ok(Needs {
             order: laid.order,
@@ -86,69 +90,6 @@ impl Needs {
 struct Spread {
     reached: Vec<bool>,
     waiting: Vec<usize>,
-}
-
-impl Links {
-    /// So many definitions with no links yet.
-    fn unlinked(alloc: Global, count: usize) -> Result<Links, OutOfMemory>
-        ensures rows { IfOk result (λ links. rows links ≡ replicate count []) }
-    {
-        let mut of = Vec::new(alloc);
-        for _each in 0..count {
-            of.push(Vec::new(alloc))?;
-        }
-        Ok(Links { of })
-    }
-
-    /// Adds a definition with its links.
-    fn push(&mut self, row: Vec<usize>) -> Result<(), OutOfMemory>
-        ensures { OnOk result (rows self.new ≡ rows self.old ++ row.items ∷ []) }
-    {
-        self.of.push(row)?;
-        Ok(())
-    }
-
-    /// Adds a link.
-    fn add(&mut self, from: usize, to: usize) -> Result<(), OutOfMemory>
-        ensures { OnOk result (rows self.new ≡ linked_to (rows self.old) from to) }
-    {
-        let Some(links) = self.of.get_mut(from) else {
-            return Ok(());
-        };
-        links.push(to)?;
-        Ok(())
-    }
-
-    /// What a definition is linked to; nothing for one that isn't there.
-    fn from(&self, definition: usize) -> &[usize]
-        ensures { result.now ≡ graph_of self.now definition }
-    {
-        match self.of.as_slice().get(definition) {
-            Some(links) => links.as_slice(),
-            None => &[],
-        }
-    }
-
-    /// Adds a link from each of these.
-    fn add_all_to(&mut self, starts: &[usize], to: usize) -> Result<(), OutOfMemory>
-        ensures { OnOk result (rows self.new ≡ all_linked_to (rows self.old) starts.now to) }
-    {
-        for start in starts {
-            self.add(*start, to)?;
-        }
-        Ok(())
-    }
-
-    /// The same links from their other ends.
-    fn turned(&self, alloc: Global) -> Result<Links, OutOfMemory>
-        ensures turned { IfOk result (AreTurned self.now) }
-    {
-        let mut back = Links::unlinked(alloc, self.of.len())?;
-        for (from, links) in self.of.iter().enumerate() {
-            back.add_all_to(links.as_slice(), from)?;
-        }
-        Ok(back)
-    }
 }
 
 /// Which definitions are reached from these, with these.
@@ -322,6 +263,7 @@ fn all_of(alloc: Global, count: usize) -> Result<Vec<usize>, OutOfMemory>
 fn order_of(alloc: Global, links: &Links) -> Result<Laying, OutOfMemory>
     requires { IsInto (graph_of links.now) (length links.now.of.items) }
     ensures laid { IfOk result (λ l. IsLaid (graph_of links.now) (length links.now.of.items) l.circle l.order.items) }
+    ensures finished { IfOk result (λ l. IsFinished (graph_of links.now) (length links.now.of.items) l.order.items) }
 {
     let mut laying = Laying::of_all(alloc, links.of.len())?;
     while let Some(task) = laying.tasks.pop() {
@@ -341,43 +283,6 @@ fn places_of(alloc: Global, count: usize, order: &[usize]) -> Result<Vec<usize>,
         }
     }
     Ok(places)
-}
-
-/// Which definitions lead back to themselves; none does where there is no circle.
-fn circles_of(alloc: Global, links: &Links, some: bool) -> Result<Vec<bool>, OutOfMemory>
-    ensures circles { IfOk result (λ marks. AreCircles (graph_of links.now) (length links.now.of.items) some marks.items) }
-{
-    let mut circles = Vec::new(alloc);
-    for definition in 0..links.of.len() {
-        circles.push(is_on_circle(alloc, links, some, definition)?)?;
-    }
-    Ok(circles)
-}
-
-/// Whether a definition leads back to itself; none does where there is no circle.
-fn is_on_circle(
-    alloc: Global,
-    links: &Links,
-    some: bool,
-    definition: usize,
-) -> Result<bool, OutOfMemory>
-    requires { definition < length links.now.of.items }
-    ensures { IfOk result (IsCircle (graph_of links.now) some definition) }
-{
-    if some {
-        leads_back(alloc, links, definition)
-    } else {
-        Ok(false)
-    }
-}
-
-/// Whether a definition leads back to itself.
-fn leads_back(alloc: Global, links: &Links, definition: usize) -> Result<bool, OutOfMemory>
-    requires { definition < length links.now.of.items }
-    ensures { IfOk result (λ b. (b ≡ true) ↔ Reaches (graph_of links.now) (graph_of links.now definition) definition) }
-{
-    let reached = reached_from(alloc, links, links.from(definition))?;
-    Ok(is_true(reached.as_slice(), definition))
 }
 
 /// What the definitions of a scene name: one another, in written order, and which of them name an input.

@@ -12,7 +12,7 @@ pub returns : goal.returns
 returns c =
     let count : c.len-count.result ≡ length c.args.scene.now.definitions.items = search rules in
     let order : c.as_slice.result.now ≡ c.in_ok-laid.laid.order.items = search rules in
-    let inputs : c.as_slice-2.result.now ≡ c.in_ok-named.named.inputs.items = search rules in
+    let inputs : c.as_slice-3.result.now ≡ c.in_ok-named.named.inputs.items = search rules in
     record {
       needs = are_needs c.args.scene.now c.requires c.in_ok-named.named c.in_ok-named.ensures.named c.in_ok-back.back c.in_ok-back.ensures.turned c.in_ok-laid.laid.circle
           (record { order = c.in_ok-laid.laid.order; places = c.in_ok-places.places; on_circle = c.in_ok-on_circle.on_circle; reads_input = c.in_ok-reads_input.reads_input }) c.in_ok-laid.ensures.laid

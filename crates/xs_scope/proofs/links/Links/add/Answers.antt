@@ -1,7 +1,7 @@
 -- The row of a number gets a link more.
 use Rattle.std.proofs.Common.{rules, ◌<◌, ◌≤◌, length, sym}
 use Rattle.xs_scope.proofs.LinkLaws.{linked_row, linked_past}
-use Rattle.xs_scope.proofs.needs.Links.add.Goals as goal
+use Rattle.xs_scope.proofs.links.Links.add.Goals as goal
 
 pub returns-in_default : goal.returns-in_default
 returns-in_default c =

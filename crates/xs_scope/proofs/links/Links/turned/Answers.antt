@@ -5,7 +5,7 @@ use Rattle.std.specs.Prelude.{Vec}
 use Rattle.std.specs.declared.alloc.Global.{Global}
 use Rattle.xs_scope.specs.Links.{rows, turned_from}
 use Rattle.xs_scope.proofs.LinkLaws.{are_turned}
-use Rattle.xs_scope.proofs.needs.Links.turned.Goals as goal
+use Rattle.xs_scope.proofs.links.Links.turned.Goals as goal
 
 pub returns : goal.returns
 returns c =

@@ -3,7 +3,7 @@ use Rattle.std.proofs.Common.{◌≡◌, ℕ, [], length, map, drop, replicate}
 use Rattle.std.specs.Prelude.{Vec}
 use Rattle.std.specs.declared.alloc.Global.{Global}
 use Rattle.xs_scope.specs.Links.{rows, turned_from}
-use Rattle.xs_scope.proofs.needs.Links.turned.Given as goal
+use Rattle.xs_scope.proofs.links.Links.turned.Given as goal
 
 abbrev pub invariant-loop-from : goal.invariant-loop-from
 invariant-loop-from l =
