@@ -1,0 +1,2 @@
+mod CsvLaws
+mod TextRules

@@ -1,0 +1,67 @@
+//! Why a text is no report: the line at which it stops being one, and what was expected there.
+
+use std::alloc::{AllocError, AllocFailed};
+
+/// Why a report could not be read.
+#[derive(Clone, Copy, Debug, PartialEq, Eq)]
+pub enum ReportFault {
+    OutOfMemory,
+    At(Fault),
+}
+
+/// A line, from 1, and what was expected there. A text that was cut ends with a line that is empty or has no line feed; it is that line.
+#[derive(Clone, Copy, Debug, PartialEq, Eq)]
+pub struct Fault {
+    pub line: usize,
+    pub expected: Expected,
+}
+
+/// What was expected at a line.
+#[derive(Clone, Copy, Debug, PartialEq, Eq)]
+pub enum Expected {
+    FaultCount,
+    Fault,
+    SetCount,
+    Set,
+    Trace,
+    Moment,
+    Ending,
+    Size,
+    End,
+}
+
+impl Expected {
+    /// What was expected, in words.
+    pub fn text(self) -> &'static str {
+        match self {
+            Expected::FaultCount => "`faults N`",
+            Expected::Fault => "`fault i NAME`, with the next number and a name without a space",
+            Expected::SetCount => "`sets N`",
+            Expected::Set => "`set` and numbers of listed faults that rise",
+            Expected::Trace => "`trace i` with the next number, or more of the trace before",
+            Expected::Moment => "`moment i` with the next number",
+            Expected::Ending => "`complete` or `bounded K bits B`, or more of the last trace",
+            Expected::Size => "`size N` below the number of faults, or the end",
+            Expected::End => "the end",
+        }
+    }
+}
+
+/// Where a reader stops: so many bytes are left at the beginning of the line.
+#[derive(Clone, Copy)]
+pub(crate) enum Stop {
+    OutOfMemory,
+    At { left: usize, expected: Expected },
+}
+
+impl From<AllocError> for Stop {
+    fn from(_refused: AllocError) -> Stop {
+        Stop::OutOfMemory
+    }
+}
+
+impl<T: Drop> From<AllocFailed<T>> for Stop {
+    fn from(_refused: AllocFailed<T>) -> Stop {
+        Stop::OutOfMemory
+    }
+}
