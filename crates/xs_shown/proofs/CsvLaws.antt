@@ -7,7 +7,7 @@ use Rattle.std.specs.List.{list_any, list_all, AllByRecursion}
 use Rattle.std.specs.Fmt.{decimal, digits, digits_onto, digit_glyph}
 use Rattle.std.proofs.lemmas.List.{append_assoc, append-nil}
 use Rattle.std.proofs.lemmas.List.Elements.{recursion_from_All}
-use Rattle.xs_shown.specs.Csv.{is_special, quoted_byte, quoted, field, spaced, joined, row, rows, csv_text, Place, outside, inside, closing, records_from, records, word_before, words_from, third_words, sets_read}
+use Rattle.xs_shown.specs.Csv.{is_special, quoted_byte, quoted, field, spaced, joined, row, rows, csv_text, outside, inside, closing, records_from, records, word_before, words_from, third_words, sets_read}
 use Rattle.xs_shown.specs.Reports.{has_no_space, is_word, IsListed, name_at, name_or_none, names_in, set_names, HasNames}
 use Rattle.xs_shown.specs.declared.report.Report.{Report}
 
