@@ -1,43 +1,43 @@
 -- What is read back from a table of sets is these sets.
 use Rattle.std.proofs.Common.{◌≡◌, ℕ, zero, suc, ◌-◌, ◌/◌, ◌%◌, ◌+◌, ◌<◌, ◌≤◌, Bool, true, false, List, [], ◌∷◌, ◌++◌, length, refl, sym, ◌∙◌, ap, arith}
 use Rattle.std.specs.Borrow.{Bor}
-use Rattle.std.specs.Prelude.{cond, if◌then◌else◌, nat_eq, nat_lt, ◌==◌, not, ◌||◌, ◌&&◌, map, slice_get, All}
-use Rattle.std.proofs.lemmas.Bool.{eqb-true}
+use Rattle.std.specs.Prelude.{cond, if◌then◌else◌, nat_eq, nat_lt, ◌==◌, ◌||◌, ◌&&◌, map, slice_get, All}
+use Rattle.std.proofs.lemmas.Bool.{eqb-true, ltb-true}
 use Rattle.std.specs.List.{list_any, list_all, AllByRecursion}
 use Rattle.std.specs.Fmt.{decimal, digits, digits_onto, digit_glyph}
 use Rattle.std.proofs.lemmas.List.{append_assoc, append-nil}
 use Rattle.std.proofs.lemmas.List.Elements.{recursion_from_All}
 use Rattle.xs_shown.specs.Csv.{is_special, quoted_byte, quoted, field, spaced, joined, row, rows, csv_text, outside, inside, closing, records_from, records, word_before, words_from, third_words, sets_read}
-use Rattle.xs_shown.specs.Reports.{has_no_space, is_word, IsListed, name_at, name_or_none, names_in, set_names, HasNames}
+use Rattle.xs_shown.specs.Reports.{is_plain, is_word, IsListed, name_at, name_or_none, names_in, set_names, HasNames}
 use Rattle.xs_shown.specs.declared.report.Report.{Report}
 
-or_false : (a b : Bool) → a ≡ false → b ≡ false → (a || b) ≡ false
+pub or_false : (a b : Bool) → a ≡ false → b ≡ false → (a || b) ≡ false
 or_false true b e f = e
 or_false false b e f = f
 
-or_left : (a b : Bool) → (a || b) ≡ false → a ≡ false
+pub or_left : (a b : Bool) → (a || b) ≡ false → a ≡ false
 or_left true b e = e
 or_left false b e = refl
 
-or_right : (a b : Bool) → (a || b) ≡ false → b ≡ false
+pub or_right : (a b : Bool) → (a || b) ≡ false → b ≡ false
 or_right true b e = cc
 or_right false b e = e
 
-and_left : (a b : Bool) → (a && b) ≡ true → a ≡ true
+pub and_left : (a b : Bool) → (a && b) ≡ true → a ≡ true
 and_left true b e = refl
 and_left false b e = e
 
-and_right : (a b : Bool) → (a && b) ≡ true → b ≡ true
+pub and_right : (a b : Bool) → (a && b) ≡ true → b ≡ true
 and_right true b e = e
 and_right false b e = cc
 
 -- digits are not special
 
-is_false : (t : Bool) → (t ≡ true → ⊥) → t ≡ false
+pub is_false : (t : Bool) → (t ≡ true → ⊥) → t ≡ false
 is_false true f = absurd (f refl)
 is_false false f = refl
 
-apart : (c k : ℕ) → k < c → nat_eq c k ≡ false
+pub apart : (c k : ℕ) → k < c → nat_eq c k ≡ false
 apart c k less = is_false (nat_eq c k) (λ e. let same : c ≡ k = eqb-true c k e in omega (arith, less, same))
 
 above : (c : ℕ) → 44 < c → is_special c ≡ false
@@ -124,14 +124,17 @@ row_read n names rest =
 
 -- words
 
-word_run : (n w rest : List ℕ) → has_no_space n ≡ true → words_from w (n ++ rest) ≡ words_from (w ++ n) rest
+not_space : (b : ℕ) → is_plain b ≡ true → nat_eq b 32 ≡ false
+not_space b h = apart b 32 (ltb-true 32 b (and_left (nat_lt 32 b) (nat_lt b 127) h))
+
+word_run : (n w rest : List ℕ) → list_all is_plain n ≡ true → words_from w (n ++ rest) ≡ words_from (w ++ n) rest
 word_run [] w rest h = ap (λ v. words_from v rest) (sym (append-nil w))
 word_run (b ∷ n) w rest h =
-    byte_is (nat_eq b 32) (and_left (not (nat_eq b 32)) (has_no_space n) h)
-    ∙ (word_run n (w ++ b ∷ []) rest (and_right (not (nat_eq b 32)) (has_no_space n) h)
+    byte_is (nat_eq b 32) (not_space b (and_left (is_plain b) (list_all is_plain n) h))
+    ∙ (word_run n (w ++ b ∷ []) rest (and_right (is_plain b) (list_all is_plain n) h)
     ∙ ap (λ v. words_from v rest) (append_assoc w (b ∷ []) n))
   where
-    byte_is : (t : Bool) → not t ≡ true → cond t (word_before w (words_from [] (n ++ rest))) (words_from (w ++ b ∷ []) (n ++ rest)) ≡ words_from (w ++ b ∷ []) (n ++ rest)
+    byte_is : (t : Bool) → t ≡ false → cond t (word_before w (words_from [] (n ++ rest))) (words_from (w ++ b ∷ []) (n ++ rest)) ≡ words_from (w ++ b ∷ []) (n ++ rest)
     byte_is true e = cc
     byte_is false e = refl
 
@@ -139,14 +142,14 @@ word_first : (n : List ℕ) (more : List (List ℕ)) → is_word n ≡ true → 
 word_first [] more h = cc
 word_first (b ∷ n) more h = refl
 
-spaceless : (n : List ℕ) → is_word n ≡ true → has_no_space n ≡ true
-spaceless [] h = refl
-spaceless (b ∷ n) h = h
+pub all_plain : (n : List ℕ) → is_word n ≡ true → list_all is_plain n ≡ true
+all_plain [] h = refl
+all_plain (b ∷ n) h = h
 
 words_spaced : (n : List ℕ) (ns : List (List ℕ)) → is_word n ≡ true → list_all is_word ns ≡ true → words_from [] (n ++ spaced ns) ≡ n ∷ ns
-words_spaced n [] h g = word_run n [] [] (spaceless n h) ∙ word_first n [] h
+words_spaced n [] h g = word_run n [] [] (all_plain n h) ∙ word_first n [] h
 words_spaced n (m ∷ ms) h g =
-    word_run n [] (spaced (m ∷ ms)) (spaceless n h)
+    word_run n [] (spaced (m ∷ ms)) (all_plain n h)
     ∙ (word_first n (words_from [] (m ++ spaced ms)) h
     ∙ ap (λ ws. n ∷ ws) (words_spaced m ms (and_left (is_word m) (list_all is_word ms) g) (and_right (is_word m) (list_all is_word ms) g)))
 
@@ -184,7 +187,7 @@ words_in names (k ∷ ks) a l =
     place : (n many : ℕ) → 0 < n → n ≤ many → n - 1 < many
     place n many low high = omega arith
 
-sets_named : {X : Type 0} (sets : List X) (items : X → List ℕ) (names : List (Bor (List ℕ))) → AllByRecursion (λ name. is_word name.now ≡ true) names →
+pub sets_named : {X : Type 0} (sets : List X) (items : X → List ℕ) (names : List (Bor (List ℕ))) → AllByRecursion (λ name. is_word name.now ≡ true) names →
     AllByRecursion (λ set. All (IsListed (length names)) (items set)) sets → AllByRecursion (λ set. list_all is_word set ≡ true) (map (λ set. names_in names (items set)) sets)
 sets_named [] items names a l = tt
 sets_named (s ∷ ss) items names a l = (words_in names (items s) a (recursion_from_All (IsListed (length names)) (items s) l.0), sets_named ss items names a l.1)

@@ -1,2 +1,3 @@
 mod CsvLaws
+mod JsonLaws
 mod TextRules

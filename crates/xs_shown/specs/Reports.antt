@@ -1,17 +1,17 @@
 -- What a report is made of.
-use Rattle.std.specs.Prelude.{ℕ, ◌≡◌, ◌<◌, ◌≤◌, ◌-◌, nat_eq, Bool, true, false, not, List, [], ◌∷◌, Option, Some, None, map, length, slice_get, All}
+use Rattle.std.specs.Prelude.{ℕ, ◌≡◌, ◌<◌, ◌≤◌, ◌-◌, nat_eq, nat_lt, Bool, true, false, ◌&&◌, List, [], ◌∷◌, Option, Some, None, map, length, slice_get, All}
 use Rattle.std.specs.Borrow.{Bor}
 use Rattle.std.specs.List.{list_all}
 use Rattle.xs_shown.specs.declared.report.Report.{Report}
 
--- no byte is a space
-abbrev pub has_no_space : List ℕ → Bool
-has_no_space bytes = list_all (λ b. not (nat_eq b 32)) bytes
+-- a printed ASCII character, and no space
+abbrev pub is_plain : ℕ → Bool
+is_plain b = nat_lt 32 b && nat_lt b 127
 
--- some byte, and no space among them
+-- some byte, and each is plain
 abbrev pub is_word : List ℕ → Bool
 is_word [] = false
-is_word (b ∷ bs) = has_no_space (b ∷ bs)
+is_word (b ∷ bs) = list_all is_plain (b ∷ bs)
 
 -- a line feed
 abbrev pub is_feed : ℕ → Bool
@@ -38,7 +38,7 @@ names_in names numbers = map (name_at names) numbers
 abbrev pub set_names : Report → List (List (List ℕ))
 set_names report = map (λ set. names_in report.faults.items set.items) report.sets.items
 
--- each name is some bytes without a space, and each set has numbers of listed faults alone
+-- each name is a word, and each set has numbers of listed faults alone
 abbrev pub HasNames : Report → Type 0
 HasNames report =
     All (λ name. is_word name.now ≡ true) report.faults.items

@@ -35,7 +35,7 @@ impl Expected {
     pub fn text(self) -> &'static str {
         match self {
             Expected::FaultCount => "`faults N`",
-            Expected::Fault => "`fault i NAME`, with the next number and a name without a space",
+            Expected::Fault => "`fault i NAME`, with the next number and a name",
             Expected::SetCount => "`sets N`",
             Expected::Set => "`set` and numbers of listed faults that rise",
             Expected::Trace => "`trace i` with the next number, or more of the trace before",

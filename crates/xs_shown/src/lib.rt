@@ -9,15 +9,27 @@
 //! ```
 #![tactic(auto)]
 
+mod changes;
 mod csv;
+mod endings;
 mod fault;
+mod json;
+mod json_sets;
+mod markdown;
+mod moments;
 mod names;
 mod reader;
 mod report;
+mod text;
 mod traces;
 mod words;
 
+pub use changes::{Changes, changes_of};
 pub use csv::csv_of_sets;
 pub use fault::{Expected, Fault, ReportFault};
+pub use json::json_of;
+pub use markdown::markdown_of;
+pub use moments::Values;
 pub use reader::read;
 pub use report::{Ending, Line, Moment, Report, Trace};
+pub use text::text_of;

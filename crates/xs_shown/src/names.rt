@@ -36,6 +36,19 @@ fn append_spaced(text: &mut ByteList, names: &[&[u8]], numbers: &[u32]) -> Resul
     Ok(())
 }
 
+/// Appends the names of a set, or that it has none.
+pub(crate) fn append_set(
+    text: &mut ByteList,
+    names: &[&[u8]],
+    numbers: &[u32],
+) -> Result<(), OutOfMemory> {
+    if numbers.is_empty() {
+        text.append(b"no fault")
+    } else {
+        append_names(text, names, numbers)
+    }
+}
+
 /// The name of the fault of a number, from 1; nothing where there is none.
 pub(crate) fn name_at<'a>(names: &[&'a [u8]], number: u32) -> &'a [u8]
     ensures { result.now ≡ name_at names.now number }

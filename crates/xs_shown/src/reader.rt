@@ -14,7 +14,7 @@ use std::alloc::Global;
 
 /// The report that this text is. The text is refused where any byte of it is not as a report has it.
 pub fn read(alloc: Global, bytes: &[u8]) -> Result<Report<'_>, ReportFault>
-    // Each name is some bytes without a space.
+    // Each name is some printed ASCII characters without a space.
     ensures names { IfOk result (λ report. All (λ name. is_word name.now ≡ true) report.faults.items) }
     // Each set has numbers of listed faults alone.
     ensures sets { IfOk result (λ report. All (λ set. All (IsListed (length report.faults.items)) set.items) report.sets.items) }

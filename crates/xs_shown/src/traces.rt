@@ -7,7 +7,7 @@ ghost use Rattle.std.specs.Prelude.{◌≡◌, ◌<◌, ◌≤◌, length, IfOk,
 
 use crate::fault::{Expected, Stop};
 use crate::report::{Line, Moment, Trace};
-use crate::words::{first_word, number_behind, stop, take_line};
+use crate::words::{first_word, is_word, number_behind, stop, take_line};
 use std::alloc::Global;
 use xs_value::first_line;
 
@@ -90,8 +90,9 @@ fn next_value(bytes: &[u8]) -> Option<(Line<'_>, &[u8])>
 fn value_in(line: &[u8]) -> Option<Line<'_>> {
     let (name, rest) = first_word(line);
     let value = rest.strip_prefix(b"= ")?;
-    if name.is_empty() || value.is_empty() {
-        return None;
+    if is_word(name) && is_word(value) {
+        Some(Line { name, value })
+    } else {
+        None
     }
-    Some(Line { name, value })
 }

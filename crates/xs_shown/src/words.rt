@@ -1,7 +1,8 @@
 //! The lines of a text and the words of a line.
 
 ghost use Rattle.std.specs.Prelude.{◌≡◌, ◌<◌, ◌≤◌, length, IfOk, IfSome, All};
-ghost use Rattle.xs_shown.specs.Reports.{is_word, has_no_space, IsListed};
+ghost use Rattle.std.specs.List.{list_all};
+ghost use Rattle.xs_shown.specs.Reports.{is_plain, is_word, IsListed};
 
 use crate::fault::{Expected, Stop};
 use std::alloc::{AllocError, Global};
@@ -67,21 +68,28 @@ pub(crate) fn first_word(text: &[u8]) -> (&[u8], &[u8])
     }
 }
 
-/// Whether there is some byte, and no space among them.
+/// Whether there is some byte, and each is plain.
 pub(crate) fn is_word(text: &[u8]) -> bool
     ensures { result ≡ is_word text.now }
 {
     match text {
         [] => false,
-        _ => has_no_space(text),
+        _ => are_plain(text),
     }
 }
 
-/// Whether there is no space.
-fn has_no_space(text: &[u8]) -> bool
-    ensures { result ≡ has_no_space text.now }
+/// Whether each byte is plain.
+fn are_plain(text: &[u8]) -> bool
+    ensures { result ≡ list_all is_plain text.now }
 {
-    text.iter().all(|byte| *byte != b' ')
+    text.iter().all(|byte| is_plain(*byte))
+}
+
+/// Whether a byte is a printed ASCII character, and no space.
+pub(crate) fn is_plain(byte: u8) -> bool
+    ensures { result ≡ is_plain byte }
+{
+    32 < byte && byte < 127
 }
 
 /// The numbers of a text in which each stands behind a space; they rise, from 1 up to so many.
