@@ -16,7 +16,7 @@ use xs_value::{ByteList, OutOfMemory};
 /// `ending` (`complete`, or with `steps` and `bits`) and `size` (null where none is given). In a string a byte that is no printed ASCII
 /// character stands as `\u00XX`.
 pub fn json_of(alloc: Global, report: &Report<'_>, values: Values) -> Result<Vec<u8>, OutOfMemory>
-    // What any reader of JSON finds under `sets` are the sets.
+    // What a reader of JSON finds first under `sets` are the sets.
     ensures read_back { HasNames report.now → IfOk result (λ text. sets_in_json text.items ≡ set_names report.now) }
 {
     let rest = rest_of(alloc, report, values)?;
