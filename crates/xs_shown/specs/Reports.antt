@@ -2,7 +2,10 @@
 use Rattle.std.specs.Prelude.{ℕ, ◌≡◌, ◌<◌, ◌≤◌, ◌-◌, nat_eq, nat_lt, Bool, true, false, ◌&&◌, List, [], ◌∷◌, Option, Some, None, map, length, slice_get, All}
 use Rattle.std.specs.Borrow.{Bor}
 use Rattle.std.specs.List.{list_all}
+use Rattle.xs_shown.specs.declared.report.Line.{Line}
+use Rattle.xs_shown.specs.declared.report.Moment.{Moment}
 use Rattle.xs_shown.specs.declared.report.Report.{Report}
+use Rattle.xs_shown.specs.declared.report.Trace.{Trace}
 
 -- a printed ASCII character, and no space
 abbrev pub is_plain : ℕ → Bool
@@ -12,6 +15,18 @@ is_plain b = nat_lt 32 b && nat_lt b 127
 abbrev pub is_word : List ℕ → Bool
 is_word [] = false
 is_word (b ∷ bs) = list_all is_plain (b ∷ bs)
+
+-- the name and the value are words
+abbrev pub HasWords : Line → Type 0
+HasWords line = (is_word line.name.now ≡ true) × (is_word line.value.now ≡ true)
+
+-- so are those of each line of a moment
+abbrev pub IsMomentOfWords : Moment → Type 0
+IsMomentOfWords moment = All HasWords moment.lines.items
+
+-- and those of each moment of a trace
+abbrev pub IsTraceOfWords : Trace → Type 0
+IsTraceOfWords trace = All IsMomentOfWords trace.moments.items
 
 -- a line feed
 abbrev pub is_feed : ℕ → Bool

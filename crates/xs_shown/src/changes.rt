@@ -1,7 +1,8 @@
 //! What changed from one report to another: [`changes_of`] compares their sets by the names of their faults, and
 //! [`Changes::text`] writes what came of it.
 
-ghost use Rattle.std.specs.Prelude.{◌≡◌, IfOk, map};
+ghost use Rattle.std.specs.Prelude.{◌≡◌, ◌||◌, IfOk, map, not};
+ghost use Rattle.std.specs.List.{list_any};
 ghost use Rattle.xs_shown.specs.Changes.{is_among, is_listed, is_same_set, is_within};
 ghost use Rattle.xs_shown.specs.Reports.{names_in, set_names};
 
@@ -112,8 +113,10 @@ fn reach_alike(old: Ending, new: Ending) -> bool {
 
 impl Changes {
     /// Whether a set is gone or has come, or the reports did not end alike.
-    pub fn is_any(&self) -> bool {
-        !self.ends_alike || count_of(&self.stays, false) > 0 || count_of(&self.was_there, false) > 0
+    pub fn is_any(&self) -> bool
+        ensures { result ≡ (not self.now.ends_alike || (list_any not self.now.stays.items || list_any not self.now.was_there.items)) }
+    {
+        !self.ends_alike || has_false(&self.stays) || has_false(&self.was_there)
     }
 
     /// How both reports ended, and the sets that are gone, those that have come, and those that stay, each group in the order of its
@@ -125,8 +128,8 @@ impl Changes {
         new: &Report<'_>,
     ) -> Result<Vec<u8>, OutOfMemory> {
         let mut text = ByteList::new(alloc);
-        append_head(alloc, &mut text, b"old: ", old)?;
-        append_head(alloc, &mut text, b"new: ", new)?;
+        append_head(alloc, &mut text, b"old: sets ", old)?;
+        append_head(alloc, &mut text, b"new: sets ", new)?;
         append_count(alloc, &mut text, b"gone ", count_of(&self.stays, false))?;
         append_sets(&mut text, b"- ", old, &self.stays, false)?;
         append_count(alloc, &mut text, b"come ", count_of(&self.was_there, false))?;
@@ -135,6 +138,13 @@ impl Changes {
         append_sets(&mut text, b"= ", old, &self.stays, true)?;
         Ok(text.into_vec())
     }
+}
+
+/// Whether one of these is false.
+fn has_false(listed: &[bool]) -> bool
+    ensures { result ≡ list_any not listed.now }
+{
+    listed.iter().any(|it| !*it)
 }
 
 /// How many of these are as wanted.
@@ -151,7 +161,7 @@ fn append_head(
 ) -> Result<(), OutOfMemory> {
     text.append(head)?;
     text.append_number(alloc, report.sets.len() as u64)?;
-    text.append(b" sets; ")?;
+    text.append(b"; ")?;
     append_ending(alloc, text, report)?;
     text.append(b"\n")
 }

@@ -1,7 +1,7 @@
 //! A report as Markdown: a table of the sets, how the analysis ended, and a table of each trace. [`markdown_of`] is the main function.
 //!
 //! Tables are those of GitHub's Markdown. A name or a value is a code span, so that no byte of it means anything else; its fence is
-//! longer than any run of backticks in it, and a `|` has a backslash before it, which such a table takes away.
+//! longer than any run of backticks in it, and in a table a `|` has a backslash before it, which the table takes away.
 
 use crate::endings::append_ending;
 use crate::moments::{Row, Values, rows_of};
@@ -38,7 +38,7 @@ fn append_sets(
         append_number(alloc, text, i + 1)?;
         append_number(alloc, text, set.len())?;
         text.append(b"| ")?;
-        append_set(text, faults, set)?;
+        append_set(text, faults, set, IN_TABLE)?;
         text.append(b" |\n")?;
     }
     Ok(())
@@ -51,34 +51,49 @@ fn append_number(alloc: Global, text: &mut ByteList, number: usize) -> Result<()
     text.append(b" ")
 }
 
+/// What stands before a `|` of a name or a value.
+static IN_TABLE: &[u8] = b"\\";
+
+static OUTSIDE: &[u8] = b"";
+
 /// Appends the names of a set.
-fn append_set(text: &mut ByteList, faults: &[&[u8]], set: &[u32]) -> Result<(), OutOfMemory> {
+fn append_set(
+    text: &mut ByteList,
+    faults: &[&[u8]],
+    set: &[u32],
+    before_bar: &[u8],
+) -> Result<(), OutOfMemory> {
     if set.is_empty() {
         text.append(b"no fault")
     } else {
-        append_names(text, faults, set)
+        append_names(text, faults, set, before_bar)
     }
 }
 
 /// Appends names with a space between them.
-fn append_names(text: &mut ByteList, faults: &[&[u8]], set: &[u32]) -> Result<(), OutOfMemory> {
+fn append_names(
+    text: &mut ByteList,
+    faults: &[&[u8]],
+    set: &[u32],
+    before_bar: &[u8],
+) -> Result<(), OutOfMemory> {
     for (i, number) in set.iter().enumerate() {
         if i > 0 {
             text.append(b" ")?;
         }
-        append_code(text, name_at(faults, *number))?;
+        append_code(text, name_at(faults, *number), before_bar)?;
     }
     Ok(())
 }
 
 /// Appends bytes as a code span. A space stands in it beside a backtick.
-fn append_code(text: &mut ByteList, bytes: &[u8]) -> Result<(), OutOfMemory> {
+fn append_code(text: &mut ByteList, bytes: &[u8], before_bar: &[u8]) -> Result<(), OutOfMemory> {
     let longest = longest_run(bytes);
     append_fence(text, longest)?;
     if longest > 0 {
         text.append(b" ")?;
     }
-    append_escaped(text, bytes)?;
+    append_escaped(text, bytes, before_bar)?;
     if longest > 0 {
         text.append(b" ")?;
     }
@@ -108,11 +123,11 @@ fn append_fence(text: &mut ByteList, longest: usize) -> Result<(), OutOfMemory> 
     text.append(b"`")
 }
 
-/// Appends bytes with a backslash before each `|`.
-fn append_escaped(text: &mut ByteList, bytes: &[u8]) -> Result<(), OutOfMemory> {
+/// Appends bytes with this before each `|`.
+fn append_escaped(text: &mut ByteList, bytes: &[u8], before_bar: &[u8]) -> Result<(), OutOfMemory> {
     for byte in bytes {
         if *byte == b'|' {
-            text.append(b"\\")?;
+            text.append(before_bar)?;
         }
         text.push(*byte)?;
     }
@@ -130,7 +145,7 @@ fn append_traces(
         text.append(b"\nTrace of set ")?;
         text.append_number(alloc, (i + 1) as u64)?;
         text.append(b": ")?;
-        append_set(text, &report.faults, set)?;
+        append_set(text, &report.faults, set, OUTSIDE)?;
         text.append(b"\n\n")?;
         append_trace(alloc, text, &report.faults, trace, values)?;
     }
@@ -169,13 +184,13 @@ fn append_line(
     strikes: Option<&[u8]>,
 ) -> Result<(), OutOfMemory> {
     text.append(b"| ")?;
-    append_code(text, line.name)?;
+    append_code(text, line.name, IN_TABLE)?;
     text.append(b" | ")?;
-    append_code(text, line.value)?;
+    append_code(text, line.value, IN_TABLE)?;
     match strikes {
         Some(fault) => {
             text.append(b" | ")?;
-            append_code(text, fault)?;
+            append_code(text, fault, IN_TABLE)?;
             text.append(b" |\n")
         }
         None => text.append(b" | |\n"),

@@ -4,7 +4,7 @@
 //! number of that line is counted once, at the end.
 
 ghost use Rattle.std.specs.Prelude.{◌≡◌, ◌<◌, ◌≤◌, ◌+◌, length, ◌^◌, ℕ, List, count_by, true, IfOk, IfSome, All};
-ghost use Rattle.xs_shown.specs.Reports.{is_word, is_feed, IsListed};
+ghost use Rattle.xs_shown.specs.Reports.{is_word, is_feed, IsListed, IsTraceOfWords};
 
 use crate::fault::{Expected, Fault, ReportFault, Stop};
 use crate::report::{Ending, Report};
@@ -19,6 +19,8 @@ pub fn read(alloc: Global, bytes: &[u8]) -> Result<Report<'_>, ReportFault>
     // Each set has numbers of listed faults alone.
     ensures sets { IfOk result (λ report. All (λ set. All (IsListed (length report.faults.items)) set.items) report.sets.items) }
     ensures traces { IfOk result (λ report. length report.traces.items ≡ length report.sets.items) }
+    // So are the names and the values of variables.
+    ensures words { IfOk result (λ report. All IsTraceOfWords report.traces.items) }
     // The line of a fault is one of the text's, or the one behind its last line feed.
     ensures line { (fault : Fault) → result ≡ Err (ReportFault.At fault) → (0 < fault.line) × (fault.line ≤ count_by is_feed bytes.now + 1) }
 {
@@ -54,6 +56,7 @@ fn read_parts(alloc: Global, bytes: &[u8]) -> Result<Report<'_>, Stop>
     ensures names { IfOk result (λ report. All (λ name. is_word name.now ≡ true) report.faults.items) }
     ensures sets { IfOk result (λ report. All (λ set. All (IsListed (length report.faults.items)) set.items) report.sets.items) }
     ensures traces { IfOk result (λ report. length report.traces.items ≡ length report.sets.items) }
+    ensures words { IfOk result (λ report. All IsTraceOfWords report.traces.items) }
 {
     let (faults, rest) = read_faults(alloc, bytes)?;
     let (sets, rest) = read_sets(alloc, rest, faults.len())?;

@@ -3,7 +3,8 @@
 //! The main function is [`read_traces`]. A moment ends before the first line that is no value, and a trace before the first line that
 //! is no next moment.
 
-ghost use Rattle.std.specs.Prelude.{◌≡◌, ◌<◌, ◌≤◌, length, IfOk, IfSome};
+ghost use Rattle.std.specs.Prelude.{◌≡◌, ◌<◌, ◌≤◌, length, All, IfOk, IfSome};
+ghost use Rattle.xs_shown.specs.Reports.{HasWords, IsMomentOfWords, IsTraceOfWords};
 
 use crate::fault::{Expected, Stop};
 use crate::report::{Line, Moment, Trace};
@@ -17,7 +18,8 @@ pub(crate) fn read_traces(
     bytes: &[u8],
     count: usize,
 ) -> Result<(Vec<Trace<'_>>, &[u8]), Stop>
-    ensures { IfOk result (λ p. length p.0.items ≡ count) }
+    ensures count { IfOk result (λ p. length p.0.items ≡ count) }
+    ensures words { IfOk result (λ p. All IsTraceOfWords p.0.items) }
 {
     let mut traces = Vec::new(alloc);
     let mut rest = bytes;
@@ -30,7 +32,9 @@ pub(crate) fn read_traces(
 }
 
 /// The trace of this number, and the bytes behind it.
-fn read_trace(alloc: Global, bytes: &[u8], number: usize) -> Result<(Trace<'_>, &[u8]), Stop> {
+fn read_trace(alloc: Global, bytes: &[u8], number: usize) -> Result<(Trace<'_>, &[u8]), Stop>
+    ensures { IfOk result (λ p. IsTraceOfWords p.0) }
+{
     let (line, after) = take_line(bytes, Expected::Trace)?;
     match number_behind(line, b"trace ") {
         Some(found) if found as usize == number => read_moments(alloc, after),
@@ -39,7 +43,9 @@ fn read_trace(alloc: Global, bytes: &[u8], number: usize) -> Result<(Trace<'_>, 
 }
 
 /// The moments at the beginning, at least one, and the bytes behind them.
-fn read_moments(alloc: Global, bytes: &[u8]) -> Result<(Trace<'_>, &[u8]), Stop> {
+fn read_moments(alloc: Global, bytes: &[u8]) -> Result<(Trace<'_>, &[u8]), Stop>
+    ensures { IfOk result (λ p. IsTraceOfWords p.0) }
+{
     let mut moments = Vec::new(alloc);
     let mut rest = bytes;
     while let Some(after) = behind_head(rest, moments.len()) {
@@ -67,7 +73,8 @@ fn behind_head(bytes: &[u8], number: usize) -> Option<&[u8]>
 
 /// The values at the beginning, and the bytes behind them.
 fn read_moment(alloc: Global, bytes: &[u8]) -> Result<(Moment<'_>, &[u8]), Stop>
-    ensures { IfOk result (λ p. length p.1.now ≤ length bytes.now) }
+    ensures behind { IfOk result (λ p. length p.1.now ≤ length bytes.now) }
+    ensures words { IfOk result (λ p. IsMomentOfWords p.0) }
 {
     let mut lines = Vec::new(alloc);
     let mut rest = bytes;
@@ -80,14 +87,17 @@ fn read_moment(alloc: Global, bytes: &[u8]) -> Result<(Moment<'_>, &[u8]), Stop>
 
 /// The value of the first line, where it is one, and the bytes behind it.
 fn next_value(bytes: &[u8]) -> Option<(Line<'_>, &[u8])>
-    ensures { IfSome result (λ p. length p.1.now < length bytes.now) }
+    ensures behind { IfSome result (λ p. length p.1.now < length bytes.now) }
+    ensures words { IfSome result (λ p. HasWords p.0) }
 {
     let (line, after) = take_line(bytes, Expected::Trace).ok()?;
     Some((value_in(line)?, after))
 }
 
 /// The name and the value of `name = value`.
-fn value_in(line: &[u8]) -> Option<Line<'_>> {
+fn value_in(line: &[u8]) -> Option<Line<'_>>
+    ensures { IfSome result HasWords }
+{
     let (name, rest) = first_word(line);
     let value = rest.strip_prefix(b"= ")?;
     if is_word(name) && is_word(value) {
