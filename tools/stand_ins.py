@@ -38,6 +38,11 @@ check-orders) cat; exit 0 ;;
 *) for word in "$@"; do printf '[%s]' "$word"; done; echo " {mark}" ;;
 esac
 """
+SHOW = """#!/bin/sh
+for word in "$@"; do printf '<%s>' "$word"; done; echo " shown"
+[ "$2" = - ] && cat
+exit 1
+"""
 EXPLAIN = """#!/bin/sh
 read -r line
 printf 'means: explained <%s>\\nin line 2, column 7:\\n' "$line"
@@ -53,7 +58,7 @@ ci) [ -e must-fail ] && exit 9
     echo "rt: xsap_program: its tests are proved"; echo "rt: xsap_explain NOT PROVED"
     [ -n "$FAILS" ] && exit 1
     [ -n "$TOUCH" ] && touch "$TOUCH"
-    for name in xsap_program xsap_explain; do
+    for name in xsap_program xsap_explain xsap_show; do
         mkdir -p crates/$name/out; cp crates/$name/src/main.rt crates/$name/out/$name
     done ;;
 esac
@@ -83,13 +88,14 @@ class Place:
             shutil.copy(HERE / it, self.top / it)
         for it in ("docs", "examples/crossing"):
             shutil.copytree(HERE / it, self.top / it)
-        self.write("crates.txt", "# crates\nlow:\nother:\nxsap_explain: low\nxsap_program: low # the program\n")
+        self.write("crates.txt", "# crates\nlow:\nother:\nxsap_explain: low\nxsap_show: low\nxsap_program: low # the program\n")
         self.write("crates/low/src/lib.rt", "//! Low.\n")
         self.write("crates/low/proofs/Lib.antt", "")
         self.write("crates/other/src/lib.rt", "//! Other.\n")
         # (the stand-in for the kit builds a program of its code)
         self.write("crates/xsap_program/src/main.rt", PROGRAM.format(mark="first"))
         self.write("crates/xsap_explain/src/main.rt", EXPLAIN)
+        self.write("crates/xsap_show/src/main.rt", SHOW)
         self.write("../bin/rt", KIT).chmod(0o755)
         self.write("../cpuinfo", f"processor : 0\nflags\t\t: {GOOD_FLAGS}\n")
         self.machine = ["x86_64", "glibc 2.36", str(self.cpu)]
@@ -103,7 +109,7 @@ class Place:
 
     def build(self, mark="first"):
         """Puts the programs where rt ci leaves them, newer than every source."""
-        for name, text in (("xsap_program", PROGRAM.format(mark=mark)), ("xsap_explain", EXPLAIN)):
+        for name, text in (("xsap_program", PROGRAM.format(mark=mark)), ("xsap_explain", EXPLAIN), ("xsap_show", SHOW)):
             path = self.write(f"crates/{name}/out/{name}", text)
             path.chmod(0o755)
             later = time.time() + 5
@@ -113,7 +119,7 @@ class Place:
         """Makes release/ of programs that are built, which are then removed."""
         self.build(mark)
         wants(self.tool("release")[0], 0, "tools/release ends with")
-        for name in ("xsap_program", "xsap_explain"):
+        for name in ("xsap_program", "xsap_explain", "xsap_show"):
             shutil.rmtree(self.top / f"crates/{name}/out")
         return self
 

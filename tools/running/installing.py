@@ -1,6 +1,6 @@
 """Installs the programs below a folder, with a front that runs them, a manual page and the completion of words; and tells of the version.
 
-  PREFIX/bin/xsap, xsap_program, xsap_explain       links to what stands in
+  PREFIX/bin/xsap, xsap_program, and so on          links to what stands in
   PREFIX/lib/xsap/                                  the front, the programs, release.txt with their sums, and about.txt
   PREFIX/share/man/man1/xsap.1                      the manual page
   PREFIX/share/doc/xsap/                            the manual, and the example of the help
@@ -12,7 +12,7 @@ import subprocess
 from running import kept, programs
 from running.machine import Unready
 from running.programs import TOP
-from running.verbs import OWN, VERBS, VERSION, file_options, options_of
+from running.verbs import FORMS, OWN, SHOWING, VERBS, VERSION, file_options, options_of
 
 EXAMPLE_FILES = ("model.smv", "faults.fei", "causes", "tops", "crash.trace", "pass.trace")
 
@@ -103,12 +103,22 @@ _xsap() {{
     done
     COMPREPLY=()
     if ((COMP_CWORD <= at)); then
-        COMPREPLY=($(compgen -W '{' '.join([*VERBS, *OWN])}' -- "$word"))
+        COMPREPLY=($(compgen -W '{' '.join([*VERBS, *SHOWING, *OWN])}' -- "$word"))
         return
     fi
     verb=${{COMP_WORDS[at]}}
     if [[ $verb == --help ]]; then
-        COMPREPLY=($(compgen -W '{' '.join(VERBS)}' -- "$word"))
+        COMPREPLY=($(compgen -W '{' '.join([*VERBS, *SHOWING])}' -- "$word"))
+        return
+    fi
+    if [[ $verb == show || $verb == diff ]]; then
+        if [[ $verb == show && $before == --format ]]; then
+            COMPREPLY=($(compgen -W '{' '.join(FORMS)}' -- "$word"))
+        elif [[ $verb == show ]] && ((COMP_CWORD - at > 1)); then
+            COMPREPLY=($(compgen -W '--format --full' -- "$word"))
+        elif ((COMP_CWORD - at <= 2)); then
+            compopt -o filenames 2>/dev/null; mapfile -t COMPREPLY < <(compgen -f -- "$word")
+        fi
         return
     fi
     if (((COMP_CWORD - at) % 2 == 0)); then
@@ -139,12 +149,22 @@ _xsap() {{
     local -a options
     while [[ ${{words[at]}} == (--explain|--exact) ]]; do at=$((at + 1)); done
     if ((CURRENT <= at)); then
-        compadd -- {' '.join([*VERBS, *OWN])}
+        compadd -- {' '.join([*VERBS, *SHOWING, *OWN])}
         return
     fi
     verb=${{words[at]}}
     if [[ $verb == --help ]]; then
-        compadd -- {' '.join(VERBS)}
+        compadd -- {' '.join([*VERBS, *SHOWING])}
+        return
+    fi
+    if [[ $verb == (show|diff) ]]; then
+        if [[ $verb == show && ${{words[CURRENT-1]}} == --format ]]; then
+            compadd -- {' '.join(FORMS)}
+        elif [[ $verb == show ]] && ((CURRENT - at > 1)); then
+            compadd -- --format --full
+        elif ((CURRENT - at <= 2)); then
+            _files
+        fi
         return
     fi
     if (((CURRENT - at) % 2 == 0)); then

@@ -74,7 +74,7 @@ def prove():
                 os.utime(path, (begun, begun))
     except OSError as error:
         raise Unready(f"--prove can't go on: {error.strerror} ({error.filename})") from None
-    programs.tell(f"proved and built in {(time.time() - begun) / 60:.0f} min: {' and '.join(map(programs.built, kept.PROGRAMS))}")
+    programs.tell(f"proved and built in {(time.time() - begun) / 60:.0f} min: {', '.join(map(programs.built, kept.PROGRAMS))}")
     return 0
 
 

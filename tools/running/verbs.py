@@ -27,6 +27,19 @@ VERBS = {
     "odds": ("bounds the probabilities of the minimal cut sets, by the marks of the modes",
              "--model FILE --faults FILE --top EXPRESSION --depth NUMBER"),
 }
+# The verbs of the program that shows reports, with their words.
+SHOWING = {
+    "show": ("shows a report of analyse or causes as tables, as Markdown, or for other tools", "FILE [--format FORM] [--full]"),
+    "diff": ("tells which minimal cut sets are gone and have come from one report to another", "OLD NEW"),
+}
+FORMS = ("text", "csv", "json", "markdown")
+SHOWING_WORDS = {
+    "FILE": "a report as it was printed; - is standard input",
+    "--format FORM": f"{', '.join(FORMS[:-1])} or {FORMS[-1]}; text where none is given",
+    "--full": "every value at every moment of a trace, and not only those that change",
+    "OLD": "the one report; - is standard input",
+    "NEW": "the other one",
+}
 OPTIONS = {
     "--model": "the nominal model, in finite-domain SMV",
     "--faults": "the fault instructions",
@@ -63,7 +76,8 @@ EXAMPLE = """  cd {folder}
   {command} check --model model.smv --faults faults.fei --top crash --cert /tmp/cuts.cert
 """
 STATUSES = """Exit status: 0 done, complete; 1 done, but only up to the depth; 2 to 6, 9, 10 refused, in one line that tells the place;
-7 a file or standard output failed; 8 out of memory; 11 a word is no text; 70 there is no program to run."""
+7 a file or standard output failed; 8 out of memory; 11 a word is no text; 70 there is no program to run.
+Of show and diff: 0 shown, or no difference; 1 the reports differ; 2 the words; 3 a file is no report; 4 there is no such file."""
 
 
 def options_of(verb):
@@ -89,13 +103,14 @@ def wrapped(text, indent):
 
 def help_text(name, manual, folder):
     """Returns the help, for a command of this name with the manual at that place, and the example's files in that folder."""
-    verbs = "".join(f"  {verb:13} {does}\n{wrapped(options, ' ' * 16)}" for verb, (does, options) in VERBS.items())
+    verbs = "".join(f"  {verb:13} {does}\n{wrapped(options, ' ' * 16)}" for verb, (does, options) in {**VERBS, **SHOWING}.items())
     words = OWN if os.path.isabs(folder) else {**OWN, **OF_REPOSITORY}
     own = "".join(f"  {word:13} {means}\n" for word, means in words.items())
     example = EXAMPLE.format(folder=folder, command="../../xsap" if name == "./xsap" else name)
     return (
         f"{name} extends SMV models with faults, and finds and certifies the minimal cut sets of a top event.\n\n"
-        f"  {name} VERB --OPTION VALUE ..      the options in any order, each value a word of its own\n\n"
+        f"  {name} VERB --OPTION VALUE ..      the options in any order, each value a word of its own\n"
+        f"  {name} show FILE, {name} diff OLD NEW\n\n"
         f"{verbs}\n{own}\nAn example{'' if os.path.isabs(folder) else ', at the top of the repository'}:\n{example}\n"
         f"{STATUSES}\nThe manual: {manual}\n"
     )
@@ -103,6 +118,10 @@ def help_text(name, manual, folder):
 
 def help_of(verb, name, manual):
     """Returns the help of one verb."""
+    if verb in SHOWING:
+        does, words = SHOWING[verb]
+        meant = "".join(f"  {word:23} {means}\n" for word, means in SHOWING_WORDS.items() if word in words)
+        return f"{name} {verb} {does}.\n\n  {name} {verb} {words}\n\n{meant}\nThe manual: {manual}\n"
     options = "".join(f"  {option + ' ' + value:23} {OPTIONS[option]}\n" for option, value in options_of(verb).items())
     free = "".join(f"  ({option.strip('[]')} may be left out)\n" for option in VERBS[verb][1].split() if option.startswith("["))
     return f"{name} {verb} {VERBS[verb][0]}.\n\n  {name} {verb}\n{wrapped(VERBS[verb][1], ' ' * 4)}\n{options}{free}\nThe manual: {manual}\n"
@@ -112,4 +131,4 @@ def nearest(word):
     """Returns the verb that a word may have meant, or None."""
     import difflib
 
-    return next(iter(difflib.get_close_matches(word.lower(), VERBS, 1, 0.6)), None)
+    return next(iter(difflib.get_close_matches(word.lower(), {**VERBS, **SHOWING}, 1, 0.6)), None)
