@@ -274,12 +274,18 @@ fn report_of<'a>(alloc: Global, name: &str, bytes: &'a [u8]) -> Result<Report<'a
 
 /// The stop at which it is said where a file stops being a report.
 fn no_report(alloc: Global, name: &str, fault: Fault) -> Stop {
+    let title = title_of(name);
     let line = fault.line;
     let expected = fault.expected.text();
-    match format!(in alloc; "{name} is no report: in line {line} there should be {expected}.\n") {
+    match format!(in alloc; "{title} is no report: in line {line} there should be {expected}.\n") {
         Ok(text) => sentence(alloc, text.as_str(), End::NoReport),
         Err(AllocError) => Stop::Memory,
     }
+}
+
+/// What a file is called in a sentence.
+fn title_of(name: &str) -> &str {
+    if name == "-" { "standard input" } else { name }
 }
 
 /// The bytes of a file.
@@ -293,7 +299,8 @@ fn bytes_of<R: Files + Input>(rt: &R, alloc: Global, name: &str) -> Result<Vec<u
             Err(sentence(alloc, text.as_str(), End::NoFile))
         }
         Err(_) => {
-            let text = format!(in alloc; "The file {name} can't be read.\n")?;
+            let title = title_of(name);
+            let text = format!(in alloc; "{title} can't be read.\n")?;
             Err(sentence(alloc, text.as_str(), End::NoFile))
         }
     }
@@ -304,7 +311,8 @@ fn of_a_length(alloc: Global, name: &str, bytes: Vec<u8>) -> Result<Vec<u8>, Sto
     if (bytes.len() as u64) < LONGEST_FILE {
         return Ok(bytes);
     }
-    let text = format!(in alloc; "{name} is no report: it has {LONGEST_FILE} bytes or more.\n")?;
+    let title = title_of(name);
+    let text = format!(in alloc; "{title} is no report: it has {LONGEST_FILE} bytes or more.\n")?;
     Err(sentence(alloc, text.as_str(), End::NoReport))
 }
 
