@@ -33,6 +33,9 @@ use xs_value::OutOfMemory;
 /// How many clauses more than twice those that it begins with a search may have.
 const SLACK: usize = 200;
 
+/// How many clauses a search may have learned until it is made anew.
+const MOST_LEARNED: usize = 20_000;
+
 /// What is asked about beside a frame.
 #[derive(Clone, Copy, Debug, PartialEq, Eq)]
 pub enum Beside {
@@ -213,9 +216,11 @@ impl Guarded {
         both(self.past.work, self.search.work())
     }
 
-    /// Whether the search has no more clauses than it may have.
+    /// Whether the search has no more clauses than it may have, given and learned.
     pub fn is_small(&self) -> bool {
-        self.search.count() <= self.past.most
+        let learned = self.search.learned();
+        let given = self.search.count().saturating_sub(learned);
+        given <= self.past.most && learned <= MOST_LEARNED
     }
 
     /// Notes what the searches before this one did. It may have twice the clauses that it has now.

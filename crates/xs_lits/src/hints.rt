@@ -20,7 +20,7 @@ use crate::step::{Step, StepFault};
 use crate::truth::truth_of_lits;
 
 /// Whether the step's clause follows by its hints. The trail is free before and after. Takes no memory.
-pub(crate) fn follow(trail: &mut Trail, clauses: &ClauseStore, step: &Step) -> Result<(), StepFault>
+pub fn follow(trail: &mut Trail, clauses: &ClauseStore, step: &Step) -> Result<(), StepFault>
     requires free { trail.old ≡ all_free (length trail.old - 1) }
     requires list_in_range { All (All (IsInRange trail.old)) clauses.now.clauses }
     requires in_range { All (IsInRange trail.old) step.now.clause }

@@ -406,8 +406,8 @@ fn counted(
 fn forgets_what_refuted(rt: HostRuntime) -> Result<(), Fail> {
     let alloc = rt.alloc();
     let kept = counted(alloc, Search::new(alloc, 2, KeepNone)?)?;
-    assert_eq!(rt; kept, ((MODEL, 1, MODEL), 3));
+    assert_eq!(rt; kept, ((MODEL, 1, MODEL), 4));
     let forgotten = counted(alloc, Search::forgetful(alloc, 2)?)?;
-    assert_eq!(rt; forgotten, ((MODEL, 1, MODEL), 2));
+    assert_eq!(rt; forgotten, ((MODEL, 1, MODEL), 3));
     Ok(())
 }

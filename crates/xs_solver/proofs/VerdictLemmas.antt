@@ -64,7 +64,7 @@ only_true False f u n = absurd (f refl)
 only_true (UnitClause l) f u n = absurd (u l refl)
 only_true Unknown f u n = absurd (n refl)
 
-All-first : (P : List Literal → Type 0) (ss : List Step) (cs : List (List Literal)) → All P (with_steps cs ss) → All P cs
+pub All-first : (P : List Literal → Type 0) (ss : List Step) (cs : List (List Literal)) → All P (with_steps cs ss) → All P cs
 All-first P [] cs all = all
 All-first P (s ∷ ss) cs all = front cs (All-first P ss (cs ++ s.clause ∷ []) all) where
   front : (ds : List (List Literal)) → All P (ds ++ s.clause ∷ []) → All P ds
@@ -81,7 +81,7 @@ solution vars givens ds assumptions a kept_old kept_new grows places full = reco
 }
 
 -- steps keep all models
-all_follow : (vars : ℕ) (v : TotalAssignment) (ss : List Step) (cs : List (List Literal)) → AreSteps vars cs ss → Satisfies v cs → Satisfies v (with_steps cs ss)
+pub all_follow : (vars : ℕ) (v : TotalAssignment) (ss : List Step) (cs : List (List Literal)) → AreSteps vars cs ss → Satisfies v cs → Satisfies v (with_steps cs ss)
 all_follow vars v [] cs steps model = model
 all_follow vars v (s ∷ ss) cs steps model =
     all_follow vars v ss (cs ++ s.clause ∷ []) steps.1

@@ -95,6 +95,13 @@ impl Arena {
         })
     }
 
+    /// The clauses, as they lie.
+    pub(crate) fn stored(&self) -> &ClauseStore
+        ensures { result.now.clauses ≡ self.now.clauses }
+    {
+        &self.clauses
+    }
+
     /// How many literals were made true so far, one for each time, up to the end of a 64-bit number.
     pub fn literals_set(&self) -> u64 {
         self.set

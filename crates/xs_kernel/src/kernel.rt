@@ -1,0 +1,367 @@
+//! The kernel: its clauses, its trail, and one question after the other.
+ghost use Rattle.std.specs.Prelude.{◌≡◌, ◌<◌, ◌^◌};
+
+use crate::analysis::literal;
+use crate::clauses::{Clauses, at, exchange, put, small};
+use crate::trail::{FALSE, FREE, TRUE, Trail};
+use std::alloc::Global;
+use xs_adviser::Panel;
+use xs_lits::lit::Lit;
+use xs_lits::step::Step;
+use xs_value::OutOfMemory;
+
+/// How many learned clauses are kept from one question to the next.
+const MOST_LESSONS: usize = 1000;
+
+/// How many more may be kept each time that the older half was forgotten.
+const MORE_LESSONS: usize = 200;
+
+/// What a kernel proposes.
+#[derive(Drop)]
+pub enum Proposal {
+    /// All clauses and assumptions are true under the values that it has, where each free variable is false.
+    Model,
+    /// The clause of this step refutes the assumptions.
+    Core(Step),
+    /// It has no answer.
+    Nothing,
+}
+
+/// A search over all clauses that were added so far.
+#[derive(Drop)]
+pub struct Kernel {
+    pub alloc: Global,
+    pub vars: u32,
+    pub clauses: Clauses,
+    pub trail: Trail,
+    /// The places of the given clauses.
+    pub given: Vec<u32>,
+    /// The places of those that were learned, and how many there may be.
+    lessons: Vec<u32>,
+    most: usize,
+    /// Those that were not looked at since they were added.
+    fresh: Vec<u32>,
+    /// The given clause at which looking for one that does not hold ended.
+    pub open: usize,
+    /// Marked variables, and a list of them.
+    pub marks: Vec<bool>,
+    pub marked: Vec<usize>,
+    /// What the last analysis learned, and the clauses that it used by places on the trail.
+    pub learned: Vec<u32>,
+    pub used: Vec<u64>,
+    pub lits: Vec<Lit>,
+    /// How many literals at the beginning of the trail are learned as clauses of their own.
+    settled: usize,
+    /// The steps of the present question.
+    steps: Vec<Step>,
+    /// The number of the next clause that is learned.
+    next: u32,
+    /// How many literals were made true, and how many clauses were visited.
+    pub set: u64,
+    pub visited: u64,
+    /// How many clauses a search would have visited that looks through all of them for each literal.
+    pub listed: u64,
+}
+
+impl Kernel {
+    /// No clause and no variable yet.
+    pub fn new(alloc: Global) -> Result<Kernel, OutOfMemory> {
+        let mut kernel = Kernel {
+            alloc,
+            vars: 0,
+            clauses: Clauses::new(alloc),
+            trail: Trail::new(alloc),
+            given: Vec::new(alloc),
+            lessons: Vec::new(alloc),
+            most: MOST_LESSONS,
+            fresh: Vec::new(alloc),
+            open: 0,
+            marks: Vec::new(alloc),
+            marked: Vec::new(alloc),
+            learned: Vec::new(alloc),
+            used: Vec::new(alloc),
+            lits: Vec::new(alloc),
+            settled: 0,
+            steps: Vec::new(alloc),
+            next: 1,
+            set: 0,
+            visited: 0,
+            listed: 0,
+        };
+        // (there is no variable 0, but a place for it)
+        kernel.make_room()?;
+        Ok(kernel)
+    }
+
+    /// The codes of the clause at a place.
+    pub fn lits_of(&self, place: u32) -> &[u32] {
+        self.clauses.lits(place)
+    }
+
+    /// The number of the clause at a place, for who asks.
+    pub fn number_of(&self, place: u32) -> u32 {
+        self.clauses.number(place)
+    }
+
+    /// Makes room for one variable.
+    fn make_room(&mut self) -> Result<(), OutOfMemory> {
+        self.clauses.more()?;
+        self.trail.more()?;
+        self.marks.push(false)?;
+        Ok(())
+    }
+
+    /// One more variable.
+    pub fn more(&mut self) -> Result<(), OutOfMemory> {
+        self.vars = self.vars.checked_add(1).ok_or(OutOfMemory)?;
+        if self.vars >= 0x4000_0000 {
+            return Err(OutOfMemory);
+        }
+        self.make_room()
+    }
+
+    /// Adds a clause with its number.
+    pub fn add(&mut self, lits: &[Lit], number: u64) -> Result<(), OutOfMemory> {
+        self.learned.clear();
+        for lit in lits {
+            let code = u32::try_from(lit.code()).or(Err(OutOfMemory))?;
+            if self.learned.contains(&(code ^ 1)) {
+                return Ok(());
+            }
+            if !self.learned.contains(&code) {
+                self.learned.push(code)?;
+            }
+        }
+        let number = u32::try_from(number).or(Err(OutOfMemory))?;
+        self.put_free_first();
+        let place = self.clauses.append(self.learned.as_slice(), number, false)?;
+        self.clauses.attach(place)?;
+        self.given.push(place)?;
+        self.fresh.push(place)?;
+        Ok(())
+    }
+
+    /// Puts two literals that are not false first.
+    fn put_free_first(&mut self) {
+        let mut front = 0;
+        for i in 0..self.learned.len() {
+            if front < 2 && self.trail.value(at(&self.learned, i)) != FALSE {
+                exchange(&mut self.learned, front, i);
+                front = front.saturating_add(1);
+            }
+        }
+    }
+
+    /// The steps by which the clauses followed that the last question learned, in order.
+    pub fn take_steps(&mut self) -> Vec<Step> {
+        let alloc = self.alloc;
+        std::mem::replace(&mut self.steps, Vec::new(alloc))
+    }
+
+    /// Whether a variable is true where all that are free are false.
+    pub fn is_true(&self, var: u64) -> bool {
+        match u32::try_from(var) {
+            Ok(var) => self.trail.value(var.wrapping_mul(2)) == TRUE,
+            Err(_) => false,
+        }
+    }
+
+    /// Takes back all that a question made true.
+    pub fn settle(&mut self) {
+        self.trail.undo(0);
+    }
+
+    /// Looks for an assignment that makes all clauses and the assumptions true, where so many clauses are numbered. Before the next
+    /// question and the next clause comes `settle`.
+    pub fn ask(
+        &mut self,
+        assumptions: &[Lit],
+        count: u64,
+        panel: &mut Panel,
+    ) -> Result<Proposal, OutOfMemory>
+        requires { count < 2 ^ 64 }
+        ensures vars { panel.new.vars ≡ panel.old.vars }
+        ensures rotated { panel.new.rotated ≡ panel.old.rotated }
+    {
+        let vars = self.vars;
+        let next = count.checked_add(1).ok_or(OutOfMemory)?;
+        self.next = u32::try_from(next).or(Err(OutOfMemory))?;
+        self.trail.undo(0);
+        if let Some(place) = self.look_at_fresh()? {
+            return self.contradiction(place);
+        }
+        for _ in 0..u64::MAX {
+            if let Some(place) = self.propagate()? {
+                if self.trail.level() == 0 {
+                    return self.contradiction(place);
+                }
+                self.learn(place, panel)?;
+            } else if self.trail.level() == 0 && self.settle_units()? {
+                continue;
+            } else if let Some(proposal) = self.go_on(assumptions, vars, panel)? {
+                return Ok(proposal);
+            }
+        }
+        Ok(Proposal::Nothing)
+    }
+
+    /// Forgets the older half of what was learned, where that is much.
+    fn forget(&mut self) -> Result<(), OutOfMemory> {
+        if self.lessons.len() < self.most {
+            return Ok(());
+        }
+        let alloc = self.alloc;
+        let old = std::mem::replace(&mut self.clauses, Clauses::new(alloc));
+        for _ in 0..=self.vars {
+            self.clauses.more()?;
+        }
+        let given = std::mem::replace(&mut self.given, Vec::new(alloc));
+        for place in &given {
+            let copy = self.copy_of(&old, *place, false)?;
+            self.given.push(copy)?;
+        }
+        let lessons = std::mem::replace(&mut self.lessons, Vec::new(alloc));
+        self.most = self.most.saturating_add(MORE_LESSONS);
+        let half = lessons.len() / 2;
+        for place in lessons.iter().skip(half) {
+            let copy = self.copy_of(&old, *place, true)?;
+            self.lessons.push(copy)?;
+        }
+        Ok(())
+    }
+
+    /// Copies a clause, with two literals first that are not false, and answers its place.
+    fn copy_of(&mut self, old: &Clauses, place: u32, is_learned: bool) -> Result<u32, OutOfMemory> {
+        self.learned.clear();
+        self.learned.extend_from_slice(old.lits(place))?;
+        self.put_free_first();
+        let copy = self
+            .clauses
+            .append(self.learned.as_slice(), old.number(place), is_learned)?;
+        self.clauses.attach(copy)?;
+        Ok(copy)
+    }
+
+    /// Looks at the clauses that were added since the last question: those that are unit give a value, and one that is false is
+    /// answered.
+    fn look_at_fresh(&mut self) -> Result<Option<u32>, OutOfMemory> {
+        for i in 0..self.fresh.len() {
+            let place = at(&self.fresh, i);
+            let lits = self.lits_of(place);
+            let first = at(lits, 0);
+            let second = at(lits, 1);
+            let is_short = lits.len() < 2 || self.trail.value(second) == FALSE;
+            let known = if lits.is_empty() {
+                FALSE
+            } else {
+                self.trail.value(first)
+            };
+            if known == FALSE {
+                return Ok(Some(place));
+            }
+            if is_short && known == FREE {
+                self.trail.set(first, place.saturating_add(1))?;
+            }
+        }
+        self.fresh.clear();
+        self.forget()?;
+        Ok(None)
+    }
+
+    /// Learns the literals that are true without any assumption as clauses of their own, and answers whether there was a new one.
+    fn settle_units(&mut self) -> Result<bool, OutOfMemory> {
+        let mut is_new = false;
+        for i in self.settled..self.trail.codes.len() {
+            let code = at(&self.trail.codes, i);
+            self.settle_unit(code)?;
+            self.settled = self.settled.saturating_add(1);
+            is_new = true;
+        }
+        Ok(is_new)
+    }
+
+    /// Learns a literal as a clause of its own.
+    fn settle_unit(&mut self, code: u32) -> Result<(), OutOfMemory> {
+        let var = (code / 2) as usize;
+        let by = at(&self.trail.reasons, var).saturating_sub(1);
+        if self.lits_of(by).len() == 1 {
+            let number = self.number_of(by);
+            put(&mut self.trail.units, var, number);
+            return Ok(());
+        }
+        self.imply(code, by)?;
+        put(&mut self.trail.units, var, self.next);
+        let step = self.step()?;
+        self.take_step(step)
+    }
+
+    /// Keeps a step.
+    fn take_step(&mut self, step: Step) -> Result<(), OutOfMemory> {
+        self.steps.push(step)?;
+        self.next = self.next.checked_add(1).ok_or(OutOfMemory)?;
+        Ok(())
+    }
+
+    /// Learns from a clause that is false, and goes back.
+    fn learn(&mut self, place: u32, panel: &mut Panel) -> Result<(), OutOfMemory>
+        requires { place < 2 ^ 32 }
+        ensures vars { panel.new.vars ≡ panel.old.vars }
+        ensures rotated { panel.new.rotated ≡ panel.old.rotated }
+    {
+        let back = self.analyse(place)?;
+        let step = self.step()?;
+        panel.learned(step.clause.lits());
+        let number = self.next;
+        self.take_step(step)?;
+        let learned = self.clauses.append(self.learned.as_slice(), number, true)?;
+        self.clauses.attach(learned)?;
+        self.lessons.push(learned)?;
+        self.trail.undo(back);
+        let first = at(&self.learned, 0);
+        self.trail.set(first, learned.saturating_add(1))
+    }
+
+    /// That the clause at a place is false without any assumption.
+    fn contradiction(&mut self, place: u32) -> Result<Proposal, OutOfMemory> {
+        let _is_new = self.settle_units()?;
+        self.imply(0, place)?;
+        Ok(Proposal::Core(self.step()?))
+    }
+
+    /// The next assumption, or choice, is made true; or an answer is given.
+    fn go_on(
+        &mut self,
+        assumptions: &[Lit],
+        vars: u32,
+        panel: &mut Panel,
+    ) -> Result<Option<Proposal>, OutOfMemory>
+        requires { vars < 2 ^ 32 }
+        ensures vars { panel.new.vars ≡ panel.old.vars }
+        ensures rotated { panel.new.rotated ≡ panel.old.rotated }
+    {
+        if let Some(lit) = assumptions.get(self.trail.level()) {
+            let code = u32::try_from(lit.code()).or(Err(OutOfMemory))?;
+            let value = self.trail.value(code);
+            if value == FALSE {
+                self.refute(code)?;
+                return Ok(Some(Proposal::Core(self.step()?)));
+            }
+            self.trail.begin_level()?;
+            if value == FREE {
+                self.trail.set(code, 0)?;
+            }
+            return Ok(None);
+        }
+        if !self.is_open() {
+            return Ok(Some(Proposal::Model));
+        }
+        match self.choose(vars, panel) {
+            Some(code) => {
+                self.trail.begin_level()?;
+                self.trail.set(code, 0)?;
+                Ok(None)
+            }
+            None => Ok(Some(Proposal::Nothing)),
+        }
+    }
+}
