@@ -232,6 +232,13 @@ impl Guarded {
         self.past = Past { work, most };
     }
 
+    /// Has the search make these literals false before any other choice where it is asked about bad states.
+    pub fn shun(&mut self, lits: &[Lit])
+        ensures { self.new ≡ self.old }
+    {
+        self.search.shun(self.bad, lits);
+    }
+
     /// Adds a clause as it is.
     fn put(&mut self, clause: &Clause) -> Result<(), OutOfMemory>
         requires well { IsWell self.old }

@@ -36,12 +36,31 @@ impl Kernel {
         found.is_some()
     }
 
-    /// The code of a literal over the variables up to this one to make true: the adviser's, where it is free, and else the least free variable's negation.
+    /// The first wish that is free, as long as the question has met few conflicts.
+    fn wished(&mut self) -> Option<u32> {
+        if self.patience == 0 {
+            return None;
+        }
+        for i in self.granted..self.wishes.len() {
+            let code = at(&self.wishes, i);
+            if self.trail.value(code) == FREE {
+                return Some(code);
+            }
+            self.granted = i;
+        }
+        None
+    }
+
+    /// The code of a literal over the variables up to this one to make true: a wish, or else the adviser's, where it is free, and else the
+    /// least free variable's negation.
     pub fn choose(&mut self, vars: u32, panel: &mut Panel) -> Option<u32>
         requires { vars < 2 ^ 32 }
         ensures vars { panel.new.vars ≡ panel.old.vars }
         ensures rotated { panel.new.rotated ≡ panel.old.rotated }
     {
+        if let Some(code) = self.wished() {
+            return Some(code);
+        }
         let code = panel.pick();
         if code >= 2 && code / 2 <= u64::from(vars) {
             let code = (code & 0xffff_ffff) as u32;

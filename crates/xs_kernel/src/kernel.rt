@@ -16,6 +16,9 @@ const MOST_LESSONS: usize = 1000;
 /// How many more may be kept each time that the older half was forgotten.
 const MORE_LESSONS: usize = 200;
 
+/// After how many conflicts of a question its wishes are given up.
+const PATIENCE: u32 = 20;
+
 /// What a kernel proposes.
 #[derive(Drop)]
 pub enum Proposal {
@@ -39,8 +42,16 @@ pub struct Kernel {
     /// The places of those that were learned, and how many there may be.
     lessons: Vec<u32>,
     most: usize,
-    /// Those that were not looked at since they were added.
+    /// Those that were not looked at since they were added, and that nobody watches for.
     fresh: Vec<u32>,
+    /// The assumptions of the last question, the first of which are those of the trail's levels.
+    asked: Vec<u32>,
+    /// What is chosen before anything else where this literal is assumed, and how many of these are known not to be free.
+    guard: Lit,
+    pub wishes: Vec<u32>,
+    pub granted: usize,
+    /// How many more conflicts the present question may meet until its wishes are given up.
+    pub patience: u32,
     /// The given clause at which looking for one that does not hold ended.
     pub open: usize,
     /// Marked variables, and a list of them.
@@ -75,6 +86,11 @@ impl Kernel {
             lessons: Vec::new(alloc),
             most: MOST_LESSONS,
             fresh: Vec::new(alloc),
+            asked: Vec::new(alloc),
+            guard: Lit::new(1, false),
+            wishes: Vec::new(alloc),
+            granted: 0,
+            patience: 0,
             open: 0,
             marks: Vec::new(alloc),
             marked: Vec::new(alloc),
@@ -133,21 +149,23 @@ impl Kernel {
             }
         }
         let number = u32::try_from(number).or(Err(OutOfMemory))?;
-        self.put_free_first();
         let place = self.clauses.append(self.learned.as_slice(), number, false)?;
-        self.clauses.attach(place)?;
         self.given.push(place)?;
         self.fresh.push(place)?;
         Ok(())
     }
 
-    /// Puts two literals that are not false first.
-    fn put_free_first(&mut self) {
-        let mut front = 0;
-        for i in 0..self.learned.len() {
-            if front < 2 && self.trail.value(at(&self.learned, i)) != FALSE {
-                exchange(&mut self.learned, front, i);
-                front = front.saturating_add(1);
+    /// Has these literals made false before any other choice in the questions that assume a guard, in this order, as long as a question
+    /// meets few conflicts. Where there is no memory for all of them the last ones are not.
+    pub fn shun(&mut self, guard: Lit, lits: &[Lit]) {
+        self.guard = guard;
+        self.wishes.clear();
+        for lit in lits {
+            let Ok(code) = u32::try_from(lit.code()) else {
+                return;
+            };
+            if self.wishes.push(code ^ 1).is_err() {
+                return;
             }
         }
     }
@@ -166,13 +184,8 @@ impl Kernel {
         }
     }
 
-    /// Takes back all that a question made true.
-    pub fn settle(&mut self) {
-        self.trail.undo(0);
-    }
-
-    /// Looks for an assignment that makes all clauses and the assumptions true, where so many clauses are numbered. Before the next
-    /// question and the next clause comes `settle`.
+    /// Looks for an assignment that makes all clauses and the assumptions true, where so many clauses are numbered. What the first
+    /// assumptions made true stays where the question before began with the same.
     pub fn ask(
         &mut self,
         assumptions: &[Lit],
@@ -186,7 +199,7 @@ impl Kernel {
         let vars = self.vars;
         let next = count.checked_add(1).ok_or(OutOfMemory)?;
         self.next = u32::try_from(next).or(Err(OutOfMemory))?;
-        self.trail.undo(0);
+        self.begin(assumptions)?;
         if let Some(place) = self.look_at_fresh()? {
             return self.contradiction(place);
         }
@@ -196,7 +209,7 @@ impl Kernel {
                     return self.contradiction(place);
                 }
                 self.learn(place, panel)?;
-            } else if self.trail.level() == 0 && self.settle_units()? {
+            } else if self.trail.level() == 0 && self.is_unsettled()? {
                 continue;
             } else if let Some(proposal) = self.go_on(assumptions, vars, panel)? {
                 return Ok(proposal);
@@ -205,11 +218,62 @@ impl Kernel {
         Ok(Proposal::Nothing)
     }
 
-    /// Forgets the older half of what was learned, where that is much.
-    fn forget(&mut self) -> Result<(), OutOfMemory> {
-        if self.lessons.len() < self.most {
-            return Ok(());
+    /// Whether so much is learned that some of it is forgotten.
+    fn has_many(&self) -> bool {
+        self.lessons.len() >= self.most
+    }
+
+    /// Where nothing is assumed, learns what is true without any assumption, or forgets where much is learned; answers whether there was
+    /// something to do.
+    fn is_unsettled(&mut self) -> Result<bool, OutOfMemory> {
+        if self.settle_units()? {
+            return Ok(true);
         }
+        if !self.has_many() {
+            return Ok(false);
+        }
+        self.forget()?;
+        Ok(true)
+    }
+
+    /// Begins a question: takes back what does not follow from the assumptions that it begins with as the one before did.
+    fn begin(&mut self, assumptions: &[Lit]) -> Result<(), OutOfMemory> {
+        self.patience = if assumptions.contains(&self.guard) {
+            PATIENCE
+        } else {
+            0
+        };
+        self.granted = 0;
+        let same = self.count_same(assumptions);
+        self.trail.undo(same);
+        self.asked.truncate(same);
+        for lit in assumptions.iter().skip(self.asked.len()) {
+            let code = u32::try_from(lit.code()).or(Err(OutOfMemory))?;
+            self.asked.push(code)?;
+        }
+        if self.has_many() {
+            self.trail.undo(0);
+        }
+        Ok(())
+    }
+
+    /// How many levels of the trail are those of the first assumptions.
+    fn count_same(&self, assumptions: &[Lit]) -> usize {
+        let mut same = 0;
+        for lit in assumptions
+            .iter()
+            .take(self.trail.level().min(self.asked.len()))
+        {
+            if u64::from(at(&self.asked, same)) != lit.code() {
+                return same;
+            }
+            same = same.saturating_add(1);
+        }
+        same
+    }
+
+    /// Forgets the older half of what was learned, at the beginning of a trail.
+    fn forget(&mut self) -> Result<(), OutOfMemory> {
         let alloc = self.alloc;
         let old = std::mem::replace(&mut self.clauses, Clauses::new(alloc));
         for _ in 0..=self.vars {
@@ -232,40 +296,71 @@ impl Kernel {
 
     /// Copies a clause, with two literals first that are not false, and answers its place.
     fn copy_of(&mut self, old: &Clauses, place: u32, is_learned: bool) -> Result<u32, OutOfMemory> {
-        self.learned.clear();
-        self.learned.extend_from_slice(old.lits(place))?;
-        self.put_free_first();
         let copy = self
             .clauses
-            .append(self.learned.as_slice(), old.number(place), is_learned)?;
+            .append(old.lits(place), old.number(place), is_learned)?;
+        let _is_free = self.is_free(copy);
         self.clauses.attach(copy)?;
         Ok(copy)
     }
 
-    /// Looks at the clauses that were added since the last question: those that are unit give a value, and one that is false is
-    /// answered.
-    fn look_at_fresh(&mut self) -> Result<Option<u32>, OutOfMemory> {
+    /// Puts two literals of the clause at a place first that are not false, and answers whether there are two.
+    fn is_free(&mut self, place: u32) -> bool {
+        let Some(span) = self.clauses.spans.get(place as usize).copied() else {
+            return false;
+        };
+        let mut front = span.start;
+        let enough = span.start.saturating_add(2);
+        for i in span.start..span.end {
+            let code = at(&self.clauses.codes, i as usize);
+            if front < enough && self.trail.value(code) != FALSE {
+                exchange(&mut self.clauses.codes, front as usize, i as usize);
+                front = front.saturating_add(1);
+            }
+        }
+        front == enough
+    }
+
+    /// Whether each clause that was added since the last question has two literals that are not false.
+    fn are_fresh_free(&mut self) -> bool {
         for i in 0..self.fresh.len() {
             let place = at(&self.fresh, i);
-            let lits = self.lits_of(place);
-            let first = at(lits, 0);
-            let second = at(lits, 1);
-            let is_short = lits.len() < 2 || self.trail.value(second) == FALSE;
-            let known = if lits.is_empty() {
-                FALSE
-            } else {
-                self.trail.value(first)
-            };
-            if known == FALSE {
-                return Ok(Some(place));
+            if !self.is_free(place) {
+                return false;
             }
-            if is_short && known == FREE {
-                self.trail.set(first, place.saturating_add(1))?;
+        }
+        true
+    }
+
+    /// Has the clauses that were added since the last question watch two literals: those that are unit give a value, and one that is
+    /// false is answered. What was made true is taken back where one of them has less than two literals left.
+    fn look_at_fresh(&mut self) -> Result<Option<u32>, OutOfMemory> {
+        if !self.are_fresh_free() {
+            self.trail.undo(0);
+        }
+        for i in 0..self.fresh.len() {
+            let place = at(&self.fresh, i);
+            let is_free = self.is_free(place);
+            self.clauses.attach(place)?;
+            if !is_free && self.is_broken(place)? {
+                return Ok(Some(place));
             }
         }
         self.fresh.clear();
-        self.forget()?;
         Ok(None)
+    }
+
+    /// Makes the one literal of a clause true that is not false, and answers whether there is none.
+    fn is_broken(&mut self, place: u32) -> Result<bool, OutOfMemory> {
+        let lits = self.lits_of(place);
+        let first = at(lits, 0);
+        if lits.is_empty() || self.trail.value(first) == FALSE {
+            return Ok(true);
+        }
+        if self.trail.value(first) == FREE {
+            self.trail.set(first, place.saturating_add(1))?;
+        }
+        Ok(false)
     }
 
     /// Learns the literals that are true without any assumption as clauses of their own, and answers whether there was a new one.
@@ -308,6 +403,8 @@ impl Kernel {
         ensures vars { panel.new.vars ≡ panel.old.vars }
         ensures rotated { panel.new.rotated ≡ panel.old.rotated }
     {
+        self.patience = self.patience.saturating_sub(1);
+        self.granted = 0;
         let back = self.analyse(place)?;
         let step = self.step()?;
         panel.learned(step.clause.lits());
