@@ -1,5 +1,6 @@
 use Rattle.std.proofs.Common.{◌≡◌, [], ◌∙◌, sym, ap, subst, arith, ◌<◌, ◌≤◌, ◌-◌, ◌+◌, ℕ, length, slice_index_or}
 use Rattle.std.proofs.lemmas.Grind.{common_steps}
+use Rattle.xs_frames.specs.Apart.{IsKept}
 use Rattle.xs_frames.specs.Bits.{read_from}
 use Rattle.xs_frames.specs.Chain.{IsState}
 use Rattle.xs_frames.specs.Framed.{InNumber}
@@ -11,6 +12,9 @@ use Rattle.xs_frames.proofs.LevelLaws.{level_is, level_low, owed_fits}
 use Rattle.xs_frames.proofs.OwedLemmas.{look_newest, newest_inside}
 use Rattle.xs_frames.proofs.PartLemmas.{kept_stays}
 use Rattle.xs_frames.proofs.clear.look_once.Goals as goal
+
+pub look_for_bad-requires-clause-kept : goal.look_for_bad-requires-clause-kept
+look_for_bad-requires-clause-kept g c = subst (IsKept c.args.system.now c.args.bad.now (frames_of c.args.frames.now)) (sym c.shun.ensures) c.requires.kept
 
 pub level_of-level-requires-clause-fits : goal.level_of-level-requires-clause-fits
 level_of-level-requires-clause-fits g c = owed_fits c.args.frames.now (length c.args.owed.now) c.requires.owed.fits
