@@ -2,6 +2,7 @@ mod Finding
 mod SiteLaws
 mod Loops
 mod SetLaws
+mod OrderLaws
 mod StepLaws
 pub mod TraceLaws
 mod Exactly

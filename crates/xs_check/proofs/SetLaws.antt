@@ -42,13 +42,13 @@ apart_where s t f = by_tests (is_contained s t) (is_contained t s) refl refl
     by_tests false true e d = absurd (f.1 (contained_then t s d))
     by_tests false false e d = refl
 
-passed : {A : Type 0} (p : A → Bool) (xs : List A) (k j : ℕ) (x : A) → list_all p (take k xs) ≡ true → j < k → slice_get xs j ≡ Some x → p x ≡ true
+pub passed : {A : Type 0} (p : A → Bool) (xs : List A) (k j : ℕ) (x : A) → list_all p (take k xs) ≡ true → j < k → slice_get xs j ≡ Some x → p x ≡ true
 passed p [] k j x e l at = absurd (none_some x at)
 passed p (y ∷ ys) zero j x e l at = absurd (omega (arith, l))
 passed p (y ∷ ys) (suc k) zero x e l at = subst (λ z. p z ≡ true) (some_same y x at) (and_parts (p y) (list_all p (take k ys)) e).0
 passed p (y ∷ ys) (suc k) (suc j) x e l at = passed p ys k j x (and_parts (p y) (list_all p (take k ys)) e).1 (omega (arith, l)) at
 
-passes : {A : Type 0} (p : A → Bool) (xs : List A) (k : ℕ) → ((j : ℕ) (x : A) → j < k → slice_get xs j ≡ Some x → p x ≡ true) → list_all p (take k xs) ≡ true
+pub passes : {A : Type 0} (p : A → Bool) (xs : List A) (k : ℕ) → ((j : ℕ) (x : A) → j < k → slice_get xs j ≡ Some x → p x ≡ true) → list_all p (take k xs) ≡ true
 passes p [] zero f = refl
 passes p [] (suc k) f = refl
 passes p (y ∷ ys) zero f = refl

@@ -9,6 +9,7 @@ ghost use Rattle.xs_certificate_laws.specs.Sites.{set_sites};
 ghost use Rattle.xs_check.specs.Asked.{asked};
 ghost use Rattle.xs_check.specs.Fit.{CanBeJudged, IsFit, IsShortText};
 ghost use Rattle.xs_check.specs.Found.{Finds};
+ghost use Rattle.xs_check.specs.Order.{AreInOrder};
 
 use crate::judged::Judged;
 use crate::question::Question;
@@ -36,7 +37,7 @@ pub(crate) fn judge_sets(alloc: Global, q: &Question<'_>) -> Result<Judged, OutO
     Ok(Judged::Yes)
 }
 
-/// Judges the set of a place, at this line, and then its trace.
+/// Judges the set of a place, at this line, and then its trace. The sets before it are in order.
 fn judge_set(
     alloc: Global,
     q: &Question<'_>,
@@ -47,6 +48,7 @@ fn judge_set(
 ) -> Result<Judged, OutOfMemory>
     requires fit { IsFit (asked q.now).model (asked q.now).modes (asked q.now).top }
     requires set { slice_get q.now.certificate.now.sets k ≡ Some set.now }
+    requires order { AreInOrder q.now.certificate.now.sets k }
     requires short { IsShortText text.now }
     requires line { line ≡ 4 + lines_of_sets (take k q.now.certificate.now.traces) }
     requires room { line + 1 < 2 ^ 64 }

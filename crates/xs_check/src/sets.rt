@@ -1,18 +1,19 @@
 //! The numbers of a certificate and its sets: rules 1 to 3.
 //!
-//! [`has_numbers`] judges the numbers of the certificate, and [`set_rule`] a set at its place in the list.
+//! [`has_numbers`] judges the numbers of the certificate, and [`set_rule`] a set at its place in the list. The sets before that place
+//! are in order, smaller ones first, so that a set is compared with the smaller ones alone.
 
-ghost use Rattle.std.specs.Prelude.{◌≡◌, ◌↔◌, ◌<◌, ◌≤◌, ◌&&◌, IsTrue, Some, slice_get, length, All, take};
+ghost use Rattle.std.specs.Prelude.{◌≡◌, ◌↔◌, ◌+◌, ◌<◌, ◌≤◌, ◌&&◌, IsTrue, Some, slice_get, length, All, take};
 ghost use Rattle.std.specs.List.{list_all};
 ghost use Rattle.xs_sets.specs.Tests.{are_apart as apart};
 ghost use Rattle.xs_certificate_laws.specs.Certificate.{a_set};
 ghost use Rattle.xs_certificate_laws.specs.Accepted.{HasNumbers, IsSetAt};
 ghost use Rattle.xs_check.specs.Asked.{asked};
-ghost use Rattle.xs_check.specs.Order.{is_after_in};
+ghost use Rattle.xs_check.specs.Order.{is_after_in, AreInOrder};
 ghost use Rattle.xs_check.specs.Found.{FindsAt};
 
 use crate::question::Question;
-use xs_sets::{are_apart, is_rising, stands_before};
+use xs_sets::{is_contained, is_rising, stands_before};
 use xs_value::FaultSet;
 
 /// Whether the numbers of bits and of faults are the model's, and the size is none above the latter.
@@ -29,9 +30,10 @@ pub(crate) fn has_numbers(q: &Question<'_>) -> bool
     c.size <= c.faults
 }
 
-/// The rule that is broken first at a set.
+/// The rule that is broken first at a set. Those before it are in order.
 pub(crate) fn set_rule(q: &Question<'_>, k: usize, set: &[u32]) -> Option<u32>
-    requires { slice_get q.now.certificate.now.sets k ≡ Some set.now }
+    requires set { slice_get q.now.certificate.now.sets k ≡ Some set.now }
+    requires order { AreInOrder q.now.certificate.now.sets k }
     ensures { FindsAt (asked q.now) (a_set k set.now) result }
 {
     if !is_set_at(q, k, set) {
@@ -85,12 +87,21 @@ fn is_after(sets: &[FaultSet], k: usize, set: &[u32]) -> bool
     stands_before(sets[k - 1].as_slice(), set)
 }
 
-/// Whether none of the sets before a place contains a set or is contained in it.
+/// Whether none of the sets before a place contains the set of that place or is contained in it. As they are in order, none from
+/// the first on that is no smaller does or is.
 fn is_apart(sets: &[FaultSet], k: usize, set: &[u32]) -> bool
-    requires { k ≤ length sets.now }
+    requires set { slice_get sets.now k ≡ Some set.now }
+    requires order { AreInOrder sets.now (k + 1) }
     ensures { result ≡ list_all (λ other. apart other set.now) (take k sets.now) }
 {
-    sets[..k]
-        .iter()
-        .all(|other| are_apart(other.as_slice(), set))
+    for j in 0..k {
+        let other = sets[j].as_slice();
+        if other.len() >= set.len() {
+            return true;
+        }
+        if is_contained(other, set) {
+            return false;
+        }
+    }
+    true
 }

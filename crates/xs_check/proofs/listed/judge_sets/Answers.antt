@@ -3,13 +3,14 @@ use Rattle.xs_check.specs.Asked.{asked}
 use Rattle.xs_certificate_laws.specs.Certificate.{a_set, a_trace}
 use Rattle.xs_certificate_laws.specs.Sites.{set_sites}
 use Rattle.xs_check.specs.Fit.{IsShortText}
-use Rattle.xs_check.specs.Found.{Finds}
+use Rattle.xs_check.specs.Found.{Finds, AreKept}
 use Rattle.xs_check.proofs.Loops.{goes_itself, set_goes_on, set_ends, sets_over}
 use Rattle.xs_check.proofs.LineCounts.{text_at, room_at, line_next}
+use Rattle.xs_check.proofs.OrderLaws.{none_in_order, in_order_after}
 use Rattle.xs_check.proofs.listed.judge_sets.Goals as goal
 
 pub loop-k-init : goal.loop-k-init
-loop-k-init c = record { rest = goes_itself (asked c.args.q.now) (set_sites 0 c.args.q.now.certificate.now.sets c.args.q.now.certificate.now.traces); line = refl }
+loop-k-init c = record { rest = goes_itself (asked c.args.q.now) (set_sites 0 c.args.q.now.certificate.now.sets c.args.q.now.certificate.now.traces); order = none_in_order c.args.q.now.certificate.now.sets; line = refl }
 
 pub judge_set-requires-clause-short : goal.judge_set-requires-clause-short
 judge_set-requires-clause-short c = text_at IsShortText c.args.q.now.certificate.now.traces c.loop-k.k c.at-text.result.now c.requires.certificate.texts c.at-text.ensures
@@ -42,9 +43,11 @@ loop-k-preserved c =
     let a = asked c.args.q.now in
     let sets = c.args.q.now.certificate.now.sets in
     let texts = c.args.q.now.certificate.now.traces in
+    let kept : AreKept a (a_set c.loop-k.k c.at.result.now ∷ a_trace c.loop-k.k c.at.result.now c.at-text.result.now ∷ []) =
+    subst (Finds a (a_set c.loop-k.k c.at.result.now ∷ a_trace c.loop-k.k c.at.result.now c.at-text.result.now ∷ [])) c.in_default.is c.in_ok-at.ensures in
     record {
-      rest = set_goes_on a c.loop-k.k sets texts c.at.result.now c.at-text.result.now (set_sites 0 sets texts) c.at.ensures c.at-text.ensures c.loop-k.invariant.rest
-          (subst (Finds a (a_set c.loop-k.k c.at.result.now ∷ a_trace c.loop-k.k c.at.result.now c.at-text.result.now ∷ [])) c.in_default.is c.in_ok-at.ensures);
+      rest = set_goes_on a c.loop-k.k sets texts c.at.result.now c.at-text.result.now (set_sites 0 sets texts) c.at.ensures c.at-text.ensures c.loop-k.invariant.rest kept;
+      order = in_order_after a c.loop-k.k c.at.result.now (a_trace c.loop-k.k c.at.result.now c.at-text.result.now ∷ []) c.loop-k.invariant.order c.at.ensures kept;
       line = line_next a.certificate c.loop-k.k c.loop-k.line c.len.result c.at-text.result.now c.loop-k.invariant.line c.at-text.ensures c.len.ensures;
     }
 

@@ -1,11 +1,23 @@
-use Rattle.std.proofs.Common.{◌≡◌, ◌∙◌, false, IsTrue, take, sym, ap, arith}
+use Rattle.std.proofs.Common.{◌≡◌, ◌∙◌, ◌+◌, false, IsTrue, take, sym, ap, subst, arith}
+use Rattle.std.specs.Prelude.{slice_get}
 use Rattle.std.proofs.lemmas.Bool.{both_ways}
 use Rattle.xs_check.specs.Asked.{asked}
 use Rattle.std.specs.List.{list_all}
 use Rattle.xs_sets.specs.Tests.{are_apart}
 use Rattle.xs_check.proofs.SiteLaws.{set_kept, set_broken, apart_broken}
 use Rattle.xs_check.proofs.SetLaws.{apart_from_test, test_from_apart}
+use Rattle.xs_check.specs.Order.{AreInOrder}
+use Rattle.xs_check.proofs.OrderLaws.{in_order_with}
 use Rattle.xs_check.proofs.sets.set_rule.Goals as goal
+
+pub is_apart-requires-clause-set : goal.is_apart-requires-clause-set
+is_apart-requires-clause-set c = ap (λ xs. slice_get xs c.args.k) c.as_slice.ensures ∙ c.requires.set
+
+pub is_apart-requires-clause-order : goal.is_apart-requires-clause-order
+is_apart-requires-clause-order c =
+    let is : IsTrue c.is_set_at.result = grind arith in
+    let at = c.is_set_at.ensures.0 is in
+    subst (λ xs. AreInOrder xs (c.args.k + 1)) (sym c.as_slice.ensures) (in_order_with c.args.q.now.certificate.now.sets c.args.k c.args.set.now c.requires.order c.requires.set at.rises at.after)
 
 pub returns-then-not-is_set_at : goal.returns-then-not-is_set_at
 returns-then-not-is_set_at c =

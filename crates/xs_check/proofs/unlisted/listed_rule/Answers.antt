@@ -1,5 +1,9 @@
 use Rattle.xs_check.specs.Found.{one_before, none_before}
+use Rattle.xs_check.proofs.OrderLaws.{none_in_order}
 use Rattle.xs_check.proofs.unlisted.listed_rule.Goals as goal
+
+pub set_rule-requires-clause-order : goal.set_rule-requires-clause-order
+set_rule-requires-clause-order c = none_in_order c.args.q.now.certificate.now.sets
 
 pub returns-in-Some : goal.returns-in-Some
 returns-in-Some c = one_before c.in-Some.rule c.in-Some.ensures
