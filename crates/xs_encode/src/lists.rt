@@ -1,6 +1,6 @@
 //! The clause lists of a model: of its first states, its steps and its states.
 //!
-//! [`encode`] is the main function. A copy of the model at one moment is the gates of its definitions, with the
+//! [`encode`] is the main function, and [`first_gates`] and [`step_gates`] make one of its lists alone. A copy of the model at one moment is the gates of its definitions, with the
 //! clauses that its domains and its INVAR formulas hold; the first states are one copy with INIT, the steps two
 //! with TRANS. What reads an input is left out of the copy of a state, so that states do not depend on inputs.
 
@@ -84,6 +84,26 @@ pub fn encode(alloc: Global, t: &Typed) -> Result<System, OutOfMemory>
     })
 }
 
+/// The gates whose clauses are the list of a model's first states that `encode` makes. No other list is made.
+pub fn first_gates(alloc: Global, t: &Typed) -> Result<Gates, OutOfMemory>
+    requires encodable { IsEncodable (model_tree t.now.model) }
+    ensures { IfOk result (λ g. g.clauses ≡ first_list (model_tree t.now.model)) }
+{
+    let source = source_of(alloc, t)?;
+    let gates = first_circuit(alloc, &source)?;
+    Ok(gates)
+}
+
+/// The gates whose clauses are the list of a model's steps that `encode` makes. No other list is made.
+pub fn step_gates(alloc: Global, t: &Typed) -> Result<Gates, OutOfMemory>
+    requires encodable { IsEncodable (model_tree t.now.model) }
+    ensures { IfOk result (λ g. g.clauses ≡ step_list (model_tree t.now.model)) }
+{
+    let source = source_of(alloc, t)?;
+    let gates = step_circuit(alloc, &source)?;
+    Ok(gates)
+}
+
 /// The clauses of the states, and those of the first states.
 fn state_lists(alloc: Global, source: &Source<'_>) -> Result<(ClauseList, ClauseList), OutOfMemory>
     requires source { IsSource source.now }
@@ -127,11 +147,22 @@ pub(crate) fn state_gates(
     Ok((g, now))
 }
 
-/// The copy now with all definitions and domains, then that of the next moment, and what holds of the two.
+/// The clauses of the steps.
 fn step_clauses(alloc: Global, source: &Source<'_>) -> Result<ClauseList, OutOfMemory>
     requires source { IsSource source.now }
     requires encodable { IsEncodable (source_model source.now) }
     ensures { IfOk result (λ c. c ≡ step_list (source_model source.now)) }
+{
+    let g = step_circuit(alloc, source)?;
+    let clauses = g.clauses().copy()?;
+    Ok(clauses)
+}
+
+/// The copy now with all definitions and domains, then that of the next moment, and what holds of the two.
+fn step_circuit(alloc: Global, source: &Source<'_>) -> Result<Gates, OutOfMemory>
+    requires source { IsSource source.now }
+    requires encodable { IsEncodable (source_model source.now) }
+    ensures { IfOk result (λ g. g.clauses ≡ step_list (source_model source.now)) }
 {
     let t = source.model;
     let mut g = start(alloc, source)?;
@@ -144,8 +175,19 @@ fn step_clauses(alloc: Global, source: &Source<'_>) -> Result<ClauseList, OutOfM
         symbols: source.symbols,
     };
     formulas(alloc, &mut g, &names, t.model().trans.as_slice())?;
-    let clauses = g.clauses().copy()?;
-    Ok(clauses)
+    Ok(g)
+}
+
+/// The copy now without what reads inputs, and what holds of it at first.
+fn first_circuit(alloc: Global, source: &Source<'_>) -> Result<Gates, OutOfMemory>
+    requires source { IsSource source.now }
+    requires encodable { IsEncodable (source_model source.now) }
+    ensures { IfOk result (λ g. g.clauses ≡ first_list (source_model source.now)) }
+{
+    let (mut g, now) = state_gates(alloc, source)?;
+    let names = Names::at(source.model, &now, source.symbols);
+    formulas(alloc, &mut g, &names, source.model.model().init.as_slice())?;
+    Ok(g)
 }
 
 /// A copy of a model with its bits at these places: its definitions, its domains and what holds at each

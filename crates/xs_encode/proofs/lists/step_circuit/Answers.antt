@@ -10,7 +10,7 @@ use Rattle.xs_encode.specs.Copies.{source_model, IsRightFormula}
 use Rattle.xs_encode.proofs.ModelParts.{step_right}
 use Rattle.xs_encode.proofs.CopyLaws.{copied_later}
 use Rattle.xs_encode.proofs.ListLaws.{step_is}
-use Rattle.xs_encode.proofs.lists.step_clauses.Goals as goal
+use Rattle.xs_encode.proofs.lists.step_circuit.Goals as goal
 
 pub formulas-requires-clause-named : goal.formulas-requires-clause-named
 formulas-requires-clause-named c =
@@ -28,8 +28,7 @@ pub returns : goal.returns
 returns c =
     let m = source_model c.args.source.now in
     let same = c.as_slice.ensures ∙ ap (λ (m : Model). m.trans) c.model.ensures.model in
-    c.in_ok-clauses.ensures ∙ c.clauses.ensures
-    ∙ sym (ap (λ (s : Circuit). s.clauses) (step_is m c.copied.new.g c.copied-2.new.g c.formulas.new.g c.in_ok-now.now c.in_ok-next.next (map formula_tree c.as_slice.result.now)
+    sym (ap (λ (s : Circuit). s.clauses) (step_is m c.copied.new.g c.copied-2.new.g c.formulas.new.g c.in_ok-now.now c.in_ok-next.next (map formula_tree c.as_slice.result.now)
     (sym (λ i. copy_gates (source_model c.args.source.now) (variable_signals (source_model c.args.source.now).symbols (c.places_now.ensures.state i) (c.places_now.ensures.input i) (source_model c.args.source.now).variables) true (c.in_ok-g.ensures i)) ∙ c.in_ok-now.ensures.copy.exact)
     (sym (λ i. copy_gates (source_model c.args.source.now) (variable_signals (source_model c.args.source.now).symbols (c.places_next.ensures.state i) (c.places_next.ensures.input i) (source_model c.args.source.now).variables) false c.copied.new.g) ∙ c.in_ok-next.ensures.copy.exact)
     (ap (λ (l : List Formula). map formula_tree l) same) c.in_ok-formulas.ensures))
