@@ -1,8 +1,10 @@
 -- Which derivation is meant, from what it starts, and what is found at its steps.
-use Rattle.std.specs.Prelude.{List, [], ◌∷◌}
+use Rattle.std.specs.Prelude.{◌≡◌, List, [], ◌∷◌}
 use Rattle.xs_lits.specs.Literal.{Literal}
+use Rattle.xs_lits.specs.Derivation.{Derivation}
 use Rattle.xs_certificate_laws.specs.Certificate.{Part, part_first, part_next, part_bad, an_end, steps_in}
 use Rattle.xs_certificate_laws.specs.Sites.{step_sites}
+use Rattle.xs_certificate_laws.specs.Accepted.{known_at, vars_of}
 use Rattle.xs_check.specs.Matter.{Matter}
 use Rattle.xs_check.specs.Found.{Finds, GoesOn}
 use Rattle.xs_check.specs.declared.judged.Judged.{Judged}
@@ -28,6 +30,11 @@ module _ (a : Matter) where
   also_given part_first = []
   also_given part_next = a.certificate.invariant
   also_given part_bad = a.certificate.invariant
+
+  -- a checker has the clauses that a derivation starts from, over variables up to the highest of these
+  pub record IsAtStart (part : Part) (checker : Derivation) : Type 0 where
+    pub vars : checker.vars ≡ vars_of a.subject a.certificate part
+    pub clauses : checker.clauses ≡ known_at a.subject a.certificate part 0
 
   -- what is found at the steps of a derivation: its end is left, or a rule is broken
   abbrev pub FindsSteps : Part → Judged → Type 0

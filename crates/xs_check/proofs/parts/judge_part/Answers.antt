@@ -1,16 +1,14 @@
-use Rattle.std.proofs.Common.{◌∙◌, arith}
+use Rattle.std.proofs.Common.{arith}
 use Rattle.xs_check.specs.Asked.{asked}
 use Rattle.xs_check.specs.Parts.{part_of}
-use Rattle.xs_check.proofs.StepLaws.{vars_begin, known_begin, lines_within}
+use Rattle.xs_check.proofs.StepLaws.{lines_within}
 use Rattle.xs_check.proofs.parts.judge_part.Goals as goal
 
 pub judge_derivation-requires-clause-vars : goal.judge_derivation-requires-clause-vars
-judge_derivation-requires-clause-vars c =
-    c.in_ok-checker.ensures.vars ∙ vars_begin (asked c.args.q.now) (part_of c.args.part) c.as_slice.result.now c.also_given.result.now (c.as_slice.ensures ∙ c.requires.given) c.also_given.ensures
+judge_derivation-requires-clause-vars c = c.in_ok-checker.ensures.vars
 
 pub judge_derivation-requires-clause-clauses : goal.judge_derivation-requires-clause-clauses
-judge_derivation-requires-clause-clauses c =
-    c.in_ok-checker.ensures.clauses ∙ known_begin (asked c.args.q.now) (part_of c.args.part) c.as_slice.result.now c.also_given.result.now (c.as_slice.ensures ∙ c.requires.given) c.also_given.ensures
+judge_derivation-requires-clause-clauses c = c.in_ok-checker.ensures.clauses
 
 pub judge_derivation-requires-clause-room : goal.judge_derivation-requires-clause-room
 judge_derivation-requires-clause-room c =

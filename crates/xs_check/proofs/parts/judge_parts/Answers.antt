@@ -1,16 +1,12 @@
-use Rattle.std.proofs.Common.{◌++◌, sym, subst, arith}
+use Rattle.std.proofs.Common.{◌++◌, subst, arith}
 use Rattle.std.proofs.lemmas.Result.{IfOk-weaker}
 use Rattle.xs_check.specs.Asked.{asked}
 use Rattle.xs_certificate_laws.specs.Certificate.{part_first, part_next, part_bad}
 use Rattle.xs_certificate_laws.specs.Sites.{step_sites}
-use Rattle.xs_encode_laws.specs.Encodable.{IsEncodable}
 use Rattle.xs_check.specs.Found.{Finds}
 use Rattle.xs_check.proofs.Finding.{kept_both, broken_front}
 use Rattle.xs_check.proofs.StepLaws.{lines_within}
 use Rattle.xs_check.proofs.parts.judge_parts.Goals as goal
-
-pub encode-requires : goal.encode-requires
-encode-requires c = record { encodable = subst IsEncodable (sym c.requires.fit.history) c.requires.fit.model.encodable }
 
 pub overflow_add-next : goal.overflow_add-next
 overflow_add-next c =
