@@ -43,9 +43,9 @@ def failed_text(lines, numbers):
     return b"reaches\n" + b" ".join([b"failed", *(names[it] for it in numbers)]) + b"\n"
 
 
-def seconds_of(program, words, given, most):
-    """Returns the processor seconds of a run over these files, by their names and bytes, and its status; it is killed after so many
-    seconds."""
+def cost_of(program, words, given, most):
+    """Returns the processor seconds of a run over these files, by their names and bytes, the most megabytes that it had at a time, and
+    its status; it is killed after so many seconds."""
     with tempfile.TemporaryDirectory() as folder:
         for name, text in given.items():
             (pathlib.Path(folder) / name).write_bytes(text)
@@ -56,4 +56,11 @@ def seconds_of(program, words, given, most):
         signal.alarm(0)
         signal.signal(signal.SIGALRM, previous)
         process.returncode = os.waitstatus_to_exitcode(status)
-        return used.ru_utime + used.ru_stime, process.returncode
+        return used.ru_utime + used.ru_stime, used.ru_maxrss / 1000, process.returncode
+
+
+def seconds_of(program, words, given, most):
+    """Returns the processor seconds of a run over these files, by their names and bytes, and its status; it is killed after so many
+    seconds."""
+    seconds, _, status = cost_of(program, words, given, most)
+    return seconds, status

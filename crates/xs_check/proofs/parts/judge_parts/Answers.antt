@@ -31,8 +31,8 @@ returns-in-Yes c =
     let rest = step_sites part_next 0 c.args.q.now.certificate.now.next ++ step_sites part_bad 0 c.args.q.now.certificate.now.bad in
     IfOk-weaker c.judge_later.result (Finds a rest) (Finds a (firsts ++ rest)) (kept_both a firsts rest (subst (Finds a firsts) c.in-Yes.is c.in_ok-judge_part.ensures)) c.judge_later.ensures
 
-pub returns : goal.returns
-returns c =
+pub returns-in-No : goal.returns-in-No
+returns-in-No c =
     let a = asked c.args.q.now in
     let firsts = step_sites part_first 0 c.args.q.now.certificate.now.first in
     let rest = step_sites part_next 0 c.args.q.now.certificate.now.next ++ step_sites part_bad 0 c.args.q.now.certificate.now.bad in
