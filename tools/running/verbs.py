@@ -29,10 +29,10 @@ VERBS = {
 }
 # The verbs of the program that shows reports, with their words.
 SHOWING = {
-    "show": ("shows a report of analyse or causes as tables, as Markdown, or for other tools", "FILE [--format FORM] [--full]"),
+    "show": ("shows a report of analyse or causes as tables, as a page, or for other tools", "FILE [--format FORM] [--full]"),
     "diff": ("tells which minimal cut sets are gone and have come from one report to another", "OLD NEW"),
 }
-FORMS = ("text", "csv", "json", "markdown")
+FORMS = ("text", "csv", "json", "markdown", "html", "open-psa", "dot", "vcd")
 SHOWING_WORDS = {
     "FILE": "a report as it was printed; - is standard input",
     "--format FORM": f"{', '.join(FORMS[:-1])} or {FORMS[-1]}; text where none is given",

@@ -50,20 +50,24 @@ glyph_by : (t : Bool) (d : ℕ) → 44 < (if t then 48 + d else 87 + d)
 glyph_by true d = omega arith
 glyph_by false d = omega arith
 
-either_plain : (t : Bool) (xs ys : List ℕ) → list_any is_special xs ≡ false → list_any is_special ys ≡ false → list_any is_special (if t then xs else ys) ≡ false
-either_plain true xs ys e f = e
-either_plain false xs ys e f = f
+either_lacks : (special : ℕ → Bool) (t : Bool) (xs ys : List ℕ) → list_any special xs ≡ false → list_any special ys ≡ false → list_any special (if t then xs else ys) ≡ false
+either_lacks special true xs ys e f = e
+either_lacks special false xs ys e f = f
 
-digits_plain : (k n : ℕ) (acc : List ℕ) → list_any is_special acc ≡ false → list_any is_special (digits_onto k 10 false n acc) ≡ false
-digits_plain zero n acc h = h
-digits_plain (suc k) n acc h =
+digits_lack : (special : ℕ → Bool) → ((c : ℕ) → 44 < c → special c ≡ false) → (k n : ℕ) (acc : List ℕ) → list_any special acc ≡ false → list_any special (digits_onto k 10 false n acc) ≡ false
+digits_lack special lacks zero n acc h = h
+digits_lack special lacks (suc k) n acc h =
     let d : ℕ = digit_glyph false (n % 10) in
-    let here : list_any is_special (d ∷ acc) ≡ false = or_false (is_special d) (list_any is_special acc) (above d (glyph_by (nat_lt (n % 10) 10) (n % 10))) h in
-    either_plain (n / 10 == 0) (d ∷ acc) (digits_onto k 10 false (n / 10) (d ∷ acc)) here (digits_plain k (n / 10) (d ∷ acc) here)
+    let here : list_any special (d ∷ acc) ≡ false = or_false (special d) (list_any special acc) (lacks d (glyph_by (nat_lt (n % 10) 10) (n % 10))) h in
+    either_lacks special (n / 10 == 0) (d ∷ acc) (digits_onto k 10 false (n / 10) (d ∷ acc)) here (digits_lack special lacks k (n / 10) (d ∷ acc) here)
+
+-- a number has no byte that is special, where each special one is at most 44
+pub decimal_lacks : (special : ℕ → Bool) → ((c : ℕ) → 44 < c → special c ≡ false) → (n : ℕ) → list_any special (decimal n) ≡ false
+unfolding digits
+decimal_lacks special lacks n = digits_lack special lacks 64 n [] refl
 
 decimal_plain : (n : ℕ) → list_any is_special (decimal n) ≡ false
-unfolding digits
-decimal_plain n = digits_plain 64 n [] refl
+decimal_plain n = decimal_lacks is_special above n
 
 -- fields
 

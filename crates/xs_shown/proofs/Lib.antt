@@ -1,3 +1,5 @@
 mod CsvLaws
 mod JsonLaws
+mod MefLaws
+mod MefSets
 mod TextRules

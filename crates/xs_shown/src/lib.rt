@@ -10,26 +10,40 @@
 #![tactic(auto)]
 
 mod changes;
+mod columns;
 mod csv;
+mod dot;
 mod endings;
+mod escapes;
 mod fault;
+mod html;
 mod json;
 mod json_sets;
+mod lanes;
 mod markdown;
 mod moments;
 mod names;
+mod open_psa;
+mod page;
+mod pieces;
 mod reader;
 mod report;
+mod svg;
 mod text;
 mod traces;
+mod vcd;
 mod words;
 
 pub use changes::{Changes, changes_of};
 pub use csv::csv_of_sets;
+pub use dot::dot_of;
 pub use fault::{Expected, Fault, ReportFault};
+pub use html::html_of;
 pub use json::json_of;
 pub use markdown::markdown_of;
 pub use moments::Values;
+pub use open_psa::open_psa_of;
 pub use reader::read;
 pub use report::{Ending, Line, Moment, Report, Trace};
 pub use text::text_of;
+pub use vcd::vcd_of;

@@ -120,7 +120,7 @@ fn line_before<'a>(moments: &[Moment<'a>], moment: usize, place: usize) -> Optio
 
 /// The fault that strikes where a line comes to be: `a.S#mode = S#m` is where `a.S.m` strikes, and `c#event = c#now` is where the
 /// common cause `c` occurs.
-fn strike<'a>(faults: &[&'a [u8]], line: &Line<'_>) -> Option<&'a [u8]> {
+pub(crate) fn strike<'a>(faults: &[&'a [u8]], line: &Line<'_>) -> Option<&'a [u8]> {
     if let Some(slice) = line.name.strip_suffix(b"#mode") {
         let mode = mode_in(slice, line.value)?;
         return fault_of(faults, slice, mode);

@@ -15,8 +15,8 @@ use std::process::ExitCode;
 use std::rt::Files;
 use std::{env, io};
 use xs_shown::{
-    Fault, Report, ReportFault, Values, changes_of, csv_of_sets, json_of, markdown_of, read,
-    text_of,
+    Fault, Report, ReportFault, Values, changes_of, csv_of_sets, dot_of, html_of, json_of,
+    markdown_of, open_psa_of, read, text_of, vcd_of,
 };
 use xs_value::OutOfMemory;
 
@@ -77,6 +77,10 @@ enum Format {
     Csv,
     Json,
     Markdown,
+    Html,
+    OpenPsa,
+    Dot,
+    Vcd,
 }
 
 /// What the words ask for.
@@ -95,7 +99,7 @@ enum Command<'a> {
 
 /// What is said of other words.
 static USAGE: &str =
-    "The words are `show FILE [--format text|csv|json|markdown] [--full]` or `diff OLD NEW`, where each file is a report of an analysis, and one of them may be `-` for standard input.\n";
+    "The words are `show FILE [--format text|csv|json|markdown|html|open-psa|dot|vcd] [--full]` or `diff OLD NEW`, where each file is a report of an analysis, and one of them may be `-` for standard input.\n";
 
 fn main(rt: HostRuntime) -> ExitCode {
     let alloc = rt.alloc();
@@ -198,6 +202,10 @@ fn format_in(option: &String, form: &String) -> Option<Format> {
         "csv" => Some(Format::Csv),
         "json" => Some(Format::Json),
         "markdown" => Some(Format::Markdown),
+        "html" => Some(Format::Html),
+        "open-psa" => Some(Format::OpenPsa),
+        "dot" => Some(Format::Dot),
+        "vcd" => Some(Format::Vcd),
         _ => None,
     }
 }
@@ -239,6 +247,10 @@ fn text_in(
         Format::Csv => csv_of_sets(alloc, report),
         Format::Json => json_of(alloc, report, values),
         Format::Markdown => markdown_of(alloc, report, values),
+        Format::Html => html_of(alloc, report, values),
+        Format::OpenPsa => open_psa_of(alloc, report),
+        Format::Dot => dot_of(alloc, report),
+        Format::Vcd => vcd_of(alloc, report),
     }
 }
 

@@ -1,0 +1,14 @@
+use Rattle.std.proofs.Common.{◌≡◌, ◌∙◌, ap, codes}
+use Rattle.std.proofs.lemmas.Result.{IfOk-weaker}
+use Rattle.xs_shown.specs.Mef.{sets_in_tree}
+use Rattle.xs_shown.specs.MefText.{tree_text}
+use Rattle.xs_shown.specs.Reports.{set_names}
+use Rattle.xs_shown.proofs.MefSets.{tree_back}
+use Rattle.xs_shown.proofs.open_psa.open_psa_of.Goals as goal
+
+pub returns : goal.returns
+returns c = record {
+  read_back = λ named.
+      IfOk-weaker c.with_tree.result (λ text. text.items ≡ tree_text c.args.report.now c.as_slice.result.now) (λ text. sets_in_tree (codes "top") text.items ≡ set_names c.args.report.now)
+      (λ text e. ap (sets_in_tree (codes "top")) e ∙ tree_back c.args.report.now c.as_slice.result.now ? ? named) c.with_tree.ensures;
+}
