@@ -12,7 +12,7 @@ use Rattle.std.proofs.lemmas.List.Elements.{recursion_from_All}
 use Rattle.std.proofs.lemmas.Slice.Eq.{bytes_eq-Decides}
 use Rattle.xs_shown.proofs.CsvLaws.{or_false, or_left, or_right, is_false, apart, decimal_lacks}
 use Rattle.xs_shown.specs.Mef.{Sets, Open, fed, ended, formula, gate_sets, label_in, label_of, sets_in_tree}
-use Rattle.xs_shown.specs.MefText.{xml_byte, xml_text, event_of, events_of, all_of, set_gate, set_gates, gate_of, gates_of, any_of, definition, definitions, set_numbers, fault_names, tree_text}
+use Rattle.xs_shown.specs.MefText.{xml_byte, xml_text, event_of, events_of, all_of, set_gate, set_gates, gate_begin, gate_end, gate_of, gates_of, any_of, definition_begin, definition_end, definition, definitions, head, middle, end_of_events, set_numbers, fault_names, tree_text}
 use Rattle.xs_shown.specs.Reports.{IsListed, HasNames, name_at, name_or_none, names_in, set_names}
 use Rattle.xs_shown.specs.Xml.{Token, start, end, letters, outside, reference, opening, value, tokens_from, tokens, behind_start}
 use Rattle.xs_shown.specs.declared.report.Report.{Report}
@@ -113,13 +113,14 @@ abbrev pub set_gate_tokens : ℕ → List ℕ → List Token → List Token
 set_gate_tokens k set ts = nl ∷ start (codes "define-gate") (named (gate k)) ∷ all_tokens set (nl ∷ end (codes "define-gate") ∷ ts)
 
 set_gate_lexed : (k : ℕ) (set rest : List ℕ) → line (set_gate k set ++ rest) ≡ set_gate_tokens k set (line rest)
-unfolding set_gate
+unfolding gate_begin gate_end
 set_gate_lexed k set rest =
-    let last : List ℕ = all_of set ++ codes "</define-gate>\n" in
-    ap (λ s. nl ∷ tokens_from (value (codes "define-gate") [] (codes "name")) (115 ∷ []) s) (append_assoc (decimal k) (codes "\">\n" ++ last) rest)
+    let last : List ℕ = all_of set ++ gate_end in
+    ap line (append_assoc (gate_begin k) last rest)
+    ∙ (ap (λ s. nl ∷ tokens_from (value (codes "define-gate") [] (codes "name")) (115 ∷ []) s) (append_assoc (decimal k) (codes "\">\n") (last ++ rest))
     ∙ (ap (λ ts. nl ∷ ts) (number_run k (115 ∷ []) (codes "define-gate") (codes "name") (codes "\">\n" ++ (last ++ rest)))
-    ∙ (ap (λ s. nl ∷ start (codes "define-gate") (named (gate k)) ∷ line s) (append_assoc (all_of set) (codes "</define-gate>\n") rest)
-    ∙ ap (λ ts. nl ∷ start (codes "define-gate") (named (gate k)) ∷ ts) (all_lexed set (codes "</define-gate>\n" ++ rest))))
+    ∙ (ap (λ s. nl ∷ start (codes "define-gate") (named (gate k)) ∷ line s) (append_assoc (all_of set) gate_end rest)
+    ∙ ap (λ ts. nl ∷ start (codes "define-gate") (named (gate k)) ∷ ts) (all_lexed set (gate_end ++ rest)))))
 
 abbrev pub set_gates_tokens : ℕ → List (List ℕ) → List Token → List Token
 set_gates_tokens k [] ts = ts
@@ -167,15 +168,15 @@ definition_tokens n name ts =
     nl ∷ start (codes "define-basic-event") (named (event n)) ∷ nl ∷ start (codes "label") [] ∷ letters name ∷ end (codes "label") ∷ nl ∷ end (codes "define-basic-event") ∷ ts
 
 definition_lexed : (n : ℕ) (name rest : List ℕ) → line (definition n name ++ rest) ≡ definition_tokens n name (line rest)
-unfolding definition
+unfolding definition_begin definition_end
 definition_lexed n name rest =
-    let close : List ℕ = codes "</label>\n</define-basic-event>\n" in
-    let last : List ℕ = xml_text name ++ close in
-    let head : List Token → List Token = λ ts. nl ∷ start (codes "define-basic-event") (named (event n)) ∷ nl ∷ start (codes "label") [] ∷ ts in
-    ap (λ s. nl ∷ tokens_from (value (codes "define-basic-event") [] (codes "name")) (102 ∷ []) s) (append_assoc (decimal n) (codes "\">\n<label>" ++ last) rest)
+    let last : List ℕ = xml_text name ++ definition_end in
+    let before : List Token → List Token = λ ts. nl ∷ start (codes "define-basic-event") (named (event n)) ∷ nl ∷ start (codes "label") [] ∷ ts in
+    ap line (append_assoc (definition_begin n) last rest)
+    ∙ (ap (λ s. nl ∷ tokens_from (value (codes "define-basic-event") [] (codes "name")) (102 ∷ []) s) (append_assoc (decimal n) (codes "\">\n<label>") (last ++ rest))
     ∙ (ap (λ ts. nl ∷ ts) (number_run n (102 ∷ []) (codes "define-basic-event") (codes "name") (codes "\">\n<label>" ++ (last ++ rest)))
-    ∙ (ap (λ s. head (tokens_from outside [] s)) (append_assoc (xml_text name) close rest)
-    ∙ ap head (characters_run name [] (codes "/label>\n</define-basic-event>\n" ++ rest))))
+    ∙ (ap (λ s. before (tokens_from outside [] s)) (append_assoc (xml_text name) definition_end rest)
+    ∙ ap before (characters_run name [] (codes "/label>\n</define-basic-event>\n" ++ rest)))))
 
 abbrev pub definitions_tokens : ℕ → List (List ℕ) → List Token → List Token
 definitions_tokens n [] ts = ts
@@ -198,13 +199,14 @@ document sets names ts =
     ∷ any_tokens sets (nl ∷ end (codes "define-gate") ∷ set_gates_tokens 1 sets (events_part names ts))
 
 pub text_lexed : (report : Report) (rest : List ℕ) → tokens (tree_text report rest) ≡ document (set_numbers report) (fault_names report) (line rest)
+unfolding head gate_end middle end_of_events
 text_lexed report rest =
     let sets : List (List ℕ) = set_numbers report in
     let names : List (List ℕ) = fault_names report in
-    let third : List ℕ = codes "</define-fault-tree>\n<model-data>\n" ++ (definitions 1 names ++ (codes "</model-data>\n" ++ rest)) in
-    let head : List Token → List Token = λ ts.
+    let third : List ℕ = middle ++ (definitions 1 names ++ (end_of_events ++ rest)) in
+    let first : List Token → List Token = λ ts.
     letters [] ∷ nl ∷ start (codes "opsa-mef") [] ∷ nl ∷ start (codes "define-fault-tree") (named (codes "report")) ∷ nl ∷ start (codes "define-gate") (named (codes "top")) ∷ ts in
-    ap head (any_lexed sets (codes "</define-gate>\n" ++ (set_gates 1 sets ++ third)))
-    ∙ (ap (λ ts. head (any_tokens sets (nl ∷ end (codes "define-gate") ∷ ts))) (set_gates_lexed 1 sets third)
-    ∙ ap (λ ts. head (any_tokens sets (nl ∷ end (codes "define-gate") ∷ set_gates_tokens 1 sets (nl ∷ end (codes "define-fault-tree") ∷ nl ∷ start (codes "model-data") [] ∷ ts))))
-    (definitions_lexed 1 names (codes "</model-data>\n" ++ rest)))
+    ap first (any_lexed sets (gate_end ++ (set_gates 1 sets ++ third)))
+    ∙ (ap (λ ts. first (any_tokens sets (nl ∷ end (codes "define-gate") ∷ ts))) (set_gates_lexed 1 sets third)
+    ∙ ap (λ ts. first (any_tokens sets (nl ∷ end (codes "define-gate") ∷ set_gates_tokens 1 sets (nl ∷ end (codes "define-fault-tree") ∷ nl ∷ start (codes "model-data") [] ∷ ts))))
+    (definitions_lexed 1 names (end_of_events ++ rest)))

@@ -133,10 +133,11 @@ gates_are d j (set ∷ sets) whole ts bound h =
     let body : List Token = all_tokens set (nl ∷ end (codes "define-gate") ∷ more) in
     let here : behind_start (codes "define-gate") (gate j) whole ≡ body
     = h j (omega arith) (omega (arith, bound))
-      ∙ chosen (bytes_eq (gate j) (gate j)) body (behind_start (codes "define-gate") (gate j) body) (found (gate j) (gate j) refl) in
-    ( ap (λ b. formula (gate_sets d whole) ((false, []) ∷ []) b) here ∙ set_formula (gate_sets d whole) set more
-    , gates_are d (suc j) sets whole ts (omega (arith, bound)) (λ k least most.
-        h k (omega (arith, least)) most ∙ skip_set_gate j set (gate k) more (passed 115 j k (omega (arith, least)) most)))
+    ∙ chosen (bytes_eq (gate j) (gate j)) body (behind_start (codes "define-gate") (gate j) body) (found (gate j) (gate j) refl) in (
+      ap (λ b. formula (gate_sets d whole) ((false, []) ∷ []) b) here ∙ set_formula (gate_sets d whole) set more,
+      gates_are d (suc j) sets whole ts (omega (arith, bound)) (λ k least most.
+          h k (omega (arith, least)) most ∙ skip_set_gate j set (gate k) more (passed 115 j k (omega (arith, least)) most)),
+    )
 
 gates_of_document : (d : ℕ) (sets names : List (List ℕ)) (ts : List Token) → 1 + length sets ≤ 2 ^ 64 → GatesAre (gate_sets (suc d) (document sets names ts)) 1 sets
 gates_of_document d sets names ts bound =
@@ -183,7 +184,7 @@ all_labels_are : {X : Type 0} (items : X → List ℕ) (report : Report) (ts : L
 all_labels_are items report ts [] bound h = refl
 all_labels_are items report ts (set ∷ sets) bound h =
     ap (λ s. s ∷ map (λ set. map (label_of (document (set_numbers report) (fault_names report) ts)) set) (map events (map items sets)))
-      (labels_are report ts (items set) bound (recursion_from_All (IsListed (length report.faults.items)) (items set) h.0))
+    (labels_are report ts (items set) bound (recursion_from_All (IsListed (length report.faults.items)) (items set) h.0))
     ∙ ap (λ ss. names_in report.faults.items (items set) ∷ ss) (all_labels_are items report ts sets bound h.1)
 
 abbrev sets_of : List Token → Sets
@@ -205,9 +206,9 @@ document_sets report ts some few named =
     let same : length sets ≡ length report.sets.items = length-map report.sets.items (λ set. set.items) in
     let bound : 1 + length sets ≤ 2 ^ 64 = omega (arith, same, few) in
     ap (λ found. map (λ set. map (label_of whole) set) found)
-      (any_formula (gate_sets (suc (deep whole)) whole) sets (set_gates_tokens 1 sets (events_part names ts)) (gates_of_document (deep whole) sets names ts bound))
+    (any_formula (gate_sets (suc (deep whole)) whole) sets (set_gates_tokens 1 sets (events_part names ts)) (gates_of_document (deep whole) sets names ts bound))
     ∙ all_labels_are (λ set. set.items) report ts report.sets.items some
-      (recursion_from_All (λ set. All (IsListed (length report.faults.items)) set.items) report.sets.items named.1)
+    (recursion_from_All (λ set. All (IsListed (length report.faults.items)) set.items) report.sets.items named.1)
 
 pub tree_back : (report : Report) (rest : List ℕ) → length report.faults.items < 2 ^ 64 → length report.sets.items < 2 ^ 64 → HasNames report →
     sets_in_tree (codes "top") (tree_text report rest) ≡ set_names report

@@ -28,9 +28,16 @@ all_of [] = codes "<constant value=\"true\"/>\n"
 all_of (n ∷ []) = event_of n
 all_of (n ∷ m ∷ ns) = codes "<and>\n" ++ (events_of (n ∷ m ∷ ns) ++ codes "</and>\n")
 
+-- the begin and the end of the definition of a gate
+unfoldable pub gate_begin : ℕ → List ℕ
+gate_begin k = codes "<define-gate name=\"s" ++ (decimal k ++ codes "\">\n")
+
+unfoldable pub gate_end : List ℕ
+gate_end = codes "</define-gate>\n"
+
 -- the gate of a set, by its number
-unfoldable pub set_gate : ℕ → List ℕ → List ℕ
-set_gate k set = codes "<define-gate name=\"s" ++ (decimal k ++ (codes "\">\n" ++ (all_of set ++ codes "</define-gate>\n")))
+abbrev pub set_gate : ℕ → List ℕ → List ℕ
+set_gate k set = gate_begin k ++ (all_of set ++ gate_end)
 
 -- gates, numbered from this one on
 abbrev pub set_gates : ℕ → List (List ℕ) → List ℕ
@@ -50,10 +57,16 @@ any_of [] = codes "<constant value=\"false\"/>\n"
 any_of (set ∷ []) = gate_of 1
 any_of (a ∷ b ∷ sets) = codes "<or>\n" ++ (gates_of 1 (a ∷ b ∷ sets) ++ codes "</or>\n")
 
+-- the begin and the end of the definition of a basic event
+unfoldable pub definition_begin : ℕ → List ℕ
+definition_begin n = codes "<define-basic-event name=\"f" ++ (decimal n ++ codes "\">\n<label>")
+
+unfoldable pub definition_end : List ℕ
+definition_end = codes "</label>\n</define-basic-event>\n"
+
 -- the definition of a basic event, by its number and the name of its fault
-unfoldable pub definition : ℕ → List ℕ → List ℕ
-definition n name =
-    codes "<define-basic-event name=\"f" ++ (decimal n ++ (codes "\">\n<label>" ++ (xml_text name ++ codes "</label>\n</define-basic-event>\n")))
+abbrev pub definition : ℕ → List ℕ → List ℕ
+definition n name = definition_begin n ++ (xml_text name ++ definition_end)
 
 -- definitions, numbered from this one on
 abbrev pub definitions : ℕ → List (List ℕ) → List ℕ
@@ -68,9 +81,18 @@ set_numbers report = map (λ set. set.items) report.sets.items
 abbrev pub fault_names : Report → List (List ℕ)
 fault_names report = map (λ name. name.now) report.faults.items
 
+-- what stands before the formula of the gate `top`, between gates and basic events, and behind these
+unfoldable pub head : List ℕ
+head = codes "<?xml version=\"1.0\" encoding=\"UTF-8\"?>\n<opsa-mef>\n<define-fault-tree name=\"report\">\n<define-gate name=\"top\">\n"
+
+unfoldable pub middle : List ℕ
+middle = codes "</define-fault-tree>\n<model-data>\n"
+
+unfoldable pub end_of_events : List ℕ
+end_of_events = codes "</model-data>\n"
+
 -- the tree of a report, before this
 abbrev pub tree_text : Report → List ℕ → List ℕ
 tree_text report rest =
-    codes "<?xml version=\"1.0\" encoding=\"UTF-8\"?>\n<opsa-mef>\n<define-fault-tree name=\"report\">\n<define-gate name=\"top\">\n" ++ (any_of (set_numbers report)
-    ++ (codes "</define-gate>\n" ++ (set_gates 1 (set_numbers report)
-    ++ (codes "</define-fault-tree>\n<model-data>\n" ++ (definitions 1 (fault_names report) ++ (codes "</model-data>\n" ++ rest))))))
+    head ++ (any_of (set_numbers report) ++ (gate_end ++ (set_gates 1 (set_numbers report)
+    ++ (middle ++ (definitions 1 (fault_names report) ++ (end_of_events ++ rest))))))

@@ -57,7 +57,7 @@ fn append_sets(
     sets: &[Vec<u32>],
 ) -> Result<(), OutOfMemory> {
     text.append(
-        b"<div class=\"wide\" role=\"region\" aria-label=\"Minimal cut sets\" tabindex=\"0\">\n<table>\n<caption>Minimal cut sets</caption>\n<thead><tr><th scope=\"col\">Set</th><th scope=\"col\">Size</th><th scope=\"col\">Faults</th></tr></thead>\n<tbody>\n",
+        b"<div class=\"wide\" role=\"region\" aria-label=\"Minimal cut sets\" tabindex=\"0\">\n<table>\n<caption>The sets, each with its faults</caption>\n<thead><tr><th scope=\"col\">Set</th><th scope=\"col\">Size</th><th scope=\"col\">Faults</th></tr></thead>\n<tbody>\n",
     )?;
     for (i, set) in sets.iter().enumerate() {
         append_numbered(alloc, text, b"<tr><th scope=\"row\">", number_of(i))?;

@@ -17,7 +17,9 @@ body{margin:0 auto;max-width:80rem;padding:1.5rem;background:var(--back);color:v
 h1{font-size:1.75rem;margin:0 0 1rem}\n\
 h2{font-size:1.25rem;margin:2.5rem 0 .75rem;overflow-wrap:anywhere}\n\
 code,svg{font-family:ui-monospace,monospace}\n\
-code{font-size:.9em;overflow-wrap:anywhere}\n\
+code{font-size:.9em}\n\
+code{margin-right:.25em}\n\
+td code,th code{white-space:nowrap}\n\
 dl{display:flex;flex-wrap:wrap;gap:.75rem;margin:0 0 1.5rem}\n\
 dl div{background:var(--panel);border:1px solid var(--edge);border-radius:.5rem;padding:.5rem 1rem}\n\
 dt{color:var(--soft);font-size:.875rem}\n\

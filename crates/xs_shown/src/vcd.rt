@@ -220,7 +220,7 @@ fn append_change(
 
 /// Appends the bits of a number in two's complement, the highest first, without the zeros before the first one.
 fn append_bits(text: &mut ByteList, value: &[u8]) -> Result<(), OutOfMemory> {
-    let mut bits = whole_of(value).unwrap_or(0) as u64;
+    let mut bits = bits_of(whole_of(value).unwrap_or(0));
     let mut is_begun = false;
     text.append(b"b")?;
     for i in 0..64 {
@@ -231,6 +231,15 @@ fn append_bits(text: &mut ByteList, value: &[u8]) -> Result<(), OutOfMemory> {
         bits = bits % HIGHEST * 2;
     }
     text.append(b" ")
+}
+
+/// The bits of a number in two's complement.
+fn bits_of(number: i64) -> u64 {
+    if number < 0 {
+        u64::MAX - (-(number + 1)) as u64
+    } else {
+        number as u64
+    }
 }
 
 /// The highest bit of 64.

@@ -10,5 +10,5 @@ pub returns : goal.returns
 returns c = record {
   read_back = λ named.
       IfOk-weaker c.with_tree.result (λ text. text.items ≡ tree_text c.args.report.now c.as_slice.result.now) (λ text. sets_in_tree (codes "top") text.items ≡ set_names c.args.report.now)
-      (λ text e. ap (sets_in_tree (codes "top")) e ∙ tree_back c.args.report.now c.as_slice.result.now ? ? named) c.with_tree.ensures;
+      (λ text e. ap (sets_in_tree (codes "top")) e ∙ tree_back c.args.report.now c.as_slice.result.now c.counts_of-faults.ensures.0 c.counts_of-faults.ensures.1 named) c.with_tree.ensures;
 }
