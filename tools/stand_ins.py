@@ -38,6 +38,29 @@ check-orders) cat; exit 0 ;;
 *) for word in "$@"; do printf '[%s]' "$word"; done; echo " {mark}" ;;
 esac
 """
+# The stand-in for the program where sizes are asked in turn: the top event says what each analysis does.
+LAYERED = """#!/bin/sh
+verb=$1
+[ $# -gt 0 ] && shift
+while [ $# -gt 1 ]; do
+    case "$1" in --model) model=$2 ;; --cert) cert=$2 ;; --extended) extended=$2 ;; --size) size=$2 ;; --top) top=$2 ;; --depth) depth=$2 ;; esac
+    shift 2
+done
+faults=$(cat "$model" 2>/dev/null || echo 3)
+[ "$verb" = extend ] && { echo "faults $faults"; exit 0; }
+[ -z "$cert" ] && { echo "refused words 5 at 2"; exit 2; }
+[ "$top" = bad ] && { echo "refused top flat 8 at 0"; exit 5; }
+echo "extended $size" > "$extended"
+case "$top$size" in
+slow2|stuck1) echo begun > "$cert"; exec sleep 20 ;;
+big2) echo begun > "$cert"; exit 8 ;;
+shallow2) printf 'faults 3\\nsets 2\\nbounded 9 bits 5\\nsize 2\\n'; exit 1 ;;
+esac
+echo "cert $size" > "$cert"
+printf 'faults %s\\nsets %s\\nwords [%s][%s][%s]\\ncomplete\\n' "$faults" "${size:-7}" "$top" "$depth" "$size"
+[ -n "$size" ] && echo "size $size"
+exit 0
+"""
 SHOW = """#!/bin/sh
 for word in "$@"; do printf '<%s>' "$word"; done; echo " shown"
 [ "$2" = - ] && cat
@@ -114,6 +137,13 @@ class Place:
             path.chmod(0o755)
             later = time.time() + 5
             os.utime(path, (later, later))
+
+    def layered(self):
+        """Puts a program where rt ci leaves it that answers analyses by their top event and size."""
+        self.build()
+        path = self.write("crates/xsap_program/out/xsap_program", LAYERED)
+        later = time.time() + 5
+        os.utime(path, (later, later))
 
     def release(self, mark="first"):
         """Makes release/ of programs that are built, which are then removed."""

@@ -94,7 +94,7 @@ def link(target, path):
 
 def bash_completion():
     """Returns the completion for bash: verbs, then the options of the verb that are not yet there, and names of files as their values."""
-    arms = "".join(f"        {verb}) options='{' '.join(options_of(verb))}' ;;\n" for verb in VERBS)
+    arms = "".join(f"        {verb}) options+=' {' '.join(options_of(verb))}' ;;\n" for verb in VERBS)
     return f"""# Completes the words of xsap in bash.
 _xsap() {{
     local word=${{COMP_WORDS[COMP_CWORD]}} before=${{COMP_WORDS[COMP_CWORD-1]}} verb='' at=1 options='' option
@@ -121,6 +121,11 @@ _xsap() {{
         fi
         return
     fi
+    if [[ $verb == analyse && $COMP_CWORD -eq $((at + 1)) ]]; then
+        options=--layers
+    elif [[ $verb == analyse && ${{COMP_WORDS[at+1]}} == --layers ]]; then
+        at=$((at + 1)) options=--seconds
+    fi
     if (((COMP_CWORD - at) % 2 == 0)); then
         case $before in
             {'|'.join(sorted(file_options()))}) compopt -o filenames 2>/dev/null; mapfile -t COMPREPLY < <(compgen -f -- "$word") ;;
@@ -130,6 +135,7 @@ _xsap() {{
     fi
     case $verb in
 {arms}    esac
+    [[ $options == --seconds* ]] && options=${{options/ --size/}}
     for option in $options; do
         [[ " ${{COMP_WORDS[*]:at}} " == *" $option "* && $option != "$word" ]] || COMPREPLY+=($(compgen -W "$option" -- "$word"))
     done
@@ -140,7 +146,7 @@ complete -F _xsap xsap
 
 def zsh_completion():
     """Returns the completion for zsh: verbs, then the options of the verb, and names of files as their values."""
-    arms = "".join(f"        {verb}) options=({' '.join(options_of(verb))}) ;;\n" for verb in VERBS)
+    arms = "".join(f"        {verb}) options+=({' '.join(options_of(verb))}) ;;\n" for verb in VERBS)
     files = "|".join(sorted(file_options()))
     return f"""#compdef xsap
 # Completes the words of xsap in zsh.
@@ -167,6 +173,11 @@ _xsap() {{
         fi
         return
     fi
+    if [[ $verb == analyse && $CURRENT -eq $((at + 1)) ]]; then
+        options=(--layers)
+    elif [[ $verb == analyse && ${{words[at+1]}} == --layers ]]; then
+        at=$((at + 1)); options=(--seconds)
+    fi
     if (((CURRENT - at) % 2 == 0)); then
         case ${{words[CURRENT-1]}} in
             ({files}) _files ;;
@@ -176,6 +187,7 @@ _xsap() {{
     fi
     case $verb in
 {arms}    esac
+    [[ ${{options[1]}} == --seconds ]] && options=(${{options:#--size}})
     compadd -- ${{options:|words}}
 }}
 _xsap "$@"

@@ -58,6 +58,12 @@ OPTIONS = {
     "--number": "which of the models",
     "--stages": "how many relays, 1 to 64",
 }
+# What follows analyse in place of --size: the words by which the command runs it for sizes in turn.
+LAYERS = "--layers [--seconds NUMBER]"
+LAYERS_WORDS = {
+    "--layers": "the word after analyse: sizes 1, 2, .. in turn, each with a certificate, as cuts.2.cert",
+    "--seconds NUMBER": "after how many seconds no further layer is begun, and the running one is broken off",
+}
 # The words of the command itself, which come in place of a verb or before it; and those that it has in the repository alone.
 OWN = {
     "--help": "this text; --help VERB: a verb's options, one by one",
@@ -106,11 +112,12 @@ def help_text(name, manual, folder):
     verbs = "".join(f"  {verb:13} {does}\n{wrapped(options, ' ' * 16)}" for verb, (does, options) in {**VERBS, **SHOWING}.items())
     words = OWN if os.path.isabs(folder) else {**OWN, **OF_REPOSITORY}
     own = "".join(f"  {word:13} {means}\n" for word, means in words.items())
+    layers = f"  {name} analyse {LAYERS} ..   the words of analyse but --size: sizes in turn\n"
     example = EXAMPLE.format(folder=folder, command="../../xsap" if name == "./xsap" else name)
     return (
         f"{name} extends SMV models with faults, and finds and certifies the minimal cut sets of a top event.\n\n"
         f"  {name} VERB --OPTION VALUE ..      the options in any order, each value a word of its own\n"
-        f"  {name} show FILE, {name} diff OLD NEW\n\n"
+        f"{layers}  {name} show FILE, {name} diff OLD NEW\n\n"
         f"{verbs}\n{own}\nAn example{'' if os.path.isabs(folder) else ', at the top of the repository'}:\n{example}\n"
         f"{STATUSES}\nThe manual: {manual}\n"
     )
@@ -124,7 +131,9 @@ def help_of(verb, name, manual):
         return f"{name} {verb} {does}.\n\n  {name} {verb} {words}\n\n{meant}\nThe manual: {manual}\n"
     options = "".join(f"  {option + ' ' + value:23} {OPTIONS[option]}\n" for option, value in options_of(verb).items())
     free = "".join(f"  ({option.strip('[]')} may be left out)\n" for option in VERBS[verb][1].split() if option.startswith("["))
-    return f"{name} {verb} {VERBS[verb][0]}.\n\n  {name} {verb}\n{wrapped(VERBS[verb][1], ' ' * 4)}\n{options}{free}\nThe manual: {manual}\n"
+    layers = "".join(f"  {word:23} {means}\n" for word, means in LAYERS_WORDS.items()) if verb == "analyse" else ""
+    layers = f"\n  {name} analyse {LAYERS} .. runs it for sizes in turn:\n{layers}" if layers else ""
+    return f"{name} {verb} {VERBS[verb][0]}.\n\n  {name} {verb}\n{wrapped(VERBS[verb][1], ' ' * 4)}\n{options}{free}{layers}\nThe manual: {manual}\n"
 
 
 def nearest(word):
