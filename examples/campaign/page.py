@@ -122,7 +122,7 @@ def asked_of(cases):
 
 def listed(sets, kind=""):
     """Returns sets of names as a list."""
-    return "<ul class=sets>" + "".join(f'<li class="{kind}">{code(" ".join(it)) if it else "no fault"}</li>' for it in sets) + "</ul>"
+    return f'<ul class="sets{" many" if len(sets) > 8 else ""}">' + "".join(f'<li class="{kind}">{code(" ".join(it)) if it else "no fault"}</li>' for it in sets) + "</ul>"
 
 
 def sets_of(cases):
@@ -135,7 +135,7 @@ def sets_of(cases):
             held += f"<p class=about>and {len(case.sets) - 60} more, in the report</p>" if len(case.sets) > 60 else ""
             rows.append([text(case.name), (text(case.sentence + size), ""), str(len(case.sets)), held])
     return table("Minimal cut sets", "Of a bounded answer sets may be missing, and a listed one need not be minimal.",
-                 ["case", "answer", "#sets", "minimal cut sets"], rows)
+                 ["case", "answer", "#sets", "minimal cut sets"], rows, "listing")
 
 
 def effects_of(cases):
@@ -158,7 +158,7 @@ def effects_of(cases):
             held += f"<p class=about>{open_rows} rows are open</p>" if open_rows else ""
             rows.append([text(case.name), code(events[at] if at < len(events) else at + 1), text(ending), case.row["size"], held])
     return table("Failure modes and effects", "For each top event the least rows of the table that suffice for it.",
-                 ["case", "top event", "answer", "#size", "rows that suffice"], rows)
+                 ["case", "top event", "answer", "#size", "rows that suffice"], rows, "listing")
 
 
 def change_of(case, xsap):
@@ -193,7 +193,7 @@ def changes(cases, xsap):
     if not rows:
         return f"<p class=about>Against the last campaign nothing changed: {same} cases have the same answer.</p>\n"
     return table("What changed against the last campaign", f"By names of faults, as xsap diff tells it; {same} cases have the same answer.",
-                 ["case", "change"], rows)
+                 ["case", "change"], rows, "listing")
 
 
 def page_of(cases, xsap):
