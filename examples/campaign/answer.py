@@ -23,11 +23,13 @@ import time
 sys.dont_write_bytecode = True
 from cases import PAGE, Wrong, bytes_of, files_of, key_of, read_cases
 
-NO_PROGRAM, OUT_OF_MEMORY, NO_TEXT = 70, 8, 11
+NO_PROGRAM, OUT_OF_MEMORY = 70, 8
 REFUSED = (2, 3, 4, 5, 6, 9, 10)
 # The signals of a process that is out of its processor time, and of one that the system kills, which it mostly does for want of memory.
 OUT_OF_TIME, KILLED = -24, -9
 MEGABYTE = 1 << 20
+# (a top event with more bytes is refused, and the system takes no word that is far longer)
+LONGEST_TOP = 65536
 
 
 def limited(row):
@@ -85,7 +87,7 @@ def words_of(row, data):
 
 def top_of(row, data):
     """Returns the top event of an analysis: the word of the row, or what its file has."""
-    return os.fsdecode(data["top"]).strip() if "top" in data else row["top"]
+    return os.fsdecode(data["top"].strip()[:LONGEST_TOP + 1]) if "top" in data else row["top"]
 
 
 def lay_out(folder, data):
@@ -114,6 +116,9 @@ def answered(row, data, asked):
     if missing:
         sentence = f"there is no file {' and no file '.join(missing)}, or it can't be read"
         return {"ending": "missing", "sentence": sentence, "seconds": None}, sentence.encode() + b"\n", b""
+    if row["wants"] == "analyse" and "\0" in top_of(row, data):
+        sentence = f"the file {files_of(row)['top']} has a byte 0, and no word has one"
+        return {"ending": "failed", "sentence": sentence, "seconds": None}, sentence.encode() + b"\n", b""
     with tempfile.TemporaryDirectory(prefix="case-") as folder:
         lay_out(folder, data)
         status, said, told, seconds = run(asked.xsap, words_of(row, data), folder, row)
