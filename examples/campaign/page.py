@@ -122,7 +122,8 @@ def asked_of(cases):
 
 def listed(sets, kind=""):
     """Returns sets of names as a list."""
-    return f'<ul class="sets{" many" if len(sets) > 8 else ""}">' + "".join(f'<li class="{kind}">{code(" ".join(it)) if it else "no fault"}</li>' for it in sets) + "</ul>"
+    items = "".join(f'<li class="{kind}">{code(" ".join(it)) if it else "no fault"}</li>' for it in sets)
+    return f'<ul class="sets{" many" if len(sets) > 8 else ""}">{items}</ul>'
 
 
 def sets_of(cases):
