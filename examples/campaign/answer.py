@@ -41,8 +41,19 @@ def limited(row):
     return limit
 
 
+def make_ready(xsap):
+    """Has xsap unpack its program where it has not yet, outside the limits of a case, or says why there is none."""
+    try:
+        done = subprocess.run([*xsap, "--exact"], stdin=subprocess.DEVNULL, stdout=subprocess.DEVNULL, stderr=subprocess.PIPE)
+    except OSError as why:
+        raise Wrong(f"{xsap[0]} can't be run: {why}") from None
+    if done.returncode == NO_PROGRAM:
+        raise Wrong(done.stderr.decode(errors="replace").strip())
+
+
 def run(xsap, words, folder, row):
     """Runs xsap in a folder, and returns its status, its output, what it told on standard error, and the seconds that it took."""
+    make_ready(xsap)
     before, begun = resource.getrusage(resource.RUSAGE_CHILDREN), time.monotonic()
     try:
         done = subprocess.run([*xsap, "--explain", *words], cwd=folder, stdin=subprocess.DEVNULL, stdout=subprocess.PIPE,
@@ -60,9 +71,9 @@ def run(xsap, words, folder, row):
 def ending_of(status, said, told, row):
     """Returns how a run ended: a word, and a sentence."""
     line = said.decode(errors="replace").split("\n")[0]
-    if status in (0, 1):
-        steps = [int(it) for it in re.findall(rb"^(?:top \d+ )?bounded (\d+)", said, re.M)]
-        return ("bounded", f"bounded {steps[0]}") if status else ("complete", "complete")
+    steps = re.search(rb"^(?:top \d+ )?bounded (\d+)", said, re.M)
+    if status == 0 or (status == 1 and steps):
+        return ("bounded", f"bounded {steps[1].decode()}") if status else ("complete", "complete")
     if status in REFUSED:
         place = re.match(r"xsap: (.*)", told)
         means = re.search(r"^means: (.*)", told, re.M)
@@ -127,7 +138,7 @@ def answered(row, data, asked):
         if ending == "complete" and row["wants"] == "analyse":
             with open(f"{folder}/cuts.cert", "rb") as it:
                 cert = it.read()
-    report = said if status in (0, 1) else f"{sentence}\n".encode()
+    report = said if ending in ("complete", "bounded") else f"{sentence}\n".encode()
     return {"ending": ending, "sentence": sentence, "seconds": seconds}, report, cert
 
 
