@@ -12,7 +12,7 @@ import subprocess
 from running import kept, programs
 from running.machine import Unready
 from running.programs import TOP
-from running.verbs import FORMS, OWN, SHOWING, VERBS, VERSION, file_options, options_of
+from running.verbs import FORMS, OWN, SHORT, SHOWING, VERBS, VERSION, file_options, options_of, short_options
 
 EXAMPLE_FILES = ("model.smv", "faults.fei", "causes", "tops", "crash.trace", "pass.trace")
 
@@ -92,9 +92,20 @@ def link(target, path):
     os.replace(part, path)
 
 
+def options_for(verb):
+    """Returns the options of a verb, with those of short words."""
+    return [*options_of(verb), *short_options(verb)]
+
+
+def other_values():
+    """Returns the options whose values nothing completes."""
+    found = {it for verb in VERBS for it in options_of(verb)} - {*file_options(), "--claim"}
+    return "|".join(sorted([*found, "--seconds"]))
+
+
 def bash_completion():
-    """Returns the completion for bash: verbs, then the options of the verb that are not yet there, and names of files as their values."""
-    arms = "".join(f"        {verb}) options+=' {' '.join(options_of(verb))}' ;;\n" for verb in VERBS)
+    """Returns the completion for bash: verbs, then files as plain words, the options of the verb that are not yet there, and their values."""
+    arms = "".join(f"        {verb}) options+=' {' '.join(options_for(verb))}' ;;\n" for verb in VERBS)
     return f"""# Completes the words of xsap in bash.
 _xsap() {{
     local word=${{COMP_WORDS[COMP_CWORD]}} before=${{COMP_WORDS[COMP_CWORD-1]}} verb='' at=1 options='' option
@@ -126,16 +137,20 @@ _xsap() {{
     elif [[ $verb == analyse && ${{COMP_WORDS[at+1]}} == --layers ]]; then
         at=$((at + 1)) options=--seconds
     fi
-    if (((COMP_CWORD - at) % 2 == 0)); then
-        case $before in
-            {'|'.join(sorted(file_options()))}) compopt -o filenames 2>/dev/null; mapfile -t COMPREPLY < <(compgen -f -- "$word") ;;
-            --claim) COMPREPLY=($(compgen -W 'before after together none' -- "$word")) ;;
-        esac
+    case $before in
+        {'|'.join(sorted(file_options()))}|--output) compopt -o filenames 2>/dev/null; mapfile -t COMPREPLY < <(compgen -f -- "$word"); return ;;
+        --claim) COMPREPLY=($(compgen -W 'before after together none' -- "$word")); return ;;
+        --format) COMPREPLY=($(compgen -W '{' '.join(FORMS)} exact' -- "$word")); return ;;
+        {other_values()}) return ;;
+    esac
+    if [[ -n $word && $word != -* ]]; then
+        compopt -o filenames 2>/dev/null; mapfile -t COMPREPLY < <(compgen -f -- "$word")
         return
     fi
     case $verb in
 {arms}    esac
     [[ $options == --seconds* ]] && options=${{options/ --size/}}
+    [[ $options == --seconds* ]] && options=${{options/{' '.join(SHORT)}/}}
     for option in $options; do
         [[ " ${{COMP_WORDS[*]:at}} " == *" $option "* && $option != "$word" ]] || COMPREPLY+=($(compgen -W "$option" -- "$word"))
     done
@@ -145,14 +160,15 @@ complete -F _xsap xsap
 
 
 def zsh_completion():
-    """Returns the completion for zsh: verbs, then the options of the verb, and names of files as their values."""
-    arms = "".join(f"        {verb}) options+=({' '.join(options_of(verb))}) ;;\n" for verb in VERBS)
+    """Returns the completion for zsh: verbs, then files as plain words, the options of the verb, and their values."""
+    arms = "".join(f"        {verb}) options+=({' '.join(options_for(verb))}) ;;\n" for verb in VERBS)
     files = "|".join(sorted(file_options()))
     return f"""#compdef xsap
 # Completes the words of xsap in zsh.
 _xsap() {{
     local at=2 verb
-    local -a options
+    local -a options short
+    short=(--size {' '.join(SHORT)})
     while [[ ${{words[at]}} == (--explain|--exact) ]]; do at=$((at + 1)); done
     if ((CURRENT <= at)); then
         compadd -- {' '.join([*VERBS, *SHOWING, *OWN])}
@@ -178,16 +194,19 @@ _xsap() {{
     elif [[ $verb == analyse && ${{words[at+1]}} == --layers ]]; then
         at=$((at + 1)); options=(--seconds)
     fi
-    if (((CURRENT - at) % 2 == 0)); then
-        case ${{words[CURRENT-1]}} in
-            ({files}) _files ;;
-            (--claim) compadd -- before after together none ;;
-        esac
+    case ${{words[CURRENT-1]}} in
+        ({files}|--output) _files; return ;;
+        (--claim) compadd -- before after together none; return ;;
+        (--format) compadd -- {' '.join(FORMS)} exact; return ;;
+        ({other_values()}) return ;;
+    esac
+    if [[ -n ${{words[CURRENT]}} && ${{words[CURRENT]}} != -* ]]; then
+        _files
         return
     fi
     case $verb in
 {arms}    esac
-    [[ ${{options[1]}} == --seconds ]] && options=(${{options:#--size}})
+    [[ ${{options[1]}} == --seconds ]] && options=(${{options:|short}})
     compadd -- ${{options:|words}}
 }}
 _xsap "$@"

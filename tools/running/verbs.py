@@ -32,6 +32,8 @@ SHOWING = {
     "show": ("shows a report of analyse or causes as tables, as a page, or for other tools", "FILE [--format FORM] [--full]"),
     "diff": ("tells which minimal cut sets are gone and have come from one report to another", "OLD NEW"),
 }
+# The verbs whose reports that program shows.
+SHOWN = ("analyse", "causes")
 FORMS = ("text", "csv", "json", "markdown", "html", "open-psa", "dot", "vcd")
 SHOWING_WORDS = {
     "FILE": "a report as it was printed; - is standard input",
@@ -57,6 +59,44 @@ OPTIONS = {
     "--claim": "before, after, together or none",
     "--number": "which of the models",
     "--stages": "how many relays, 1 to 64",
+}
+# Short words: which options of a verb are given as plain words, in this order, and what the others are where they are left out. An output
+# is named after the model: of model.smv it is model.extended.smv.
+PLAIN = {
+    "extend": ("--model", "--faults"),
+    "analyse": ("--model", "--faults"),
+    "check": ("--model", "--faults", "--cert"),
+    "replay": ("--model", "--faults", "--trace"),
+    "fmea": ("--model", "--faults", "--tops"),
+    "make": ("--model", "--faults"),
+    "causes": ("--model", "--faults", "--causes"),
+    "check-causes": ("--model", "--faults", "--causes", "--cert"),
+    "orders": ("--model", "--faults"),
+    "check-orders": ("--model", "--faults", "--cert"),
+    "odds": ("--model", "--faults"),
+}
+DEFAULTS = {
+    **{verb: {"--depth": "1000000000"} for verb in ("analyse", "causes", "orders", "odds")},
+    "fmea": {"--size": "1", "--depth": "1000000000"},
+    "make": {"--number": "1", "--stages": "3", "--depth": "1000000000"},
+}
+BESIDE = {
+    "extend": {"--extended": ".extended.smv"},
+    "analyse": {"--extended": ".extended.smv", "--cert": ".cert"},
+    "causes": {"--cert": ".causes.cert"},
+    "orders": {"--cert": ".order.cert"},
+}
+# What each verb writes, with short words under no name of another file.
+WRITES = {"extend": ("--extended",), "analyse": ("--extended", "--cert"), "make": ("--model", "--faults"), "causes": ("--cert",),
+          "orders": ("--cert",)}
+# The options that short words have beside those of the verb, each with what its value is, or None where it has none.
+SHORT = {"--format": "FORM", "--full": None, "--output": "FILE", "--force": None, "--verbose": None}
+SHORT_WORDS = {
+    "--format FORM": "how the answer is shown; exact is the report as the program prints it",
+    "--full": "every value at every moment of a trace, and not only those that change",
+    "--output FILE": "where the answer goes in place of standard output",
+    "--force": "overwrites files that were there before",
+    "--verbose": "prints on standard error what is handed to the program",
 }
 # What follows analyse in place of --size: the words by which the command runs it for sizes in turn.
 LAYERS = "--layers [--seconds NUMBER]"
@@ -97,6 +137,38 @@ def file_options():
     return {option for verb in VERBS for option, value in options_of(verb).items() if value == "FILE"}
 
 
+def short_usage(verb):
+    """Returns the short words of a verb: files, what must be given, and in brackets what may be left out."""
+    free = {**DEFAULTS.get(verb, {}), **BESIDE.get(verb, {})}
+    if verb in ("orders", "check-orders"):
+        free = {**free, "--first": "", "--second": ""}
+    left = {it: value for it, value in options_of(verb).items() if it not in PLAIN[verb]}
+    needed = [f"{it} {value}" for it, value in left.items() if it not in free and f"[{it}" not in VERBS[verb][1]]
+    others = [f"[{it} {value}]" for it, value in left.items() if f"{it} {value}" not in needed]
+    return " ".join([*(it[2:].upper() for it in PLAIN[verb]), *needed, *others])
+
+
+def short_options(verb):
+    """Returns the options that short words of a verb have beside its own, each with what its value is."""
+    left_out = {*(() if verb in SHOWN else ("--full",)), *(() if verb in WRITES else ("--force",))}
+    return {it: value for it, value in SHORT.items() if it not in left_out}
+
+
+def short_help(verb, name):
+    """Returns the help on the short words of a verb: their form, what is left out, and the further options."""
+    left = {**DEFAULTS.get(verb, {}), **{it: f"MODEL{end}" for it, end in BESIDE.get(verb, {}).items()}}
+    free = ", ".join(f"{it} {value}" for it, value in left.items())
+    shown = "".join(f"  {word:23} {means}\n" for word, means in SHORT_WORDS.items() if word.split()[0] in short_options(verb))
+    shown = shown.replace(SHORT_WORDS["--format FORM"], f"{SHORT_WORDS['--format FORM']}:\n{' ' * 26}{', '.join(forms_of(verb))}")
+    return (f"  {name} {verb} {short_usage(verb)}\n" + (f"      where left out: {free}\n" if free else "")
+            + ("      --top @FILE has the event of a file\n" if "--top" in options_of(verb) else "") + f"{shown}\nExact words, for scripts:\n\n")
+
+
+def forms_of(verb):
+    """Returns the forms in which the answer to short words can be shown."""
+    return (*FORMS, "exact") if verb in SHOWN else ("text", "exact")
+
+
 def wrapped(text, indent):
     """Returns a list of options as lines of at most some hundred columns, each option with its value."""
     parts, lines = text.replace(" --", "\0--").replace(" [--", "\0[--").split("\0"), [""]
@@ -116,7 +188,9 @@ def help_text(name, manual, folder):
     example = EXAMPLE.format(folder=folder, command="../../xsap" if name == "./xsap" else name)
     return (
         f"{name} extends SMV models with faults, and finds and certifies the minimal cut sets of a top event.\n\n"
-        f"  {name} VERB --OPTION VALUE ..      the options in any order, each value a word of its own\n"
+        f"  {name} analyse MODEL FAULTS --top EXPRESSION\n"
+        f"  {name} VERB FILE .. --OPTION ..    short words: files as plain words, defaults, and answers with names (--help VERB)\n"
+        f"  {name} VERB --OPTION VALUE ..      exact words: the options in any order, each value a word of its own\n"
         f"{layers}  {name} show FILE, {name} diff OLD NEW\n\n"
         f"{verbs}\n{own}\nAn example{'' if os.path.isabs(folder) else ', at the top of the repository'}:\n{example}\n"
         f"{STATUSES}\nThe manual: {manual}\n"
@@ -133,7 +207,7 @@ def help_of(verb, name, manual):
     free = "".join(f"  ({option.strip('[]')} may be left out)\n" for option in VERBS[verb][1].split() if option.startswith("["))
     layers = "".join(f"  {word:23} {means}\n" for word, means in LAYERS_WORDS.items()) if verb == "analyse" else ""
     layers = f"\n  {name} analyse {LAYERS} .. runs it for sizes in turn:\n{layers}" if layers else ""
-    return f"{name} {verb} {VERBS[verb][0]}.\n\n  {name} {verb}\n{wrapped(VERBS[verb][1], ' ' * 4)}\n{options}{free}{layers}\nThe manual: {manual}\n"
+    return f"{name} {verb} {VERBS[verb][0]}.\n\n{short_help(verb, name)}  {name} {verb}\n{wrapped(VERBS[verb][1], ' ' * 4)}\n{options}{free}{layers}\nThe manual: {manual}\n"
 
 
 def nearest(word):
