@@ -9,7 +9,7 @@ import re
 import signal
 import subprocess
 
-from running import explaining, kept, outputs, programs, short, tables
+from running import explaining, kept, outputs, programs, short, tables, telling
 from running.machine import Unready
 from running.short import Wrong, shown
 
@@ -176,5 +176,5 @@ def refused(asked, why):
     if why.line.startswith("refused words"):
         programs.tell(short.words_wrong(asked, why.line))
     else:
-        explaining.explain(why.line, why.words)
+        telling.tell(why.line, why.words, asked.top_file)
     return why.status

@@ -12,7 +12,8 @@ from running.short import Wrong, shown
 PRINTED = re.compile(rb"(?:(?:MODULE|VAR|IVAR|FROZENVAR|DEFINE|CONSTANTS|ASSIGN|INIT|INVAR|TRANS)\b[^\n]*|  \S[^\n]*)")
 MODE = re.compile(rb"(?m)^  (\S+)#mode : \{\1#nominal, ")
 MADE = {
-    "--model": re.compile(rb"MODULE Relay\(feed\)\nVAR\n  out : boolean;\nASSIGN\n  out := feed;\nMODULE main\nVAR\n(?:  r\d+ : Relay\((?:TRUE|r\d+\.out)\);\n)+"
+    "--model": re.compile(rb"MODULE Relay\(feed\)\nVAR\n  out : boolean;\nASSIGN\n  out := feed;\n"
+                          rb"MODULE main\nVAR\n(?:  r\d+ : Relay\((?:TRUE|r\d+\.out)\);\n)+"
                           rb"DEFINE\n  dead := .*;\n"),
     "--faults": re.compile(rb"EXTENSION OF MODULE Relay\n  SLICE R AFFECTS out WITH\n    MODE off : Permanent StuckAt\(FALSE\);\n"),
 }

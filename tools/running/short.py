@@ -81,7 +81,8 @@ def read(words):
             raise Wrong(missing(asked.verb, option))
     form = asked.own.get("--format", "text")
     if form not in verbs.forms_of(asked.verb):
-        raise Wrong(f"--format of {asked.verb} is {', '.join(verbs.forms_of(asked.verb))}, and not {shown(form)}{meant(form, verbs.forms_of(asked.verb))}")
+        forms = verbs.forms_of(asked.verb)
+        raise Wrong(f"--format of {asked.verb} is {', '.join(forms)}, and not {shown(form)}{meant(form, forms)}")
     if asked.values.get("--top", "").startswith("@"):
         asked.top_file = asked.values["--top"][1:]
         asked.values["--top"] = event_of(asked.top_file)
