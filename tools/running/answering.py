@@ -174,7 +174,7 @@ def put(asked, data, status):
 def refused(asked, why):
     """Tells a refusal on standard error, and returns its status."""
     if why.line.startswith("refused words"):
-        programs.tell(short.words_wrong(asked, why.line))
+        programs.tell(short.words_wrong(why.words, why.line))
     else:
         telling.tell(why.line, why.words, asked.top_file)
     return why.status

@@ -12,7 +12,7 @@ import subprocess
 from running import kept, programs
 from running.machine import Unready
 from running.programs import TOP
-from running.verbs import FORMS, OWN, SHORT, SHOWING, VERBS, VERSION, file_options, options_of, short_options
+from running.verbs import FORMS, OWN, OWN_VERBS, SHORT, SHOWING, VERBS, VERSION, file_options, options_of, short_options
 
 EXAMPLE_FILES = ("model.smv", "faults.fei", "causes", "tops", "crash.trace", "pass.trace")
 
@@ -105,7 +105,7 @@ def other_values():
 
 def bash_completion():
     """Returns the completion for bash: verbs, then files as plain words, the options of the verb that are not yet there, and their values."""
-    arms = "".join(f"        {verb}) options+=' {' '.join(options_for(verb))}' ;;\n" for verb in VERBS)
+    arms = "".join(f"        {verb}) options+=' {' '.join(options_for(verb))}' ;;\n" for verb in (*VERBS, *OWN_VERBS))
     return f"""# Completes the words of xsap in bash.
 _xsap() {{
     local word=${{COMP_WORDS[COMP_CWORD]}} before=${{COMP_WORDS[COMP_CWORD-1]}} verb='' at=1 options='' option
@@ -114,12 +114,12 @@ _xsap() {{
     done
     COMPREPLY=()
     if ((COMP_CWORD <= at)); then
-        COMPREPLY=($(compgen -W '{' '.join([*VERBS, *SHOWING, *OWN])}' -- "$word"))
+        COMPREPLY=($(compgen -W '{' '.join([*VERBS, *OWN_VERBS, *SHOWING, *OWN])}' -- "$word"))
         return
     fi
     verb=${{COMP_WORDS[at]}}
     if [[ $verb == --help ]]; then
-        COMPREPLY=($(compgen -W '{' '.join([*VERBS, *SHOWING])}' -- "$word"))
+        COMPREPLY=($(compgen -W '{' '.join([*VERBS, *OWN_VERBS, *SHOWING])}' -- "$word"))
         return
     fi
     if [[ $verb == show || $verb == diff ]]; then
@@ -161,7 +161,7 @@ complete -F _xsap xsap
 
 def zsh_completion():
     """Returns the completion for zsh: verbs, then files as plain words, the options of the verb, and their values."""
-    arms = "".join(f"        {verb}) options+=({' '.join(options_for(verb))}) ;;\n" for verb in VERBS)
+    arms = "".join(f"        {verb}) options+=({' '.join(options_for(verb))}) ;;\n" for verb in (*VERBS, *OWN_VERBS))
     files = "|".join(sorted(file_options()))
     return f"""#compdef xsap
 # Completes the words of xsap in zsh.
@@ -171,12 +171,12 @@ _xsap() {{
     short=(--size {' '.join(SHORT)})
     while [[ ${{words[at]}} == (--explain|--exact) ]]; do at=$((at + 1)); done
     if ((CURRENT <= at)); then
-        compadd -- {' '.join([*VERBS, *SHOWING, *OWN])}
+        compadd -- {' '.join([*VERBS, *OWN_VERBS, *SHOWING, *OWN])}
         return
     fi
     verb=${{words[at]}}
     if [[ $verb == --help ]]; then
-        compadd -- {' '.join([*VERBS, *SHOWING])}
+        compadd -- {' '.join([*VERBS, *OWN_VERBS, *SHOWING])}
         return
     fi
     if [[ $verb == (show|diff) ]]; then

@@ -77,7 +77,7 @@ def read(words):
     asked.values.update(zip(room, plain))
     fill(asked)
     for option in verbs.options_of(asked.verb):
-        if option not in asked.values and f"[{option} " not in verbs.VERBS[asked.verb][1] and option not in ("--first", "--second"):
+        if option not in asked.values and f"[{option} " not in verbs.words_of(asked.verb) and option not in ("--first", "--second"):
             raise Wrong(missing(asked.verb, option))
     form = asked.own.get("--format", "text")
     if form not in verbs.forms_of(asked.verb):
@@ -161,21 +161,21 @@ def command_of(words):
     return shlex.join(words)
 
 
-def number_wrong(asked, place):
-    """Returns the sentence on a number, a set or a claim that the program has refused at a place of its exact words."""
-    option, value = asked.exact()[place - 2:place]
-    limits = {**LIMITS, "--size": "0 to 2" if asked.verb == "fmea" else "0 to 256", "--set": "two or more names of faults or rising numbers",
+def number_wrong(words, place):
+    """Returns the sentence on a number, a set or a claim that the program has refused at a place of exact words."""
+    option, value = words[place - 2:place]
+    limits = {**LIMITS, "--size": "0 to 2" if words[0] == "fmea" else "0 to 256", "--set": "two or more names of faults or rising numbers",
               "--claim": "before, after, together or none"}
     kind = "" if option in ("--set", "--claim") else "a number from "
     return f"{option} is {kind}{limits[option]}, and not {shown(value)}"
 
 
-def words_wrong(asked, line):
+def words_wrong(words, line):
     """Returns the sentence on exact words that the program has refused in this line."""
     number, place = re.fullmatch(r"refused words (\d) at (\d+)", line).groups()
-    words, place = asked.exact(), int(place)
+    place = int(place)
     if number == "7":
-        return number_wrong(asked, place)
+        return number_wrong(words, place)
     if number == "8":
         return f"{shown(words[place - 1])} is the name of two files, of {words[place - 2]} and of {words[words.index(words[place - 1]) - 1]}"
     if number == "9":

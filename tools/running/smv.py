@@ -199,6 +199,19 @@ class Scope:
         inner = self.inner().get(first)
         return inner is not None and (not rest or inner.is_instance(rest, steps + 1))
 
+    def declared(self, names, steps=0):
+        """Returns the module that declares what a dotted name stands for, and its item, or None where it stands for nothing that is declared."""
+        first, rest = names[0], names[1:]
+        if first in self.actuals and self.outer:
+            actual = self.actuals[first]
+            is_plain = len(actual) % 2 and all(it.text == "." for it in actual[1::2]) and steps < DEEPEST
+            return self.outer.declared([*(it.text for it in actual[::2]), *rest], steps + 1) if is_plain else None
+        item = self.model.declared.get(self.module, {}).get(first)
+        if not rest or item is None:
+            return item and (self.module, item)
+        inner = self.inner().get(first)
+        return inner and inner.declared(rest, steps + 1)
+
     def means(self, names, steps=0):
         """Returns None where a dotted name means something, and else the number of the part that means nothing, with the names that would."""
         first, rest = names[0], names[1:]

@@ -100,18 +100,24 @@ def meaning(seen):
 def shown(seen, told):
     """Returns the lines of what is told."""
     means = meaning(seen)
-    name, sentence = printable(seen.name), told.sentence or means or seen.line
+    sentence = told.sentence or means or seen.line
     last = f"{seen.line}: {means}" if means and means != sentence else seen.line
-    if told.at is None or told.at > len(seen.text):
-        return f"{name}: error: {sentence}\n" + "".join(f"  note: {it}\n" for it in told.notes) + f"  = {last}\n"
-    begin = seen.text.rfind("\n", 0, told.at) + 1
-    end = (seen.text + "\n").index("\n", told.at)
-    number, column = seen.text.count("\n", 0, told.at) + 1, told.at - begin + 1
-    source, width = decoded(seen.text[begin:end]), max(len(str(number)) + 2, 5)
-    blank = re.sub(r"[^\t]", " ", decoded(seen.text[begin:told.at]))
-    length = max(len(decoded(seen.text[told.at:min(told.end or told.at + 1, end)])), 1)
-    return (f"{name}:{number}:{column}: error: {sentence}\n{number:{width}} | {source}\n{' ' * width} | {blank}^{'~' * (length - 1)}\n"
-            + "".join(f"{' ' * width} note: {it}\n" for it in told.notes) + f"{' ' * width} = {last}\n")
+    lines = [*(f"note: {it}" for it in told.notes), f"= {last}"]
+    return pointed(seen.name, seen.text, f"error: {sentence}", told.at, told.end, lines)
+
+
+def pointed(name, text, sentence, at, end, lines):
+    """Returns a sentence on a place of a text, with its line and a caret, and further lines below it."""
+    name = printable(name)
+    if at is None or at > len(text):
+        return f"{name}: {sentence}\n" + "".join(f"  {it}\n" for it in lines)
+    begin, behind = text.rfind("\n", 0, at) + 1, (text + "\n").index("\n", at)
+    number = text.count("\n", 0, at) + 1
+    width = max(len(str(number)) + 2, 5)
+    blank = re.sub(r"[^\t]", " ", decoded(text[begin:at]))
+    length = max(len(decoded(text[at:min(end or at + 1, behind)])), 1)
+    return (f"{name}:{number}:{at - begin + 1}: {sentence}\n{number:{width}} | {decoded(text[begin:behind])}\n"
+            f"{' ' * width} | {blank}^{'~' * (length - 1)}\n" + "".join(f"{' ' * width} {it}\n" for it in lines))
 
 
 def decoded(text):

@@ -27,6 +27,11 @@ VERBS = {
     "odds": ("bounds the probabilities of the minimal cut sets, by the marks of the modes",
              "--model FILE --faults FILE --top EXPRESSION --depth NUMBER"),
 }
+# The verbs of the command itself, which are runs of the program, with their options.
+OWN_VERBS = {
+    "lint": ("tells what is lawful in a model and its fault file and mostly a mistake",
+             "--model FILE --faults FILE [--top EXPRESSION] [--depth NUMBER]"),
+}
 # The verbs of the program that shows reports, with their words.
 SHOWING = {
     "show": ("shows a report of analyse or causes as tables, as a page, or for other tools", "FILE [--format FORM] [--full]"),
@@ -74,11 +79,13 @@ PLAIN = {
     "orders": ("--model", "--faults"),
     "check-orders": ("--model", "--faults", "--cert"),
     "odds": ("--model", "--faults"),
+    "lint": ("--model", "--faults"),
 }
 DEFAULTS = {
     **{verb: {"--depth": "1000000000"} for verb in ("analyse", "causes", "orders", "odds")},
     "fmea": {"--size": "1", "--depth": "1000000000"},
     "make": {"--number": "1", "--stages": "3", "--depth": "1000000000"},
+    "lint": {"--depth": "40"},
 }
 BESIDE = {
     "extend": {"--extended": ".extended.smv"},
@@ -126,9 +133,14 @@ STATUSES = """Exit status: 0 done, complete; 1 done, but only up to the depth; 2
 Of show and diff: 0 shown, or no difference; 1 the reports differ; 2 the words; 3 a file is no report; 4 there is no such file."""
 
 
+def words_of(verb):
+    """Returns the options of a verb as the help has them."""
+    return {**VERBS, **OWN_VERBS}[verb][1]
+
+
 def options_of(verb):
     """Returns the options of a verb, each with what its value is."""
-    words = VERBS[verb][1].replace("[", "").replace("]", "").split()
+    words = words_of(verb).replace("[", "").replace("]", "").split()
     return dict(zip(words[::2], words[1::2]))
 
 
@@ -143,14 +155,14 @@ def short_usage(verb):
     if verb in ("orders", "check-orders"):
         free = {**free, "--first": "", "--second": ""}
     left = {it: value for it, value in options_of(verb).items() if it not in PLAIN[verb]}
-    needed = [f"{it} {value}" for it, value in left.items() if it not in free and f"[{it}" not in VERBS[verb][1]]
+    needed = [f"{it} {value}" for it, value in left.items() if it not in free and f"[{it}" not in words_of(verb)]
     others = [f"[{it} {value}]" for it, value in left.items() if f"{it} {value}" not in needed]
     return " ".join([*(it[2:].upper() for it in PLAIN[verb]), *needed, *others])
 
 
 def short_options(verb):
     """Returns the options that short words of a verb have beside its own, each with what its value is."""
-    left_out = {*(() if verb in SHOWN else ("--full",)), *(() if verb in WRITES else ("--force",))}
+    left_out = {*(() if verb in SHOWN else ("--full",)), *(() if verb in WRITES else ("--force",)), *(("--format",) if verb in OWN_VERBS else ())}
     return {it: value for it, value in SHORT.items() if it not in left_out}
 
 
@@ -181,7 +193,7 @@ def wrapped(text, indent):
 
 def help_text(name, manual, folder):
     """Returns the help, for a command of this name with the manual at that place, and the example's files in that folder."""
-    verbs = "".join(f"  {verb:13} {does}\n{wrapped(options, ' ' * 16)}" for verb, (does, options) in {**VERBS, **SHOWING}.items())
+    verbs = "".join(f"  {verb:13} {does}\n{wrapped(options, ' ' * 16)}" for verb, (does, options) in {**VERBS, **OWN_VERBS, **SHOWING}.items())
     words = OWN if os.path.isabs(folder) else {**OWN, **OF_REPOSITORY}
     own = "".join(f"  {word:13} {means}\n" for word, means in words.items())
     layers = f"  {name} analyse {LAYERS} ..   the words of analyse but --size: sizes in turn\n"
@@ -203,15 +215,18 @@ def help_of(verb, name, manual):
         does, words = SHOWING[verb]
         meant = "".join(f"  {word:23} {means}\n" for word, means in SHOWING_WORDS.items() if word in words)
         return f"{name} {verb} {does}.\n\n  {name} {verb} {words}\n\n{meant}\nThe manual: {manual}\n"
+    if verb in OWN_VERBS:
+        return f"{name} {verb} {OWN_VERBS[verb][0]}.\n\n{short_help(verb, name).partition('Exact words')[0]}The manual: {manual}\n"
     options = "".join(f"  {option + ' ' + value:23} {OPTIONS[option]}\n" for option, value in options_of(verb).items())
     free = "".join(f"  ({option.strip('[]')} may be left out)\n" for option in VERBS[verb][1].split() if option.startswith("["))
     layers = "".join(f"  {word:23} {means}\n" for word, means in LAYERS_WORDS.items()) if verb == "analyse" else ""
     layers = f"\n  {name} analyse {LAYERS} .. runs it for sizes in turn:\n{layers}" if layers else ""
-    return f"{name} {verb} {VERBS[verb][0]}.\n\n{short_help(verb, name)}  {name} {verb}\n{wrapped(VERBS[verb][1], ' ' * 4)}\n{options}{free}{layers}\nThe manual: {manual}\n"
+    exact = f"  {name} {verb}\n{wrapped(VERBS[verb][1], ' ' * 4)}\n{options}{free}"
+    return f"{name} {verb} {VERBS[verb][0]}.\n\n{short_help(verb, name)}{exact}{layers}\nThe manual: {manual}\n"
 
 
 def nearest(word):
     """Returns the verb that a word may have meant, or None."""
     import difflib
 
-    return next(iter(difflib.get_close_matches(word.lower(), {**VERBS, **SHOWING}, 1, 0.6)), None)
+    return next(iter(difflib.get_close_matches(word.lower(), {**VERBS, **OWN_VERBS, **SHOWING}, 1, 0.6)), None)

@@ -1,0 +1,207 @@
+"""Tells what is lawful in a model and its fault file and mostly a mistake, each with its line. Only what is certain is told.
+
+By runs of the program, so that an answer is worth what the program's is: whether there is a first moment; whether the top event is reached
+without a fault; whether each mode is seen, and then changes what is read, for which the written extension is read as a model without
+faults, with events over its modes. What a run has answered for traces of at most so many steps alone is told as such. By the text: a
+guard that is constantly FALSE, a mode without a mark beside modes with one, and a variable with faults that only conditions bind.
+"""
+import re
+import tempfile
+
+from running import answering, explaining, kept, outputs, programs, short, smv, telling
+from running.answering import Refused
+from running.short import Wrong
+
+MOST_EVENTS = 64
+
+
+class Case:
+    """A model and its fault file: their texts and items, the faults, and what was found: warnings, and what is not known."""
+
+    def __init__(self, path, asked, folder):
+        self.path, self.asked, self.folder = path, asked, folder
+        self.model_name, self.faults_name = asked.values["--model"], asked.values["--faults"]
+        self.model_text, self.text = telling.text_of(self.model_name), telling.text_of(self.faults_name)
+        self.model = smv.Model(self.model_text)
+        self.items = smv.items_of_faults(smv.tokens_of(self.text))
+        self.found, self.open = [], []
+
+    def run(self, *words):
+        """Returns what the program says to exact words, where it is done or bounded."""
+        status, said = answering.captured(self.path, words, self.asked)
+        if status in explaining.REFUSED:
+            raise Refused(said.partition(b"\n")[0].decode(errors="replace"), words, status)
+        if status not in (0, 1):
+            raise Wrong(f"the program ended with {status}: {explaining.SILENT.get(status, 'it was ended by a signal')}", max(status, 7))
+        return said.decode()
+
+    def of_faults(self, item, sentence, *notes):
+        """Keeps a warning on an item of the fault file."""
+        token = item.head
+        self.found.append(telling.pointed(self.faults_name, self.text, f"warning: {sentence}", token.at, token.end, [f"note: {it}" for it in notes]))
+
+    def of_model(self, token, sentence, *notes):
+        """Keeps a warning on a token of the model, or on all of it."""
+        at, end = (token.at, token.end) if token else (None, None)
+        self.found.append(telling.pointed(self.model_name, self.model_text, f"warning: {sentence}", at, end, [f"note: {it}" for it in notes]))
+
+    def modes(self):
+        """Returns the modes of the fault file, each with the paths of the instances that have it."""
+        scopes = self.model.scopes()
+        return [(it, [scope.path for scope in scopes if scope.module == it.module]) for it in self.items if it.kind == "MODE" and it.inside]
+
+
+def run(words):
+    """Does what the words of lint ask for, and returns the status: 1 where something is told to be a mistake."""
+    asked = None
+    try:
+        asked = short.read(words)
+        path = programs.find(kept.PROGRAMS[0])
+        outputs.judge(asked)
+        with tempfile.TemporaryDirectory(prefix="xsap-lint-") as folder:
+            case = Case(path, asked, folder)
+            look(case)
+        count = len(case.found)
+        text = "".join(case.found) + "".join(f"not known: {it}\n" for it in case.open)
+        text += f"{count} warning{'' if count == 1 else 's'}\n"
+        return answering.put(asked, text.encode(), 1 if count else 0)
+    except Wrong as why:
+        programs.tell(str(why))
+        return why.status
+    except Refused as why:
+        return answering.refused(asked, why)
+
+
+def look(case):
+    """Looks for all that can be told."""
+    of_both = ["--model", case.model_name, "--faults", case.faults_name]
+    extended = f"{case.folder}/extended.smv"
+    case.run("extend", *of_both, "--extended", extended)
+    written = ["--extended", f"{case.folder}/again.smv", "--cert", f"{case.folder}/cert"]
+    top, depth = case.asked.values.get("--top"), case.asked.values["--depth"]
+    # (an event that is refused is told before all else)
+    reached = case.run("analyse", *of_both, "--top", top, "--depth", depth, *written, "--size", "0") if top is not None else ""
+    by_text(case)
+    if "\nno first moment\n" in case.run("analyse", *of_both, "--top", "FALSE", "--depth", depth, *written):
+        return case.of_model(None, "there is no first moment: the conditions on it contradict each other, so that nothing is ever reached")
+    if "\nset\n" in reached:
+        case.of_model(None, "the top event is reached without any fault", "xsap replay and the trace of xsap analyse --size 0 show how")
+    elif "\nbounded " in reached:
+        case.open.append(f"whether the top event is reached without any fault in more than {depth} steps")
+    by_modes(case, extended, depth)
+    return None
+
+
+def by_modes(case, extended, depth):
+    """Looks whether each mode is seen, and changes what is read where it is."""
+    seen = answers(case, extended, depth, [f"{path}{it.inside.name}#mode = {it.inside.name}#{it.name}" for it, paths in case.modes() for path in paths])
+    events, order = [], []
+    for it, paths in case.modes():
+        said = [seen.pop(0) for _ in paths]
+        told_of_mode(case, it, paths, said, "is never seen: no trace, of whatever length, has a moment at which it stands", "is seen")
+        target = it.inside.tokens[3].text
+        for path in [path for path, one in zip(paths, said) if one == "yes"]:
+            events.append(f"{path}{it.inside.name}#mode = {it.inside.name}#{it.name} & {path}{target} != {path}{target}#nominal")
+            order.append((it, path))
+    changes = answers(case, extended, depth, events)
+    for it in dict.fromkeys(it for it, _ in order):
+        paths = [path for one, path in order if one is it]
+        said = [one for one, (mode, _) in zip(changes, order) if mode is it]
+        told_of_mode(case, it, paths, said, f"changes nothing: at each moment at which it stands, '{it.inside.tokens[3].text}' has its own value", "changes anything")
+
+
+def told_of_mode(case, item, paths, said, sentence, what):
+    """Keeps what the answers on a mode at its instances say: no is a warning, unknown is not known."""
+    name = f"{item.inside.name}.{item.name}"
+    no = [path for path, one in zip(paths, said) if one == "no"]
+    if no:
+        at = "" if len(no) == len(paths) else f" at {', '.join(it[:-1] or 'main' for it in no)}"
+        notes = ["its guard is never TRUE, or no moment can follow in which it stands"] if "seen:" in sentence and "WHEN" in [it.text for it in item.tokens] else []
+        case.of_faults(item, f"the mode {name} {sentence.replace(':', f'{at}:', 1)}", *notes)
+    for path in [path for path, one in zip(paths, said) if one == "unknown"]:
+        case.open.append(f"whether {path}{name} {what} in more than {case.asked.values['--depth']} steps")
+
+
+def answers(case, extended, depth, events):
+    """Returns for each event over the extension whether it is reached: yes, no or unknown."""
+    found, nothing = [], f"{case.folder}/nothing.fei"
+    open(nothing, "w", encoding="utf-8").close()
+    for first in range(0, len(events), MOST_EVENTS):
+        with open(f"{case.folder}/tops", "w", encoding="latin-1") as it:
+            it.write(";\n".join(events[first:first + MOST_EVENTS]))
+        words = ["fmea", "--model", extended, "--faults", nothing, "--tops", f"{case.folder}/tops", "--size", "0", "--depth", depth]
+        try:
+            said = case.run(*words)
+        except Refused as why:
+            raise Wrong(f"the extension can't be read as a model, so its modes were not looked at: {why.line}", 8) from None
+        found += re.search(r"^row : (.*)$", said, re.M)[1].split()
+    return found
+
+
+def by_text(case):
+    """Looks for what the texts alone show."""
+    modes = [it for it, _ in case.modes()]
+    marked = [it for it in modes if [one.text for one in it.tokens[2:3]] == ["{"]]
+    for it in modes:
+        if marked and it not in marked:
+            case.of_faults(it, f"the mode {it.inside.name}.{it.name} has no mark, and others have one: odds refuses this file")
+        texts = [one.text for one in it.tokens]
+        if "WHEN" in texts and is_false(texts[texts.index("WHEN") + 1:-1]):
+            case.of_faults(it, f"the guard of the mode {it.inside.name}.{it.name} is constantly FALSE")
+    modules = {it.module for it in case.model.scopes()}
+    for it in [it for it in case.items if it.kind == "EXTENSION" and it.name not in modules]:
+        case.of_faults(it, f"the module '{it.name}' has no instance, so that there are no faults of these slices")
+    for slice_ in [it for it in case.items if it.kind == "SLICE" and len(it.tokens) > 3]:
+        by_conditions(case, slice_)
+
+
+def is_false(texts):
+    """Returns whether an expression of truth values alone is FALSE."""
+    words = {"TRUE": "True", "FALSE": "False", "!": " not ", "&": " and ", "|": " or ", "(": "(", ")": ")"}
+    if not texts or len(texts) > 100 or any(it not in words for it in texts):
+        return False
+    try:
+        return eval("".join(words[it] for it in texts), {"__builtins__": {}}) is False  # (of these words alone)
+    except SyntaxError:
+        return False
+
+
+def by_conditions(case, slice_):
+    """Looks for an affected variable whose own value nothing gives, beside a condition on what is read of it."""
+    target = slice_.tokens[3].text
+    for it in case.model.items:
+        texts = [one.text for one in it.tokens]
+        if it.module == slice_.module and (it.kind == "ASSIGN" and it.name == target and texts[0] != "init" or it.kind == "TRANS" and target in under_next(it)):
+            return
+    conditions, told = [it for it in case.model.items if it.kind in ("INVAR", "TRANS")], []
+    for scope, it in [(scope, it) for scope in case.model.scopes() for it in conditions if it.module == scope.module]:
+        token = binding(scope, it, slice_.module, target)
+        if token and it not in told:
+            told.append(it)
+            case.of_model(token, f"nothing assigns '{target}', and this {it.kind} binds what is read of it, also while a fault of "
+                          f"{slice_.name} stands", f"where it should give '{target}' its own value, write it as an assignment")
+
+
+def binding(scope, item, module, target):
+    """Returns the token by which an INVAR names a variable of a module at an instance, or a TRANS under `next`, or None."""
+    for names in smv.dotted_of(item.value()):
+        declared = scope.declared([it.text for it in names])
+        is_bound = item.kind == "INVAR" or ".".join(it.text for it in names) in under_next(item)
+        if is_bound and declared and declared[0] == module and declared[1].name == target:
+            return names[0]
+    return None
+
+
+def under_next(item):
+    """Returns the names that stand under `next` in an item, with dots."""
+    found, depth, inside = set(), 0, None
+    names = {it[0].at: ".".join(one.text for one in it) for it in smv.dotted_of(item.tokens)}
+    for at, it in enumerate(item.tokens):
+        depth += {"(": 1, ")": -1}.get(it.text, 0)
+        if it.text == "next" and inside is None:
+            inside = depth
+        elif inside is not None and depth == inside and it.text == ")":
+            inside = None
+        elif inside is not None and it.at in names:
+            found.add(names[it.at])
+    return found
