@@ -35,6 +35,10 @@ def run(words):
         outputs.judge(asked)
         if "--set" in asked.values:
             number(path, asked)
+        if asked.verb == "odds" and "--cert" in asked.own:
+            from running import certified
+
+            return certified.odds(path, asked)
         return answer(path, show, asked)
     except Wrong as why:
         programs.tell(str(why))
@@ -53,7 +57,7 @@ def answer(path, show, asked):
     status, report = captured(path, words, asked)
     if status in (0, 1):
         tell_written(asked, before, status)
-        return put(asked, in_form(path, show, asked, report), status)
+        return put(asked.own.get("--output"), in_form(path, show, asked, report), status)
     outputs.remove(before)
     if status < 0:
         explaining.end_by(-status)
@@ -149,9 +153,9 @@ def in_form(path, show, asked, report):
     return done.stdout
 
 
-def put(asked, data, status):
-    """Writes an answer to where it should go, and returns the status. Where a file fails, it goes to standard output."""
-    name = asked.own.get("--output")
+def put(name, data, status):
+    """Writes an answer to a file or, without a name, to standard output, and returns the status. Where the file fails, it goes to standard
+    output."""
     if name is not None:
         try:
             if os.path.exists(name) and not os.path.isfile(name):
@@ -176,5 +180,8 @@ def refused(asked, why):
     if why.line.startswith("refused words"):
         programs.tell(short.words_wrong(why.words, why.line))
     else:
-        telling.tell(why.line, why.words, asked.top_file)
+        from running.certified import note_of
+
+        note = note_of(why.words[0], why.line, why.words[-1] if why.words[-2:-1] == ["--cert"] else asked.values.get("--cert", ""))
+        telling.tell(why.line, why.words, asked.top_file, [note] if note else [])
     return why.status

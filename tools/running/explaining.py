@@ -125,7 +125,10 @@ def explain(line, words):
         head += f" ({option})"
     else:
         head = "the words" if line.startswith("refused words") else "the set"
-    programs.tell(f"{head}\n{said}{usage(line, words)}".rstrip("\n"))
+    from running.certified import note_of
+
+    note = note_of(words[0], line, given.get("--cert", ""))
+    programs.tell(f"{head}\n{said}{usage(line, words)}{f'note: {note}' if note else ''}".rstrip("\n"))
     return None
 
 

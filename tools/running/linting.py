@@ -64,7 +64,7 @@ def run(words):
         count = len(case.found)
         text = "".join(case.found) + "".join(f"not known: {it}\n" for it in case.open)
         text += f"{count} warning{'' if count == 1 else 's'}\n"
-        return answering.put(asked, text.encode(), 1 if count else 0)
+        return answering.put(asked.own.get("--output"), text.encode(), 1 if count else 0)
     except Wrong as why:
         programs.tell(str(why))
         return why.status
@@ -94,11 +94,11 @@ def look(case):
 
 def by_modes(case, extended, depth):
     """Looks whether each mode is seen, and changes what is read where it is."""
-    seen = answers(case, extended, depth, [f"{path}{it.inside.name}#mode = {it.inside.name}#{it.name}" for it, paths in case.modes() for path in paths])
-    events, order = [], []
+    stands = [f"{path}{it.inside.name}#mode = {it.inside.name}#{it.name}" for it, paths in case.modes() for path in paths]
+    seen, events, order = answers(case, extended, depth, stands), [], []
     for it, paths in case.modes():
         said = [seen.pop(0) for _ in paths]
-        told_of_mode(case, it, paths, said, "is never seen: no trace, of whatever length, has a moment at which it stands", "is seen")
+        told_of_mode(case, it, paths, said, "seen")
         target = it.inside.tokens[3].text
         for path in [path for path, one in zip(paths, said) if one == "yes"]:
             events.append(f"{path}{it.inside.name}#mode = {it.inside.name}#{it.name} & {path}{target} != {path}{target}#nominal")
@@ -107,19 +107,25 @@ def by_modes(case, extended, depth):
     for it in dict.fromkeys(it for it, _ in order):
         paths = [path for one, path in order if one is it]
         said = [one for one, (mode, _) in zip(changes, order) if mode is it]
-        told_of_mode(case, it, paths, said, f"changes nothing: at each moment at which it stands, '{it.inside.tokens[3].text}' has its own value", "changes anything")
+        told_of_mode(case, it, paths, said, "changes")
 
 
-def told_of_mode(case, item, paths, said, sentence, what):
+# What is told of a mode by the answers no, with the instances in the place of the braces, and unknown.
+OF_MODES = {"seen": ("is never seen{}: no trace, of whatever length, has a moment at which it stands", "is seen"),
+            "changes": ("changes nothing{}: at each moment at which it stands, '{}' has its own value", "changes anything")}
+
+
+def told_of_mode(case, item, paths, said, what):
     """Keeps what the answers on a mode at its instances say: no is a warning, unknown is not known."""
-    name = f"{item.inside.name}.{item.name}"
+    name, (sentence, question) = f"{item.inside.name}.{item.name}", OF_MODES[what]
     no = [path for path, one in zip(paths, said) if one == "no"]
     if no:
         at = "" if len(no) == len(paths) else f" at {', '.join(it[:-1] or 'main' for it in no)}"
-        notes = ["its guard is never TRUE, or no moment can follow in which it stands"] if "seen:" in sentence and "WHEN" in [it.text for it in item.tokens] else []
-        case.of_faults(item, f"the mode {name} {sentence.replace(':', f'{at}:', 1)}", *notes)
+        is_guarded = what == "seen" and "WHEN" in [it.text for it in item.tokens]
+        notes = ["its guard is never TRUE, or no moment can follow in which it stands"] if is_guarded else []
+        case.of_faults(item, f"the mode {name} {sentence.format(at, item.inside.tokens[3].text)}", *notes)
     for path in [path for path, one in zip(paths, said) if one == "unknown"]:
-        case.open.append(f"whether {path}{name} {what} in more than {case.asked.values['--depth']} steps")
+        case.open.append(f"whether {path}{name} {question} in more than {case.asked.values['--depth']} steps")
 
 
 def answers(case, extended, depth, events):
@@ -170,8 +176,8 @@ def by_conditions(case, slice_):
     """Looks for an affected variable whose own value nothing gives, beside a condition on what is read of it."""
     target = slice_.tokens[3].text
     for it in case.model.items:
-        texts = [one.text for one in it.tokens]
-        if it.module == slice_.module and (it.kind == "ASSIGN" and it.name == target and texts[0] != "init" or it.kind == "TRANS" and target in under_next(it)):
+        is_assigned = it.kind == "ASSIGN" and it.name == target and it.tokens[0].text != "init"
+        if it.module == slice_.module and (is_assigned or it.kind == "TRANS" and target in under_next(it)):
             return
     conditions, told = [it for it in case.model.items if it.kind in ("INVAR", "TRANS")], []
     for scope, it in [(scope, it) for scope in case.model.scopes() for it in conditions if it.module == scope.module]:

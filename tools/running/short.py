@@ -43,6 +43,7 @@ class Asked:
     def read(self):
         """Returns the files that the run reads, by their options."""
         files = {it: self.values[it] for it in self.values if it in verbs.file_options() and it not in verbs.WRITES.get(self.verb, ())}
+        files.update({"--cert": self.own["--cert"]} if "--cert" in self.own else {})
         return {**files, **({"--top": self.top_file} if self.top_file else {})}
 
 

@@ -54,8 +54,9 @@ def odds_table(text):
     rows += [(str(at), str(len(it.split())), bound, named(it, names)) for at, (it, bound) in enumerate(zip(sets, bounds), 1)]
     total, within = re.search(r"^sum (\S+) within (\d+)$", text, re.M).groups()
     units = f"{int(within) // 10**18}.{int(within) % 10**18:018}"
-    last = text.rstrip("\n").split("\n")[-1]
-    return f"{aligned(rows)}\nsum at most {total}, and above the exact sum by at most {units}\n\n{ending(last)}\n"
+    last, _, size = re.search(r"^(complete|bounded .*)(\nsize (\d+))?$", text, re.M).groups()
+    how = ending(last) if size is None else ending(last).replace("minimal set", f"minimal set of at most {size} fault{'' if size == '1' else 's'}")
+    return f"{aligned(rows)}\nsum at most {total}, and above the exact sum by at most {units}\n\n{how}\n"
 
 
 def fmea_table(text):

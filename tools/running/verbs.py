@@ -32,18 +32,22 @@ OWN_VERBS = {
     "lint": ("tells what is lawful in a model and its fault file and mostly a mistake",
              "--model FILE --faults FILE [--top EXPRESSION] [--depth NUMBER]"),
 }
+# The words with which show takes the sets of an accepted certificate.
+CERTIFIED = {"show": ("shows the sets of an accepted certificate, without a search",
+                      "--model FILE --faults FILE --cert FILE --top EXPRESSION [--causes FILE]")}
 # The verbs of the program that shows reports, with their words.
 SHOWING = {
-    "show": ("shows a report of analyse or causes as tables, as a page, or for other tools", "FILE [--format FORM] [--full]"),
+    "show": ("shows a report of analyse or causes as tables, as a page, or for other tools", "FILE [--format FORM] [--full] [--output FILE]"),
     "diff": ("tells which minimal cut sets are gone and have come from one report to another", "OLD NEW"),
 }
 # The verbs whose reports that program shows.
-SHOWN = ("analyse", "causes")
+SHOWN = ("analyse", "causes", "show")
 FORMS = ("text", "csv", "json", "markdown", "html", "open-psa", "dot", "vcd")
 SHOWING_WORDS = {
     "FILE": "a report as it was printed; - is standard input",
     "--format FORM": f"{', '.join(FORMS[:-1])} or {FORMS[-1]}; text where none is given",
     "--full": "every value at every moment of a trace, and not only those that change",
+    "--output FILE": "where it is shown in place of standard output",
     "OLD": "the one report; - is standard input",
     "NEW": "the other one",
 }
@@ -80,6 +84,7 @@ PLAIN = {
     "check-orders": ("--model", "--faults", "--cert"),
     "odds": ("--model", "--faults"),
     "lint": ("--model", "--faults"),
+    "show": ("--model", "--faults"),
 }
 DEFAULTS = {
     **{verb: {"--depth": "1000000000"} for verb in ("analyse", "causes", "orders", "odds")},
@@ -99,6 +104,7 @@ WRITES = {"extend": ("--extended",), "analyse": ("--extended", "--cert"), "make"
 # The options that short words have beside those of the verb, each with what its value is, or None where it has none.
 SHORT = {"--format": "FORM", "--full": None, "--output": "FILE", "--force": None, "--verbose": None}
 SHORT_WORDS = {
+    "--cert FILE": "takes the sets of an accepted certificate of analyse in place of a search",
     "--format FORM": "how the answer is shown; exact is the report as the program prints it",
     "--full": "every value at every moment of a trace, and not only those that change",
     "--output FILE": "where the answer goes in place of standard output",
@@ -135,7 +141,7 @@ Of show and diff: 0 shown, or no difference; 1 the reports differ; 2 the words; 
 
 def words_of(verb):
     """Returns the options of a verb as the help has them."""
-    return {**VERBS, **OWN_VERBS}[verb][1]
+    return {**VERBS, **OWN_VERBS, **CERTIFIED}[verb][1]
 
 
 def options_of(verb):
@@ -163,7 +169,8 @@ def short_usage(verb):
 def short_options(verb):
     """Returns the options that short words of a verb have beside its own, each with what its value is."""
     left_out = {*(() if verb in SHOWN else ("--full",)), *(() if verb in WRITES else ("--force",)), *(("--format",) if verb in OWN_VERBS else ())}
-    return {it: value for it, value in SHORT.items() if it not in left_out}
+    more = {"--cert": "FILE"} if verb == "odds" else {}
+    return {**more, **{it: value for it, value in SHORT.items() if it not in left_out}}
 
 
 def short_help(verb, name):
@@ -214,7 +221,8 @@ def help_of(verb, name, manual):
     if verb in SHOWING:
         does, words = SHOWING[verb]
         meant = "".join(f"  {word:23} {means}\n" for word, means in SHOWING_WORDS.items() if word in words)
-        return f"{name} {verb} {does}.\n\n  {name} {verb} {words}\n\n{meant}\nThe manual: {manual}\n"
+        cert = f"  {name} {verb} {short_usage(verb)}\n      {CERTIFIED[verb][0]}\n\n" if verb in CERTIFIED else ""
+        return f"{name} {verb} {does}.\n\n  {name} {verb} {words}\n{cert}\n{meant}\nThe manual: {manual}\n"
     if verb in OWN_VERBS:
         return f"{name} {verb} {OWN_VERBS[verb][0]}.\n\n{short_help(verb, name).partition('Exact words')[0]}The manual: {manual}\n"
     options = "".join(f"  {option + ' ' + value:23} {OPTIONS[option]}\n" for option, value in options_of(verb).items())
