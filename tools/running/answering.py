@@ -25,26 +25,42 @@ class Refused(Exception):
         self.line, self.words, self.status = line, words, status
 
 
-def run(words):
-    """Does what short words ask for, and returns the status."""
+class Broken(Exception):
+    """The number of the signal that has ended the program."""
+
+    def __init__(self, number):
+        super().__init__(f"ended by the signal {number}")
+        self.number = number
+
+
+def run(words, does=None):
+    """Does what short words ask for, by the program or by another function of what they ask, and returns the status."""
     asked = None
     try:
         asked = short.read(words)
-        path = programs.find(kept.PROGRAMS[0])
-        show = programs.find(SHOW) if asked.verb in tables.by_program() and form_of(asked) != "exact" else None
-        outputs.judge(asked)
-        if "--set" in asked.values:
-            number(path, asked)
-        if asked.verb == "odds" and "--cert" in asked.own:
-            from running import certified
-
-            return certified.odds(path, asked)
-        return answer(path, show, asked)
+        return (does or by_program)(asked)
     except Wrong as why:
         programs.tell(str(why))
         return why.status
     except Refused as why:
         return refused(asked, why)
+    except Broken as why:
+        explaining.end_by(why.number)
+        return explaining.FAILED
+
+
+def by_program(asked):
+    """Has the program answer what is asked, and returns the status."""
+    path = programs.find(kept.PROGRAMS[0])
+    show = programs.find(SHOW) if asked.verb in tables.by_program() and form_of(asked) != "exact" else None
+    outputs.judge(asked)
+    if "--set" in asked.values:
+        number(path, asked)
+    if asked.verb == "odds" and "--cert" in asked.own:
+        from running import certified
+
+        return certified.odds(path, asked)
+    return answer(path, show, asked)
 
 
 def form_of(asked):
@@ -53,14 +69,15 @@ def form_of(asked):
 
 def answer(path, show, asked):
     """Runs the program, shows what it has said, and returns the status."""
-    words, before = asked.exact(), outputs.states_of(asked)
-    status, report = captured(path, words, asked)
+    words, before, status = asked.exact(), outputs.states_of(asked), None
+    try:
+        status, report = captured(path, words, asked)
+    finally:
+        if status not in (0, 1):
+            outputs.remove(before)
     if status in (0, 1):
         tell_written(asked, before, status)
         return put(asked.own.get("--output"), in_form(path, show, asked, report), status)
-    outputs.remove(before)
-    if status < 0:
-        explaining.end_by(-status)
     if status in explaining.REFUSED:
         raise Refused(report.partition(b"\n")[0].decode(errors="replace"), words, status)
     why = outputs.why_failed(asked) if status == explaining.FAILED else None
@@ -69,7 +86,7 @@ def answer(path, show, asked):
 
 
 def captured(path, words, asked):
-    """Runs the program with exact words, which it tells where it is asked to, and returns its status and what it said."""
+    """Runs the program with exact words, which are told where that is asked for, and returns its status and what it said."""
     if "--verbose" in asked.own:
         programs.tell(f"runs {short.command_of([path, *words])}")
     try:
@@ -81,6 +98,8 @@ def captured(path, words, asked):
     child.stdout.close()
     status = child.wait()
     explaining.handle_signals(signal.SIG_DFL)
+    if status < 0:
+        raise Broken(-status)
     return status, said
 
 
@@ -94,7 +113,7 @@ def faults_of(path, asked):
     if status in explaining.REFUSED:
         raise Refused(said.partition(b"\n")[0].decode(errors="replace"), words, status)
     if status:
-        raise Wrong(f"the faults can't be listed: {explaining.SILENT.get(status, f'status {status}')}", status if status > 0 else 7)
+        raise Wrong(f"the faults can't be listed: {explaining.SILENT.get(status, f'status {status}')}", status)
     return re.findall(r"^fault \d+ (\S+)$", said.decode(), re.M)
 
 

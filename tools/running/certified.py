@@ -56,7 +56,7 @@ def accepted(path, asked, cert):
     if status in explaining.REFUSED:
         raise Refused(said.partition("\n")[0], [*words, cert], status)
     if status:
-        raise Wrong(f"the certificate can't be judged: {explaining.SILENT.get(status, f'status {status}')}", max(status, 7))
+        raise Wrong(f"the certificate can't be judged: {explaining.SILENT.get(status, f'status {status}')}", status)
     size = re.search(r"^size (\d+)$", said, re.M)
     return Certificate(data.decode(), size and int(size[1]), names_of(path, asked))
 
@@ -77,7 +77,7 @@ def has_first_moment(path, asked):
                  "--extended", f"{folder}/x.smv", "--cert", f"{folder}/cert"]
         status, said = answering.captured(path, words, asked)
     if status not in (0, 1):
-        raise Wrong(f"the first moment can't be looked at: {explaining.SILENT.get(status, f'status {status}')}", max(status, 7))
+        raise Wrong(f"the first moment can't be looked at: {explaining.SILENT.get(status, f'status {status}')}", status)
     return b"\nno first moment\n" not in said
 
 
@@ -91,20 +91,12 @@ def report_of(path, asked, it):
     return "".join(f"{line}\n" for line in [*lines, *it.ending()]).encode()
 
 
-def show(words):
+def show(asked):
     """Shows an accepted certificate, and returns the status."""
-    asked = None
-    try:
-        asked = short.read(words)
-        path, program = programs.find(kept.PROGRAMS[0]), programs.find(answering.SHOW)
-        outputs.judge(asked)
-        report = report_of(path, asked, accepted(path, asked, asked.values["--cert"]))
-        return answering.put(asked.own.get("--output"), answering.in_form(path, program, asked, report), 0)
-    except Wrong as why:
-        programs.tell(str(why))
-        return why.status
-    except Refused as why:
-        return answering.refused(asked, why)
+    path, program = programs.find(kept.PROGRAMS[0]), programs.find(answering.SHOW)
+    outputs.judge(asked)
+    report = report_of(path, asked, accepted(path, asked, asked.values["--cert"]))
+    return answering.put(asked.own.get("--output"), answering.in_form(path, program, asked, report), 0)
 
 
 def odds(path, asked):
@@ -126,7 +118,7 @@ def marks(path, asked, names):
     if status in explaining.REFUSED:
         raise Refused(said.partition(b"\n")[0].decode(errors="replace"), words, status)
     if status not in (0, 1):
-        raise Wrong(f"the marks can't be looked at: {explaining.SILENT.get(status, f'status {status}')}", max(status, 7))
+        raise Wrong(f"the marks can't be looked at: {explaining.SILENT.get(status, f'status {status}')}", status)
     items = smv.items_of_faults(smv.tokens_of(telling.text_of(asked.values["--faults"])))
     found = {f"{it.inside.name}.{it.name}": units_of(it) for it in items if it.kind == "MODE"}
     return [found[".".join(it.split(".")[-2:])] for it in names]

@@ -8,7 +8,7 @@ guard that is constantly FALSE, a mode without a mark beside modes with one, and
 import re
 import tempfile
 
-from running import answering, explaining, kept, outputs, programs, short, smv, telling
+from running import answering, explaining, kept, outputs, programs, smv, telling
 from running.answering import Refused
 from running.short import Wrong
 
@@ -32,7 +32,7 @@ class Case:
         if status in explaining.REFUSED:
             raise Refused(said.partition(b"\n")[0].decode(errors="replace"), words, status)
         if status not in (0, 1):
-            raise Wrong(f"the program ended with {status}: {explaining.SILENT.get(status, 'it was ended by a signal')}", max(status, 7))
+            raise Wrong(f"the program ended with {status}: {explaining.SILENT.get(status, 'it has not told why')}", status)
         return said.decode()
 
     def of_faults(self, item, sentence, *notes):
@@ -51,25 +51,17 @@ class Case:
         return [(it, [scope.path for scope in scopes if scope.module == it.module]) for it in self.items if it.kind == "MODE" and it.inside]
 
 
-def run(words):
-    """Does what the words of lint ask for, and returns the status: 1 where something is told to be a mistake."""
-    asked = None
-    try:
-        asked = short.read(words)
-        path = programs.find(kept.PROGRAMS[0])
-        outputs.judge(asked)
-        with tempfile.TemporaryDirectory(prefix="xsap-lint-") as folder:
-            case = Case(path, asked, folder)
-            look(case)
-        count = len(case.found)
-        text = "".join(case.found) + "".join(f"not known: {it}\n" for it in case.open)
-        text += f"{count} warning{'' if count == 1 else 's'}\n"
-        return answering.put(asked.own.get("--output"), text.encode(), 1 if count else 0)
-    except Wrong as why:
-        programs.tell(str(why))
-        return why.status
-    except Refused as why:
-        return answering.refused(asked, why)
+def lint(asked):
+    """Tells what is found, and returns the status: 1 where something is told to be a mistake."""
+    path = programs.find(kept.PROGRAMS[0])
+    outputs.judge(asked)
+    with tempfile.TemporaryDirectory(prefix="xsap-lint-") as folder:
+        case = Case(path, asked, folder)
+        look(case)
+    count = len(case.found)
+    text = "".join(case.found) + "".join(f"not known: {it}\n" for it in case.open)
+    text += f"{count} warning{'' if count == 1 else 's'}\n"
+    return answering.put(asked.own.get("--output"), text.encode(), 1 if count else 0)
 
 
 def look(case):
