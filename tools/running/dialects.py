@@ -2,7 +2,8 @@
 
 A row is found by the refusal and by the text around its place: for a byte the text before it, a NUL, and the text from there on; for an item the
 word of its section, `boolean` where a boolean is named in it, a NUL, and its text, or for `flat 8` the text from the name on. tools/dialects
-runs each example and each rewriting through the program, and looks that the note is told.
+runs each example and each rewriting through the program, and looks that the note is told. Expressions of instructions and of top events have
+the same notes.
 """
 import re
 
@@ -119,6 +120,7 @@ def around(seen, told):
 
 def notes_of(seen, told):
     """Returns the notes of the first row that a refusal is of."""
-    text = around(seen, told) if seen.subject == "model" else None
-    found = text and next((it for it in ROWS if seen.key in it.keys and it.pattern.search(text)), None)
+    text = around(seen, told) if seen.subject in ("model", "faults", "top") else None
+    key = ("model", seen.part, seen.number)
+    found = text and next((it for it in ROWS if key in it.keys and it.pattern.search(text)), None)
     return [found.note] if found else []

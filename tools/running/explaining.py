@@ -125,11 +125,17 @@ def explain(line, words):
         head += f" ({option})"
     else:
         head = "the words" if line.startswith("refused words") else "the set"
-    from running.certified import note_of
-
-    note = note_of(words[0], line, given.get("--cert", ""))
-    programs.tell(f"{head}\n{said}{usage(line, words)}{f'note: {note}' if note else ''}".rstrip("\n"))
+    lines = [head, *f"{said}{usage(line, words)}".rstrip("\n").split("\n"), *(f"note: {it}" for it in notes(line, words))]
+    programs.tell("\n".join(lines))
     return None
+
+
+def notes(line, words):
+    """Returns what is found beside what xsap_explain says: the name in question, what to write instead, and a certificate of another verb."""
+    from running import certified, telling
+
+    note = certified.note_of(words[0], line, dict(zip(words[1::2], words[2::2])).get("--cert", ""))
+    return [*telling.notes_of(line, words), *([note] if note else [])]
 
 
 def explained(line, name):

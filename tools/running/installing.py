@@ -126,7 +126,7 @@ _xsap() {{
         if [[ $verb == show && $before == --format ]]; then
             COMPREPLY=($(compgen -W '{' '.join(FORMS)}' -- "$word"))
         elif [[ $verb == show ]] && ((COMP_CWORD - at > 1)); then
-            COMPREPLY=($(compgen -W '--format --full' -- "$word"))
+            COMPREPLY=($(compgen -W '--format --full --output' -- "$word"))
         elif ((COMP_CWORD - at <= 2)); then
             compopt -o filenames 2>/dev/null; mapfile -t COMPREPLY < <(compgen -f -- "$word")
         fi
@@ -183,7 +183,7 @@ _xsap() {{
         if [[ $verb == show && ${{words[CURRENT-1]}} == --format ]]; then
             compadd -- {' '.join(FORMS)}
         elif [[ $verb == show ]] && ((CURRENT - at > 1)); then
-            compadd -- --format --full
+            compadd -- --format --full --output
         elif ((CURRENT - at <= 2)); then
             _files
         fi

@@ -169,7 +169,7 @@ def by_conditions(case, slice_):
     target = slice_.tokens[3].text
     for it in case.model.items:
         is_assigned = it.kind == "ASSIGN" and it.name == target and it.tokens[0].text != "init"
-        if it.module == slice_.module and (is_assigned or it.kind == "TRANS" and target in under_next(it)):
+        if it.module == slice_.module and (is_assigned or it.kind == "TRANS" and target in smv.under_next(it)):
             return
     conditions, told = [it for it in case.model.items if it.kind in ("INVAR", "TRANS")], []
     for scope, it in [(scope, it) for scope in case.model.scopes() for it in conditions if it.module == scope.module]:
@@ -184,22 +184,7 @@ def binding(scope, item, module, target):
     """Returns the token by which an INVAR names a variable of a module at an instance, or a TRANS under `next`, or None."""
     for names in smv.dotted_of(item.value()):
         declared = scope.declared([it.text for it in names])
-        is_bound = item.kind == "INVAR" or ".".join(it.text for it in names) in under_next(item)
+        is_bound = item.kind == "INVAR" or ".".join(it.text for it in names) in smv.under_next(item)
         if is_bound and declared and declared[0] == module and declared[1].name == target:
             return names[0]
     return None
-
-
-def under_next(item):
-    """Returns the names that stand under `next` in an item, with dots."""
-    found, depth, inside = set(), 0, None
-    names = {it[0].at: ".".join(one.text for one in it) for it in smv.dotted_of(item.tokens)}
-    for at, it in enumerate(item.tokens):
-        depth += {"(": 1, ")": -1}.get(it.text, 0)
-        if it.text == "next" and inside is None:
-            inside = depth
-        elif inside is not None and depth == inside and it.text == ")":
-            inside = None
-        elif inside is not None and it.at in names:
-            found.add(names[it.at])
-    return found

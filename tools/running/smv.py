@@ -139,6 +139,21 @@ def dotted_of(tokens):
     return found
 
 
+def under_next(item):
+    """Returns the names that stand under `next` in an item, with dots."""
+    found, depth, inside = set(), 0, None
+    names = {it[0].at: ".".join(one.text for one in it) for it in dotted_of(item.tokens)}
+    for at, it in enumerate(item.tokens):
+        depth += {"(": 1, ")": -1}.get(it.text, 0)
+        if it.text == "next" and inside is None:
+            inside = depth
+        elif inside is not None and depth == inside and it.text == ")":
+            inside = None
+        elif inside is not None and it.at in names:
+            found.add(names[it.at])
+    return found
+
+
 class Model:
     """The modules of a model by their names, each with formals and items, and the symbols of all."""
 

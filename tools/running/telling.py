@@ -78,13 +78,28 @@ def tell(line, words, top_file=None, notes=()):
     seen = Seen(line, words, top_file)
     if not seen.is_known:
         return programs.tell(line)
-    try:
-        told = told_of(seen)
-    except (LookupError, ValueError, RecursionError):
-        # (a text that is not read here as the program reads it)
-        told = Told(None)
+    told = safely(seen)
     told.notes += [*dialects.notes_of(seen, told), *notes]
     return programs.show(shown(seen, told))
+
+
+def notes_of(line, words):
+    """Returns what is found beside the line of a refusal: what is wrong with which name, with its place, and notes."""
+    seen = Seen(line, words)
+    told = safely(seen) if seen.is_known else Told(None)
+    notes = [*told.notes, *dialects.notes_of(seen, told)]
+    if told.sentence is None or told.at is None or told.at > len(seen.text):
+        return notes
+    begin = seen.text.rfind("\n", 0, told.at) + 1
+    return [f"line {seen.text.count(chr(10), 0, told.at) + 1}, column {told.at - begin + 1}: {told.sentence}", *notes]
+
+
+def safely(seen):
+    """Returns what is to be told of a refusal, or nothing where the text is not read here as the program reads it."""
+    try:
+        return told_of(seen)
+    except (LookupError, ValueError, RecursionError):
+        return Told(None)
 
 
 def meaning(seen):
@@ -270,10 +285,17 @@ def next_wrong(seen, item):
 
 
 def input_wrong(seen, item):
-    """Tells the input that may not stand there, where the item has it by its own name."""
-    declared = seen.model().declared.get(item.module, {})
-    found = next((it[0] for it in smv.dotted_of(item.value()) if it[0].text in declared and declared[it[0].text].kind == "IVAR"), None)
-    return found and Told(f"the input '{found.text}' can't stand here", found.at, found.end)
+    """Tells the input that may not stand there, where a name of the item is one, or a formal that it is given for at an instance."""
+    free = item.kind == "TRANS" or item.kind == "ASSIGN" and item.tokens[0].text == "next"
+    for scope in scopes_of(seen, item):
+        for names in smv.dotted_of(item.value()):
+            declared = scope.declared([it.text for it in names])
+            is_wrong = not free or ".".join(it.text for it in names) in smv.under_next(item)
+            if declared and declared[1].kind == "IVAR" and is_wrong:
+                name, own = ".".join(it.text for it in names), declared[1].name
+                notes = [f"at the instance {scope.path[:-1]} '{name}' is the input '{own}'"] if name != own else []
+                return Told(f"the input '{own}' can't stand here", names[0].at, names[-1].end, notes)
+    return None
 
 
 def case_wrong(seen, item):

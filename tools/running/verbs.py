@@ -136,6 +136,7 @@ EXAMPLE = """  cd {folder}
 """
 STATUSES = """Exit status: 0 done, complete; 1 done, but only up to the depth; 2 to 6, 9, 10 refused, in one line that tells the place;
 7 a file or standard output failed; 8 out of memory; 11 a word is no text; 70 there is no program to run.
+Of lint: 0 nothing is told to be a mistake, 1 something is.
 Of show and diff: 0 shown, or no difference; 1 the reports differ; 2 the words; 3 a file is no report; 4 there is no such file."""
 
 
