@@ -172,6 +172,15 @@ def in_form(path, show, asked, report):
     return done.stdout
 
 
+def mode_of(name):
+    """Returns the permissions of a file, or those that a new one has."""
+    if os.path.exists(name):
+        return os.stat(name).st_mode & 0o777
+    mask = os.umask(0o077)
+    os.umask(mask)
+    return 0o666 & ~mask
+
+
 def put(name, data, status):
     """Writes an answer to a file or, without a name, to standard output, and returns the status. Where the file fails, it goes to standard
     output."""
@@ -181,7 +190,7 @@ def put(name, data, status):
                 with open(name, "wb") as it:
                     it.write(data)
             else:
-                kept.write(os.path.realpath(name), data)
+                kept.write(os.path.realpath(name), data, mode_of(name))
             return status
         except OSError as error:
             programs.tell(f"{shown(name)} can't be written: {error.strerror}; the answer goes to standard output")
