@@ -12,7 +12,8 @@ from running import answering, explaining, kept, outputs, programs, smv, telling
 from running.answering import Refused
 from running.short import Wrong
 
-MOST_EVENTS = 64
+MOST_EVENTS, MOST_ASSIGNMENTS = 64, 100
+OF_TYPES = ("a value outside the type of its variable is no error here: there is no such moment, and what would come later is in no trace",)
 
 
 class Case:
@@ -80,7 +81,12 @@ def look(case):
         case.of_model(None, "the top event is reached without any fault", "xsap replay and the trace of xsap analyse --size 0 show how")
     elif "\nbounded " in reached:
         case.open.append(f"whether the top event is reached without any fault in more than {depth} steps")
-    by_modes(case, extended, depth)
+    try:
+        by_modes(case, extended, depth)
+    except Refused as why:
+        # (the text of the extension may be longer than a model may be)
+        case.open.append(f"whether each mode is seen, since the extension is no model that is read: {why.line}")
+    by_assignments(case, depth)
     return None
 
 
@@ -120,20 +126,71 @@ def told_of_mode(case, item, paths, said, what):
         case.open.append(f"whether {path}{name} {question} in more than {case.asked.values['--depth']} steps")
 
 
-def answers(case, extended, depth, events):
-    """Returns for each event over the extension whether it is reached: yes, no or unknown."""
+def answers(case, model, depth, events):
+    """Returns for each event over a model without faults whether it is reached: yes, no or unknown."""
     found, nothing = [], f"{case.folder}/nothing.fei"
     open(nothing, "w", encoding="utf-8").close()
     for first in range(0, len(events), MOST_EVENTS):
         with open(f"{case.folder}/tops", "w", encoding="latin-1") as it:
             it.write(";\n".join(events[first:first + MOST_EVENTS]))
-        words = ["fmea", "--model", extended, "--faults", nothing, "--tops", f"{case.folder}/tops", "--size", "0", "--depth", depth]
-        try:
-            said = case.run(*words)
-        except Refused as why:
-            raise Wrong(f"the extension can't be read as a model, so its modes were not looked at: {why.line}", 8) from None
+        said = case.run("fmea", "--model", model, "--faults", nothing, "--tops", f"{case.folder}/tops", "--size", "0", "--depth", depth)
         found += re.search(r"^row : (.*)$", said, re.M)[1].split()
     return found
+
+
+def by_assignments(case, depth):
+    """Looks whether a value that is assigned for the next moment leaves the type of its variable without a fault, so that traces end there."""
+    found = [it for it in case.model.items if it.kind == "ASSIGN" and it.tokens[0].text == "next" and type_of(case, it)][:MOST_ASSIGNMENTS]
+    nothing, name = f"{case.folder}/nothing.fei", "xsap#leaves"
+    while name in case.model_text:
+        name += "#"
+    # (an assigned set is no value of a definition, so that such an assignment is passed over)
+    taken = [it for it in found if takes(case, [it], name, nothing)]
+    if not takes(case, taken, name, nothing):
+        return
+    places = [(it, scope.path) for it in taken for scope in case.model.scopes() if scope.module == it.module]
+    said = each(case, f"{case.folder}/leaves.smv", depth, [f"{path}{name}#{it.tokens[0].at}" for it, path in places])
+    for (it, path), one in zip(places, said):
+        at = f" at {path[:-1]}" if path else ""
+        if one == "yes":
+            case.of_model(it.head, f"the value that is assigned to '{it.name}' leaves its type{at} without any fault: traces end there", *OF_TYPES)
+        elif one == "unknown":
+            case.open.append(f"whether the value that is assigned to {path}{it.name} leaves its type in more than {depth} steps")
+
+
+def each(case, model, depth, events):
+    """Returns the answer for each event, or None where the program refuses it, as one that reaches an input."""
+    try:
+        return answers(case, model, depth, events)
+    except Refused:
+        return [None] if len(events) == 1 else [each(case, model, depth, [it])[0] for it in events]
+
+
+def type_of(case, item):
+    """Returns the text of the set of all values of the variable that is assigned, or None where it is boolean or not known."""
+    declared = case.model.declared.get(item.module, {}).get(item.name)
+    tokens = declared.tokens[2:-1] if declared and declared.kind == "VAR" and not declared.instance() else []
+    text = "".join(it.text for it in tokens)
+    return None if text in ("", "boolean") else text
+
+
+def takes(case, items, name, nothing):
+    """Writes the model with a definition for each assignment that tells whether its value leaves the type, and returns whether it is taken."""
+    text, more = case.model_text, {}
+    for it in items:
+        value = text[it.value()[0].at:it.tokens[-1].at]
+        more[it.module] = more.get(it.module, "") + f"\n{name}#{it.tokens[0].at} := !(({value}\n) in {type_of(case, it)});"
+    heads = [(it.tokens[0].at, it.name) for it in case.model.items if it.kind == "MODULE"] + [(len(text), None)]
+    parts = [text[:heads[0][0]]]
+    for (at, module), (end, _) in zip(heads, heads[1:]):
+        parts += [text[at:end], f"\nDEFINE{more[module]}\n" if module in more else ""]
+    with open(f"{case.folder}/leaves.smv", "w", encoding="latin-1") as it:
+        it.write("".join(parts))
+    try:
+        case.run("extend", "--model", f"{case.folder}/leaves.smv", "--faults", nothing, "--extended", f"{case.folder}/again.smv")
+    except Refused:
+        return False
+    return True
 
 
 def by_text(case):
