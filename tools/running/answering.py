@@ -1,6 +1,6 @@
-"""Runs the program for short words, and shows its answer with names: on standard output the answer, all else on standard error.
+"""Runs the program for the short form, and shows its answer with names: on standard output the answer, all else on standard error.
 
-The exact words are made of the short ones (short.py), the names of outputs are looked at (outputs.py), and then the program is run. The report
+The exact form is made of the short one (short.py), the names of outputs are looked at (outputs.py), and then the program is run. The report
 of analyse and causes is shown by xsap_show, that of other verbs in a table of tables.py, and with `--format exact` it stays as it was
 printed. A refusal is told on standard error, with the program's status. What a run that failed has begun to write is removed.
 """
@@ -18,7 +18,7 @@ SHOW = kept.PROGRAMS[2]
 
 
 class Refused(Exception):
-    """The line by which the program has refused exact words, with the words and the status."""
+    """The line by which the program has refused an exact form, with its words and the status."""
 
     def __init__(self, line, words, status):
         super().__init__(line)
@@ -34,7 +34,7 @@ class Broken(Exception):
 
 
 def run(words, does=None):
-    """Does what short words ask for, by the program or by another function of what they ask, and returns the status."""
+    """Does what the short form asks for, by the program or by another function of what is asked, and returns the status."""
     asked = None
     try:
         asked = short.read(words)
@@ -86,7 +86,7 @@ def answer(path, show, asked):
 
 
 def captured(path, words, asked):
-    """Runs the program with exact words, which are told where that is asked for, and returns its status and what it said."""
+    """Runs the program by the exact form, which is printed where that is asked for, and returns its status and what it said."""
     if "--verbose" in asked.own:
         programs.tell(f"runs {short.command_of([path, *words])}")
     try:

@@ -93,7 +93,7 @@ def link(target, path):
 
 
 def options_for(verb):
-    """Returns the options of a verb, with those of short words."""
+    """Returns the options of a verb, with those of the short form."""
     return [*options_of(verb), *short_options(verb)]
 
 
@@ -104,7 +104,7 @@ def other_values():
 
 
 def bash_completion():
-    """Returns the completion for bash: verbs, then files as plain words, the options of the verb that are not yet there, and their values."""
+    """Returns the completion for bash: verbs, then files as plain arguments, the options of the verb that are not yet there, and their values."""
     arms = "".join(f"        {verb}) options+=' {' '.join(options_for(verb))}' ;;\n" for verb in (*VERBS, *OWN_VERBS))
     return f"""# Completes the words of xsap in bash.
 _xsap() {{
@@ -160,7 +160,7 @@ complete -F _xsap xsap
 
 
 def zsh_completion():
-    """Returns the completion for zsh: verbs, then files as plain words, the options of the verb, and their values."""
+    """Returns the completion for zsh: verbs, then files as plain arguments, the options of the verb, and their values."""
     arms = "".join(f"        {verb}) options+=({' '.join(options_for(verb))}) ;;\n" for verb in (*VERBS, *OWN_VERBS))
     files = "|".join(sorted(file_options()))
     return f"""#compdef xsap

@@ -28,7 +28,7 @@ class Case:
         self.found, self.open = [], []
 
     def run(self, *words):
-        """Returns what the program says to exact words, where it is done or bounded."""
+        """Returns what the program prints for an exact form, where it is done or bounded."""
         status, said = answering.captured(self.path, words, self.asked)
         if status in explaining.REFUSED:
             raise Refused(said.partition(b"\n")[0].decode(errors="replace"), words, status)

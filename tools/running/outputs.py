@@ -1,4 +1,4 @@
-"""The files that a run of short words writes: what stands there already is looked at before the run, and what is half after it is removed.
+"""The files that a run of the short form writes: what stands there already is looked at before the run, and what is half after it is removed.
 
 No output takes the place of a file that the run reads, under whatever name, nor without --force that of a file that is no such output:
 an extension as the program prints it, a certificate, or a model of `make` with its instructions.

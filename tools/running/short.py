@@ -1,9 +1,10 @@
-"""Reads short words: files as plain words, options anywhere and also as --option=value, and defaults for what is left out.
+"""Reads the short form: files as plain arguments, options anywhere and also as --option=value, and defaults for what is left out.
 
   analyse model.smv faults.fei --top crash
 
-What is handed to the program are exact words again, each option with its value. Words are short where a file, `--option=value` or an option
-that only short words have stands in the place of an option, so that the program would refuse them. All others are handed on as they are.
+What is handed to the program is the exact form, each option with its value. A command is in the short form where a file, `--option=value` or
+an option that only the short form has stands in the place of an option, so that the program would refuse it. All others are handed on as
+they are.
 """
 import difflib
 import os
@@ -18,7 +19,7 @@ EVENT_BYTES = 65536
 
 
 class Wrong(Exception):
-    """What is wrong with short words, in a sentence without its end, and the status with which that ends."""
+    """What is wrong with a short form, in a sentence without its end, and the status with which that ends."""
 
     def __init__(self, why, status=2):
         super().__init__(why)
@@ -26,14 +27,14 @@ class Wrong(Exception):
 
 
 class Asked:
-    """What short words ask for: a verb, the values of its options, those of the options that only short words have, and the name of the file
+    """What the short form asks for: a verb, the values of its options, those of the options that only the short form has, and the name of the file
     that has the top event, or None where it was given as a word."""
 
     def __init__(self, verb):
         self.verb, self.values, self.own, self.top_file = verb, {}, {}, None
 
     def exact(self):
-        """Returns the exact words."""
+        """Returns the exact form."""
         return [self.verb, *(it for option in verbs.options_of(self.verb) if option in self.values for it in (option, self.values[option]))]
 
     def written(self):
@@ -48,7 +49,7 @@ class Asked:
 
 
 def options_of(verb):
-    """Returns the options of a verb and those that only short words have, each with what its value is."""
+    """Returns the options of a verb and those that only the short form has, each with what its value is."""
     return {**verbs.options_of(verb), **verbs.short_options(verb)}
 
 
@@ -70,7 +71,7 @@ def near(word, known):
 
 
 def read(words):
-    """Returns what the short words of a verb ask for, with every default but those that stand for a run of the program."""
+    """Returns what the short form of a verb asks for, with every default but those that stand for a run of the program."""
     asked, plain = parted(words)
     room = [it for it in verbs.PLAIN[asked.verb] if it not in asked.values]
     if len(plain) > len(room):
@@ -163,7 +164,7 @@ def command_of(words):
 
 
 def number_wrong(words, place):
-    """Returns the sentence on a number, a set or a claim that the program has refused at a place of exact words."""
+    """Returns the sentence on a number, a set or a claim that the program has refused at a place of an exact form."""
     option, value = words[place - 2:place]
     limits = {**LIMITS, "--size": "0 to 2" if words[0] == "fmea" else "0 to 256", "--set": "two or more names of faults or rising numbers",
               "--claim": "before, after, together or none"}
@@ -172,7 +173,7 @@ def number_wrong(words, place):
 
 
 def words_wrong(words, line):
-    """Returns the sentence on exact words that the program has refused in this line."""
+    """Returns the sentence on an exact form that the program has refused in this line."""
     number, place = re.fullmatch(r"refused words (\d) at (\d+)", line).groups()
     place = int(place)
     if number == "7":

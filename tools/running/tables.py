@@ -1,4 +1,4 @@
-"""The answers of odds, fmea and orders as tables with the names of faults, where short words ask for them; others stay as they are printed."""
+"""The answers of odds, fmea and orders as tables with the names of faults, where the short form is used; others stay as they are printed."""
 import re
 
 from running.verbs import SHOWN

@@ -69,7 +69,7 @@ OPTIONS = {
     "--number": "which of the models",
     "--stages": "how many relays, 1 to 64",
 }
-# Short words: which options of a verb are given as plain words, in this order, and what the others are where they are left out. An output
+# The short form: which options of a verb are given as plain arguments, in this order, and what the others are where they are left out. An output
 # is named after the model: of model.smv it is model.extended.smv.
 PLAIN = {
     "extend": ("--model", "--faults"),
@@ -98,10 +98,10 @@ BESIDE = {
     "causes": {"--cert": ".causes.cert"},
     "orders": {"--cert": ".order.cert"},
 }
-# What each verb writes, with short words under no name of another file.
+# What each verb writes, in the short form under no name of another file.
 WRITES = {"extend": ("--extended",), "analyse": ("--extended", "--cert"), "make": ("--model", "--faults"), "causes": ("--cert",),
           "orders": ("--cert",)}
-# The options that short words have beside those of the verb, each with what its value is, or None where it has none.
+# The options that the short form has beside those of the verb, each with what its value is, or None where it has none.
 SHORT = {"--format": "FORM", "--full": None, "--output": "FILE", "--force": None, "--verbose": None}
 SHORT_WORDS = {
     "--cert FILE": "takes the sets of an accepted certificate of analyse in place of a search",
@@ -157,7 +157,7 @@ def file_options():
 
 
 def short_usage(verb):
-    """Returns the short words of a verb: files, what must be given, and in brackets what may be left out."""
+    """Returns the short form of a verb: files, what must be given, and in brackets what may be left out."""
     free = {**DEFAULTS.get(verb, {}), **BESIDE.get(verb, {})}
     if verb in ("orders", "check-orders"):
         free = {**free, "--first": "", "--second": ""}
@@ -168,24 +168,24 @@ def short_usage(verb):
 
 
 def short_options(verb):
-    """Returns the options that short words of a verb have beside its own, each with what its value is."""
+    """Returns the options that the short form of a verb has beside its own, each with what its value is."""
     left_out = {*(() if verb in SHOWN else ("--full",)), *(() if verb in WRITES else ("--force",)), *(("--format",) if verb in OWN_VERBS else ())}
     more = {"--cert": "FILE"} if verb == "odds" else {}
     return {**more, **{it: value for it, value in SHORT.items() if it not in left_out}}
 
 
 def short_help(verb, name):
-    """Returns the help on the short words of a verb: their form, what is left out, and the further options."""
+    """Returns the help on the short form of a verb: its words, what is left out, and the further options."""
     left = {**DEFAULTS.get(verb, {}), **{it: f"MODEL{end}" for it, end in BESIDE.get(verb, {}).items()}}
     free = ", ".join(f"{it} {value}" for it, value in left.items())
     shown = "".join(f"  {word:23} {means}\n" for word, means in SHORT_WORDS.items() if word.split()[0] in short_options(verb))
     shown = shown.replace(SHORT_WORDS["--format FORM"], f"{SHORT_WORDS['--format FORM']}:\n{' ' * 26}{', '.join(forms_of(verb))}")
     return (f"  {name} {verb} {short_usage(verb)}\n" + (f"      where left out: {free}\n" if free else "")
-            + ("      --top @FILE has the event of a file\n" if "--top" in options_of(verb) else "") + f"{shown}\nExact words, for scripts:\n\n")
+            + ("      --top @FILE has the event of a file\n" if "--top" in options_of(verb) else "") + f"{shown}\nThe exact form, for scripts:\n\n")
 
 
 def forms_of(verb):
-    """Returns the forms in which the answer to short words can be shown."""
+    """Returns the forms in which the answer to the short form can be shown."""
     return (*FORMS, "exact") if verb in SHOWN else ("text", "exact")
 
 
@@ -209,8 +209,8 @@ def help_text(name, manual, folder):
     return (
         f"{name} extends SMV models with faults, and finds and certifies the minimal cut sets of a top event.\n\n"
         f"  {name} analyse MODEL FAULTS --top EXPRESSION\n"
-        f"  {name} VERB FILE .. --OPTION ..    short words: files as plain words, defaults, and answers with names (--help VERB)\n"
-        f"  {name} VERB --OPTION VALUE ..      exact words: the options in any order, each value a word of its own\n"
+        f"  {name} VERB FILE .. --OPTION ..    the short form: files as plain arguments, defaults, and answers with names (--help VERB)\n"
+        f"  {name} VERB --OPTION VALUE ..      the exact form: the options in any order, each value a word of its own\n"
         f"{layers}  {name} show FILE, {name} diff OLD NEW\n\n"
         f"{verbs}\n{own}\nAn example{'' if os.path.isabs(folder) else ', at the top of the repository'}:\n{example}\n"
         f"{STATUSES}\nThe manual: {manual}\n"
@@ -225,7 +225,7 @@ def help_of(verb, name, manual):
         cert = f"  {name} {verb} {short_usage(verb)}\n      {CERTIFIED[verb][0]}\n\n" if verb in CERTIFIED else ""
         return f"{name} {verb} {does}.\n\n  {name} {verb} {words}\n{cert}\n{meant}\nThe manual: {manual}\n"
     if verb in OWN_VERBS:
-        return f"{name} {verb} {OWN_VERBS[verb][0]}.\n\n{short_help(verb, name).partition('Exact words')[0]}The manual: {manual}\n"
+        return f"{name} {verb} {OWN_VERBS[verb][0]}.\n\n{short_help(verb, name).partition('The exact form')[0]}The manual: {manual}\n"
     options = "".join(f"  {option + ' ' + value:23} {OPTIONS[option]}\n" for option, value in options_of(verb).items())
     free = "".join(f"  ({option.strip('[]')} may be left out)\n" for option in VERBS[verb][1].split() if option.startswith("["))
     layers = "".join(f"  {word:23} {means}\n" for word, means in LAYERS_WORDS.items()) if verb == "analyse" else ""
