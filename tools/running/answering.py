@@ -60,7 +60,26 @@ def by_program(asked):
         from running import certified
 
         return certified.odds(path, asked)
-    return answer(path, show, asked)
+    return in_layers(path, show, asked) if "--layers" in asked.own else answer(path, show, asked)
+
+
+def in_layers(path, show, asked):
+    """Runs an analysis for sizes in turn, shows the report of the last complete one, and returns the status."""
+    from running import layers
+
+    for size in range(1, len(faults_of(path, asked))):
+        if "--force" not in asked.own:
+            outputs.stays("--cert", layers.cert_of(asked.values["--cert"], size))
+    words = [*asked.exact()[1:], *(["--seconds", asked.own["--seconds"]] if "--seconds" in asked.own else [])]
+
+    def hand_on(report):
+        line = report.partition(b"\n")[0].decode(errors="replace")
+        if line.startswith("refused"):
+            refused(asked, Refused(line, asked.exact(), 0))
+            return False
+        return put(asked.own.get("--output"), in_form(path, show, asked, report), 0) == explaining.FAILED
+
+    return layers.run(path, words, False, hand_on)
 
 
 def form_of(asked):

@@ -92,9 +92,13 @@ def link(target, path):
     os.replace(part, path)
 
 
+# The options of sizes in turn, which are offered by themselves.
+LAYERED = ("--layers", "--seconds")
+
+
 def options_for(verb):
     """Returns the options of a verb, with those of the short form."""
-    return [*options_of(verb), *short_options(verb)]
+    return [*options_of(verb), *(it for it in short_options(verb) if it not in LAYERED)]
 
 
 def other_values():

@@ -144,8 +144,9 @@ def broken_off(number, _):
     raise Broken(number)
 
 
-def run(path, words, explains):
-    """Runs the layers of these words of analyse, and returns the status of the last one that ended."""
+def run(path, words, explains, hand_on=put):
+    """Runs the layers of these words of analyse, and returns the status of the last one that ended. The report is handed on by a function that
+    returns whether this failed."""
     found = parted(words)
     if isinstance(found, str):
         programs.tell(found)
@@ -166,7 +167,7 @@ def run(path, words, explains):
     explaining.handle_signals(signal.SIG_DFL)
     if last is None and not ended_by:
         return NONE_ENDED
-    failed = put((complete or last).report) if last else False
+    failed = hand_on((complete or last).report) if last else False
     if ended_by or last.status < 0:
         explaining.end_by(ended_by or -last.status)
     if last.status in explaining.REFUSED and explains:

@@ -57,6 +57,9 @@ def is_short(words):
     """Returns whether the words of a verb are short ones."""
     known, at = options_of(words[0]), 1
     own = [it for it in known if it not in verbs.options_of(words[0])]
+    if words[1:2] == ["--layers"]:
+        # (layers have an exact form, too)
+        own, at = [it for it in own if it not in ("--layers", "--seconds")], 2
     while at < len(words):
         word = words[at]
         if word[:1] not in ("", "-") or word in own or ("=" in word and word.partition("=")[0] in known):

@@ -114,7 +114,7 @@ SHORT_WORDS = {
 # What follows analyse in place of --size: the words by which the command runs it for sizes in turn.
 LAYERS = "--layers [--seconds NUMBER]"
 LAYERS_WORDS = {
-    "--layers": "the word after analyse: sizes 1, 2, .. in turn, each with a certificate, as cuts.2.cert",
+    "--layers": "the word after analyse, in the short form anywhere: sizes 1, 2, .. in turn, each with a certificate, as cuts.2.cert",
     "--seconds NUMBER": "after how many seconds no further layer is begun, and the running one is broken off",
 }
 # The words of the command itself, which come in place of a verb or before it; and those that it has in the repository alone.
@@ -170,7 +170,7 @@ def short_usage(verb):
 def short_options(verb):
     """Returns the options that the short form of a verb has beside its own, each with what its value is."""
     left_out = {*(() if verb in SHOWN else ("--full",)), *(() if verb in WRITES else ("--force",)), *(("--format",) if verb in OWN_VERBS else ())}
-    more = {"--cert": "FILE"} if verb == "odds" else {}
+    more = {"odds": {"--cert": "FILE"}, "analyse": {"--layers": None, "--seconds": "NUMBER"}}.get(verb, {})
     return {**more, **{it: value for it, value in SHORT.items() if it not in left_out}}
 
 
