@@ -178,7 +178,12 @@ def in_form(path, show, asked, report):
     if form_of(asked) == "exact":
         return report
     if not show:
-        return tables.of(asked.verb, report, lambda: faults_of(path, asked))
+        try:
+            return tables.of(asked.verb, report, lambda: faults_of(path, asked))
+        except (Wrong, Refused, OSError, LookupError, AttributeError) as why:
+            # (an answer is not lost where a file has changed meanwhile)
+            programs.tell(f"this is the report as the program printed it, since it can't be shown with names: {why}")
+            return report
     words = ["show", "-", "--format", form_of(asked), *(["--full"] if "--full" in asked.own else [])]
     try:
         done = subprocess.run([show, *words], input=report, stdout=subprocess.PIPE)
