@@ -109,10 +109,11 @@ def captured(path, words, asked):
     if "--verbose" in asked.own:
         programs.tell(f"runs {short.command_of([path, *words])}")
     try:
-        child = subprocess.Popen([path, *words], stdout=subprocess.PIPE, preexec_fn=explaining.end_with_parent)
+        child, held = explaining.begin([path, *words], stdout=subprocess.PIPE)
     except (OSError, ValueError) as error:
         raise Unready(f"{path} can't be run: {getattr(error, 'strerror', None) or error}") from None
     explaining.handle_signals(lambda number, _: child.send_signal(number))
+    explaining.let_go(held)
     said = child.stdout.read()
     child.stdout.close()
     status = child.wait()

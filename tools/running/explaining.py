@@ -12,7 +12,7 @@ import tempfile
 
 from running import kept, programs
 from running.machine import Unready
-from running.verbs import VERBS
+from running.verbs import VERBS, short_usage
 
 PIECE = 65536
 # No line of a refusal has so many bytes, and these are the statuses that go with one.
@@ -57,6 +57,22 @@ def end_with_parent():
         ctypes.CDLL(None).prctl(1, int(signal.SIGKILL))
     except (AttributeError, ImportError, OSError):
         pass
+
+
+def begin(words, **how):
+    """Starts a program while signals are held back, so that none comes before it is known what to end, and returns it and the signals that were
+    held back before, for let_go."""
+    before = signal.pthread_sigmask(signal.SIG_BLOCK, [getattr(signal, it) for it in PASSED_ON])
+    try:
+        return subprocess.Popen(words, preexec_fn=lambda: (let_go(before), end_with_parent()), **how), before
+    except BaseException:
+        let_go(before)
+        raise
+
+
+def let_go(before):
+    """Holds back these signals alone; one that has come meanwhile comes now."""
+    signal.pthread_sigmask(signal.SIG_SETMASK, before)
 
 
 def handle_signals(handler):
@@ -156,7 +172,7 @@ def usage(line, words):
     shown = f"word {place} is {printable(words[place - 1])}\n" if found[1] != "5" and 0 < place <= len(words) else ""
     missing = [it for it in VERBS[words[0]][1].split() if it.startswith("--") and it not in words[1::2]]
     shown += f"missing: {' '.join(missing)}\n" if found[1] == "5" and missing else ""
-    return f"{shown}{words[0]} {VERBS[words[0]][1]}\n"
+    return f"{shown}{words[0]} {VERBS[words[0]][1]}\nor, with defaults: {words[0]} {short_usage(words[0])}\n"
 
 
 def printable(name):

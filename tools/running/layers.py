@@ -94,10 +94,11 @@ def run_layer(path, words, size, seconds):
     has written is removed."""
     given, begun = dict(zip(words[::2], words[1::2])), time.monotonic()
     files = {it: state_of(given[it]) for it in ("--extended", "--cert")}
-    child = subprocess.Popen([path, "analyse", *words, *(["--size", str(size)] if size else [])], stdin=subprocess.DEVNULL,
-                             stdout=subprocess.PIPE, preexec_fn=explaining.end_with_parent)
+    child, held = explaining.begin([path, "analyse", *words, *(["--size", str(size)] if size else [])], stdin=subprocess.DEVNULL,
+                                   stdout=subprocess.PIPE)
     status = None
     try:
+        explaining.let_go(held)
         report, _ = child.communicate(timeout=seconds)
         status = child.returncode
         return Layer(size, status, report, given["--cert"], time.monotonic() - begun)

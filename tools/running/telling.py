@@ -1,6 +1,6 @@
 """Tells a refusal as compilers do: file, line and column, what is wrong with which name, the line with a caret, and what to write instead.
 
-  model.smv:3:10: error: the name 'feedd' means nothing here; 'feed' is near
+  model.smv:3:10: error: the name 'feedd' means nothing here; a similar name is 'feed'
       3 |   out := feedd;
         |          ^~~~~
         = refused model flat 8 at 3: a name means nothing, or an instance stands where a value is needed
@@ -176,9 +176,9 @@ def in_mode(seen, item):
 
 
 def is_near(name, known):
-    """Returns a part of a sentence with the known name that is near one, where there is one."""
+    """Returns a part of a sentence with the known name that is similar to one, where there is one."""
     found = near(name, [it for it in known if it != name])
-    return f"; '{printable(found)}' is near" if found else ""
+    return f"; a similar name is '{printable(found)}'" if found else ""
 
 
 def told_byte(seen):
