@@ -12,6 +12,7 @@ import tempfile
 
 from running import kept, programs
 from running.machine import Unready
+from running.short import printable
 from running.verbs import VERBS, short_usage
 
 PIECE = 65536
@@ -173,8 +174,3 @@ def usage(line, words):
     missing = [it for it in VERBS[words[0]][1].split() if it.startswith("--") and it not in words[1::2]]
     shown += f"missing: {' '.join(missing)}\n" if found[1] == "5" and missing else ""
     return f"{shown}{words[0]} {VERBS[words[0]][1]}\nor, with defaults: {words[0]} {short_usage(words[0])}\n"
-
-
-def printable(name):
-    """Returns a name with ? for what would move the cursor."""
-    return "".join(it if it.isprintable() else "?" for it in name)

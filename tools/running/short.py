@@ -145,20 +145,25 @@ def event_of(name):
         with open(name, "rb") as it:
             data = it.read(EVENT_BYTES + 1)
     except OSError as error:
-        raise Wrong(f"{shown(name)}: {error.strerror}, of the file of --top @FILE", 5) from None
+        raise Wrong(f"{printable(name)}: {error.strerror}, of the file of --top @FILE", 5) from None
     if len(data) > EVENT_BYTES:
-        raise Wrong(f"{shown(name)}: the event has more than {EVENT_BYTES} bytes", 5)
+        raise Wrong(f"{printable(name)}: the event has more than {EVENT_BYTES} bytes", 5)
     if b"\0" in data:
-        raise Wrong(f"{shown(name)}:{data.count(10, 0, data.index(0)) + 1}: a byte 0 is no part of an event", 5)
+        raise Wrong(f"{printable(name)}:{data.count(10, 0, data.index(0)) + 1}: a byte 0 is no part of an event", 5)
     try:
         return data.decode()
     except UnicodeDecodeError as error:
-        raise Wrong(f"{shown(name)}:{data.count(10, 0, error.start) + 1}: this is no text (UTF-8)", 5) from None
+        raise Wrong(f"{printable(name)}:{data.count(10, 0, error.start) + 1}: this is no text (UTF-8)", 5) from None
+
+
+def printable(word):
+    """Returns a word with ? for what would move the cursor."""
+    return "".join(it if it.isprintable() else "?" for it in word)
 
 
 def shown(word):
-    """Returns a word as it is shown in a sentence, with ? for what would move the cursor."""
-    return "'" + "".join(it if it.isprintable() else "?" for it in word) + "'"
+    """Returns a word as it is shown in a sentence."""
+    return f"'{printable(word)}'"
 
 
 def command_of(words):

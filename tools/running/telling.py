@@ -13,9 +13,8 @@ import os
 import re
 
 from running import dialects, explaining, programs, smv
-from running.explaining import printable
 from running.machine import Unready
-from running.short import near
+from running.short import near, printable
 
 LINE = re.compile(r"refused (\w+) (\w+) (\d+) at (\d+)|not accepted moment (\d+) (\w+)|not accepted line (\d+) rule (\d+)")
 OPTIONS = {"model": "--model", "faults": "--faults", "causes": "--causes", "trace": "--trace", "cert": "--cert"}
