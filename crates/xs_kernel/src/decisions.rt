@@ -51,8 +51,8 @@ impl Kernel {
         None
     }
 
-    /// The code of a literal over the variables up to this one to make true: a wish, or else the adviser's, where it is free, and else the
-    /// least free variable's negation.
+    /// The code of a literal over the variables up to this one to make true: a wish, or else the adviser's, where it is free and the
+    /// question has met no conflict, and else the least free variable's negation.
     pub fn choose(&mut self, vars: u32, panel: &mut Panel) -> Option<u32>
         requires { vars < 2 ^ 32 }
         ensures vars { panel.new.vars ≡ panel.old.vars }
@@ -61,15 +61,17 @@ impl Kernel {
         if let Some(code) = self.wished() {
             return Some(code);
         }
-        let code = panel.pick();
-        if code >= 2 && code / 2 <= u64::from(vars) {
-            let code = (code & 0xffff_ffff) as u32;
-            if self.trail.value(code) == FREE {
-                panel.judge(true);
-                return Some(code);
+        if self.is_calm {
+            let code = panel.pick();
+            let picked = (code & 0xffff_ffff) as u32;
+            let is_free = code >= 2
+                && code / 2 <= u64::from(vars)
+                && self.trail.value(picked) == FREE;
+            panel.judge(is_free);
+            if is_free {
+                return Some(picked);
             }
         }
-        panel.judge(false);
         let var = self.trail.first_free(vars)?;
         Some(var.wrapping_mul(2) | 1)
     }

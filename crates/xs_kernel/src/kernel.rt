@@ -50,8 +50,9 @@ pub struct Kernel {
     guard: Lit,
     pub wishes: Vec<u32>,
     pub granted: usize,
-    /// How many more conflicts the present question may meet until its wishes are given up.
+    /// How many more conflicts the present question may meet until its wishes are given up, and whether it has met none.
     pub patience: u32,
+    pub is_calm: bool,
     /// The given clause at which looking for one that does not hold ended.
     pub open: usize,
     /// Marked variables, and a list of them.
@@ -91,6 +92,7 @@ impl Kernel {
             wishes: Vec::new(alloc),
             granted: 0,
             patience: 0,
+            is_calm: true,
             open: 0,
             marks: Vec::new(alloc),
             marked: Vec::new(alloc),
@@ -243,6 +245,7 @@ impl Kernel {
         } else {
             0
         };
+        self.is_calm = true;
         self.granted = 0;
         let same = self.count_same(assumptions);
         self.trail.undo(same);
@@ -404,6 +407,7 @@ impl Kernel {
         ensures rotated { panel.new.rotated ≡ panel.old.rotated }
     {
         self.patience = self.patience.saturating_sub(1);
+        self.is_calm = false;
         self.granted = 0;
         let back = self.analyse(place)?;
         let step = self.step()?;

@@ -71,6 +71,13 @@ answer_from_right cores vars cs es ms ss assumptions (Unsat c) marked r = record
   listed = r.listed;
 }
 
+-- the clause of a verdict that is right
+pub refuted_from_right : (cores : Bool) (vars : ℕ) (cs es : List (List Literal)) (ms : List Bool) (ss : List Step) (assumptions : List Literal) (r : Option (List Literal)) (told : Option Verdict) →
+    AreMarked vars [] cs ms ss → IfSome r (λ core. told ≡ Some (Unsat core)) → IfSome told (IsRight cores vars (added_of cs ms) cs es assumptions) → IfSome r (λ core. IsAnswer cores vars (added_of cs ms) es assumptions (Unsat core))
+refuted_from_right cores vars cs es ms ss assumptions None told marked e right = tt
+refuted_from_right cores vars cs es ms ss assumptions (Some core) told marked e right =
+    answer_from_right cores vars cs es ms ss assumptions (Unsat core) marked (subst (λ (t : Option Verdict). IfSome t (IsRight cores vars (added_of cs ms) cs es assumptions)) e right)
+
 -- each added clause up to a place has a true literal
 abbrev pub AreTrueUpTo : Assignment → List (List Literal) → List Bool → ℕ → Type 0
 AreTrueUpTo a cs ms i = (k : ℕ) → k < i → get_or ms k true ≡ false → HasTrue a (get_or cs k [])

@@ -80,6 +80,9 @@ fn keep_steps<R: Recorder>(
     ensures trail { store.new.trail ≡ store.old.trail }
     ensures grows { IfOk result (λ _. Grows store.old.vars store.old.clauses (R.kept recorder.old) store.new.clauses (R.kept recorder.new)) }
 {
+    if steps.is_empty() {
+        return Ok(true);
+    }
     let mut judge = Trail::with_vars(alloc, store.vars())?;
     for step in steps {
         if !keep_step(&mut judge, store, step, recorder)? {
@@ -303,4 +306,41 @@ pub(crate) fn proposed<'a, R: Recorder>(
         Some(values) => Ok(Some(Verdict::Sat(values))),
         None => Ok(None),
     }
+}
+
+/// The clause by which a kernel refutes the assumptions, where it does and that is right. An assignment that it proposes is not looked at.
+/// A kernel that learned what does not follow is asked no more.
+pub(crate) fn refuted<'a, R: Recorder>(
+    alloc: Global,
+    asked: &mut Option<Kernel>,
+    store: &mut Arena,
+    question: Question<'a>,
+    panel: &mut Panel,
+    recorder: &mut R,
+) -> Result<Option<Verdict>, OutOfMemory>
+    requires small { store.old.vars < 2 ^ 62 }
+    requires in_range { All (All (IsUpTo store.old.vars)) store.old.clauses }
+    requires asked { All (IsUpTo store.old.vars) question.assumptions.now }
+    ensures vars { store.new.vars ≡ store.old.vars }
+    ensures trail { store.new.trail ≡ store.old.trail }
+    ensures grows { IfOk result (λ _. Grows store.old.vars store.old.clauses (R.kept recorder.old) store.new.clauses (R.kept recorder.new)) }
+    ensures right { (added : List (List Literal)) → IfOk result (λ r. IfSome r (IsRight question.entry.cores store.old.vars added
+        store.old.clauses store.new.clauses question.entry.assumptions.now)) }
+    ensures ready { panel.new.vars ≡ panel.old.vars }
+    ensures rotated { panel.new.rotated ≡ panel.old.rotated }
+{
+    let Some(kernel) = asked else {
+        return Ok(None);
+    };
+    let proposal = kernel.ask(question.assumptions, store.count(), panel)?;
+    let steps = kernel.take_steps();
+    if !keep_steps(alloc, store, steps.as_slice(), recorder)? {
+        *asked = None;
+        return Ok(None);
+    }
+    if let Proposal::Core(step) = proposal {
+        let answer = core(alloc, store, step, question, recorder)?;
+        return Ok(answer);
+    }
+    Ok(None)
 }
