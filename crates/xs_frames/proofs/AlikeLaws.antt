@@ -1,10 +1,10 @@
 -- Lists that are met with the same values of the places, and one clause over these more.
-use Rattle.std.proofs.Common.{◌≡◌, ◌⊎◌, inl, inr, ◌≤◌, ℕ, true, List, [], ◌∷◌, ◌++◌, ap, ◌∙◌, sym, subst, refl}
-use Rattle.std.specs.Prelude.{All, Contains, IsTrue}
+use Rattle.std.proofs.Common.{◌≡◌, ◌⊎◌, inl, inr, ◌≤◌, ℕ, true, List, [], ◌∷◌, ◌++◌, ap, ◌∙◌, sym, refl}
+use Rattle.std.specs.Prelude.{All, Contains}
 use Rattle.std.proofs.lemmas.List.Elements.{All-head, All-tail, Contains-append_left, Contains-push, Contains-push_cases}
 use Rattle.xs_lits.specs.Literal.{Literal}
 use Rattle.xs_lits.specs.Derivation.{IsUpTo}
-use Rattle.xs_lits.specs.Models.{TotalAssignment, clause_value, all_true, Satisfies}
+use Rattle.xs_lits.specs.Models.{TotalAssignment, clause_value}
 use Rattle.xs_lits.proofs.ModelLemmas.{Satisfies-from_All}
 use Rattle.xs_lits.proofs.ClauseLists.{member_true}
 use Rattle.xs_value.proofs.ListLaws.{all_from}

@@ -26,4 +26,5 @@ pub mod GuardedVerdicts
 pub mod HeldMore
 pub mod ApartLaws
 pub mod ShownLaws
+pub mod LastingLaws
 pub mod AlikeLaws

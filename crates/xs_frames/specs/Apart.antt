@@ -1,6 +1,6 @@
 -- The variables 0 and 1 of a list are its own, as those above the places are: numbered apart from the places, they may be
 -- renamed, and two lists that are asked together never share them.
-use Rattle.std.specs.Prelude.{◌≡◌, ℕ, zero, suc, ◌+◌, ◌≤◌, ◌<◌, ◌^◌, List, map, nat_le, if◌then◌else◌, IsTrue, All, Contains}
+use Rattle.std.specs.Prelude.{ℕ, zero, suc, ◌+◌, ◌≤◌, ◌<◌, ◌^◌, List, map, nat_le, if◌then◌else◌, IsTrue, All, Contains}
 use Rattle.xs_lits.specs.Literal.{Literal, opposite}
 use Rattle.xs_lits.specs.Assignment.{Assignment}
 use Rattle.xs_lits.specs.Models.{TotalAssignment, literal_value, clause_value, all_true}

@@ -18,3 +18,4 @@ pub mod FramesView
 pub mod Parts
 pub mod Minimal
 pub mod Shown
+pub mod Lasting

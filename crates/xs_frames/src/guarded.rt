@@ -7,7 +7,7 @@
 //! The frame of number 0 is the list of the first states. Bad states and frames that are not asked about any more
 //! are retired: their guard is false from then on. What the search learns stays, and so does a clause whose place in the frames
 //! another one took, until the search is made anew ([`crate::fresh`]).
-ghost use Rattle.std.specs.Prelude.{◌≡◌, ◌≤◌, ◌<◌, ◌+◌, ◌*◌, ◌^◌, ◌∷◌, ◌++◌, [], IfOk, OnOk, All, length};
+ghost use Rattle.std.specs.Prelude.{◌≡◌, ◌≤◌, ◌<◌, ◌+◌, ◌*◌, ◌^◌, ◌∷◌, ◌++◌, [], IfOk, IfSome, OnOk, All, length};
 ghost use Rattle.xs_lits.specs.Literal.{opposite};
 ghost use Rattle.xs_lits.specs.Derivation.{IsUpTo};
 ghost use Rattle.xs_lits.specs.Hints.{HasNoOpposites};
@@ -16,6 +16,7 @@ ghost use Rattle.xs_frames.specs.Condition.{IsLow, IsFit};
 ghost use Rattle.xs_frames.specs.Roles.{renamed_literal, renamed_clause, under_list};
 ghost use Rattle.xs_frames.specs.Guards.{unguarded};
 ghost use Rattle.xs_frames.specs.Guarding.{IsWell, IsHolding, IsGuardIn, HasRoomFor, IsEmpty, HasPut, HasWidened, HasNewBad, HasNewFrame, HasAsked, Tells, TakesBad, AddsBad, Puts, Grows, BeginsAgain, asked_guards};
+ghost use Rattle.xs_solver.specs.declared.solve.Verdict.TheVariants.{Unsat};
 
 use crate::apart::simpler_apart;
 use crate::highest::highest;
@@ -417,6 +418,31 @@ impl Guarded {
         match self.search.ask(under.as_slice(), panel)? {
             Verdict::Sat(values) => Ok(Verdict::Sat(values)),
             Verdict::Unsat(core) => Ok(Verdict::Unsat(without_guards(alloc, self.places, &core)?)),
+        }
+    }
+
+    /// Looks for a clause of negated assumptions that holds where what is asked about and the clauses of a frame do. Where none is answered
+    /// there may be one.
+    pub fn refute(
+        &mut self,
+        beside: Beside,
+        frame: usize,
+        assumptions: &[Lit],
+        panel: &mut Panel,
+    ) -> Result<Option<Clause>, OutOfMemory>
+        requires well { IsWell self.old }
+        requires frame { frame < length self.old.frames.items }
+        requires up_to { All (IsUpTo self.old.places) assumptions.now }
+        requires apart { HasNoOpposites assumptions.now }
+        ensures asked { IfOk result (λ r. HasAsked self.old self.new) }
+        ensures core { IfOk result (λ r. IfSome r (λ core. Tells self.old beside frame assumptions.now (Unsat core))) }
+    {
+        let alloc = *self.frames.allocator();
+        let under = self.guards(beside, frame, assumptions)?;
+        panel.ready(self.vars)?;
+        match self.search.refute(under.as_slice(), panel)? {
+            None => Ok(None),
+            Some(core) => Ok(Some(without_guards(alloc, self.places, &core)?)),
         }
     }
 }

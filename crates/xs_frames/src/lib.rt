@@ -17,7 +17,8 @@
 //! clauses that it began with: then it is made anew over what is alive (`src/fresh.rt`).
 //!
 //! The same frames serve for other bad states: `begin_again` goes back to the frontier 0, and keeps the search with all that it
-//! has learned; what was blocked in later frames goes.
+//! has learned. The clauses of an invariant that was found stand in each frame from then on (`src/lasting.rt`); what else was blocked in
+//! later frames goes.
 //!
 //! ```text
 //! let mut frames = Frames::new(alloc, system)?;    // one bit that is false first and stays
@@ -39,6 +40,7 @@ mod frames;
 mod fresh;
 mod guarded;
 mod highest;
+mod lasting;
 mod levels;
 mod outline;
 mod shown;

@@ -18,7 +18,6 @@ use xs_adviser::Panel;
 use xs_lits::System;
 use xs_lits::clause::Clause;
 use xs_lits::lit::Lit;
-use xs_solver::solve::Verdict;
 use xs_value::OutOfMemory;
 
 /// How many literals are tried in vain before a clause is left as it is.
@@ -108,9 +107,9 @@ pub fn step_core(
     let alloc = *frames.held.allocator();
     let bits = u64::from(system.state_bits);
     let against = turn_next(alloc, bits, clause)?;
-    match kept.ask(Beside::Step, level - 1, against.as_slice(), panel)? {
-        Verdict::Sat(_values) => Ok(None),
-        Verdict::Unsat(core) => {
+    match kept.refute(Beside::Step, level - 1, against.as_slice(), panel)? {
+        None => Ok(None),
+        Some(core) => {
             let none = Clause::from_lits(alloc, &[])?;
             let back = join(alloc, bits, &none, &core)?;
             Ok(Some(back))

@@ -1,8 +1,7 @@
-use Rattle.std.proofs.Common.{◌≡◌, ◌+◌, ◌*◌, ◌^◌, ◌<◌, ◌≤◌, ℕ, suc, All, List, true, sym, ◌∙◌, subst, arith, length, slice_index_or}
+use Rattle.std.proofs.Common.{◌≡◌, ◌+◌, ◌*◌, ◌^◌, ◌<◌, ◌≤◌, ℕ, suc, All, List, true, refl, sym, ◌∙◌, subst, arith, length, slice_index_or}
 use Rattle.std.specs.List.{list_any}
 use Rattle.std.proofs.lemmas.Grind.{common_steps}
 use Rattle.xs_frames.specs.Bits.{against_next, read_from}
-use Rattle.xs_frames.specs.Chain.{State}
 use Rattle.xs_frames.specs.Levels.{frames_of}
 use Rattle.xs_frames.specs.declared.guarded.Beside.TheVariants.{Step}
 use Rattle.xs_lits.specs.Derivation.{IsUpTo}
@@ -15,8 +14,9 @@ use Rattle.xs_frames.proofs.QueryLemmas.{against_up_to, against_apart, states_lo
 use Rattle.xs_frames.proofs.PushLemmas.{kept, not_kept}
 use Rattle.std.proofs.lemmas.List.Elements.{All-push}
 use Rattle.xs_frames.specs.Framed.{frame_at}
-use Rattle.xs_frames.specs.Shown.{breaks, IsReached}
-use Rattle.xs_frames.proofs.ShownLaws.{found_reached, shown_lost}
+use Rattle.xs_frames.specs.Shown.{shows, IsShown}
+use Rattle.xs_frames.specs.declared.shown.Seen.{Seen}
+use Rattle.xs_frames.proofs.ShownLaws.{found_shown, shown_lost}
 use Rattle.xs_frames.proofs.advance.keeps.Goals as goal
 
 room : (b u v : ℕ) → v ≡ 2 * b + u + 1 → 2 * b + 1 ≤ v
@@ -73,21 +73,24 @@ returns-clause-kept g c = c.in_ok-values.ensures.asked (apart_system c.args.syst
 
 pub returns-then-is_broken-clause-answer : goal.returns-then-is_broken-clause-answer
 returns-then-is_broken-clause-answer g c =
-    let broken : list_any (breaks c.args.clause.now) c.as_slice.result.now ≡ true = sym c.is_broken.ensures ∙ c.if-is_broken.true in
+    let broken : list_any (shows c.args.i c.args.clause.now) c.as_slice.result.now ≡ true = sym c.is_broken.ensures ∙ c.if-is_broken.true in
     record {
       kept = λ e. cc;
-      lost = λ e k. shown_lost c.args.system.now (frame_at (frames_of c.args.frames.now) c.args.i) c.args.clause.now c.args.shown.now.items c.requires.shown
-          (subst (λ (ts : List State). list_any (breaks c.args.clause.now) ts ≡ true) c.as_slice.ensures.value broken) k;
+      lost = λ e k. shown_lost c.args.system.now (frame_at (frames_of c.args.frames.now) c.args.i) c.args.i c.args.clause.now c.args.seen.now.items c.requires.seen
+          (subst (λ (ts : List Seen). list_any (shows c.args.i c.args.clause.now) ts ≡ true) c.as_slice.ensures.value broken) k;
     }
 
-pub returns-in-Sat-clause-shown : goal.returns-in-Sat-clause-shown
-returns-in-Sat-clause-shown g c =
+pub returns-in-Sat-clause-seen : goal.returns-in-Sat-clause-seen
+returns-in-Sat-clause-seen g c =
     let sys = c.args.system.now in
     let frame = frame_at (frames_of c.args.frames.now) c.args.i in
     let assumed : c.as_slice-2.result.now ≡ against_next sys.state_bits c.args.clause.now = grind (arith, common_steps) in
-    let next_is : c.in_ok-next-in-Sat.next ≡ read_from (sys.state_bits + 2) sys.state_bits c.in-Sat.values = grind (arith, common_steps) in
+    let from_is : c.in_ok-from-in-Sat.from ≡ read_from 2 sys.state_bits c.in-Sat.values = grind (arith, common_steps) in
+    let to_is : c.in_ok-to-in-Sat.to ≡ read_from (sys.state_bits + 2) sys.state_bits c.in-Sat.values = grind (arith, common_steps) in
     let found = sat_told sys c.args.bad.now (frames_of c.args.frames.now) Step c.args.i c.as_slice-2.result.now (against_next sys.state_bits c.args.clause.now) c.in_ok-values.field-0 c.in-Sat.values assumed c.in-Sat.is
     (c.in_ok-values.ensures.verdict (apart_system sys) (apart_list (places_of sys) c.args.bad.now) (frames_of c.args.frames.now) c.requires.kept) in
-    let reached = found_reached sys (frames_of c.args.frames.now) c.args.i c.args.bad.now (against_next sys.state_bits c.args.clause.now) c.in-Sat.values c.requires.framed.framed found in
-    subst (All (IsReached sys frame)) (sym c.in_ok-push-in-Sat.ensures.items)
-    (All-push (IsReached sys frame) c.args.shown.now.items c.in_ok-next-in-Sat.next c.requires.shown (subst (IsReached sys frame) (sym next_is) reached))
+    let shown = found_shown sys (frames_of c.args.frames.now) c.args.i c.args.bad.now (against_next sys.state_bits c.args.clause.now) c.in-Sat.values c.requires.framed.framed found in
+    let step : Seen = record { level = c.args.i; from = c.in_ok-from-in-Sat.from; to = c.in_ok-to-in-Sat.to } in
+    let same : step ≡ record { level = c.args.i; from = read_from 2 sys.state_bits c.in-Sat.values; to = read_from (sys.state_bits + 2) sys.state_bits c.in-Sat.values } = rw from_is (rw to_is refl) in
+    subst (All (IsShown sys frame c.args.i)) (sym c.in_ok-push-in-Sat.ensures.items)
+    (All-push (IsShown sys frame c.args.i) c.args.seen.now.items step c.requires.seen (subst (IsShown sys frame c.args.i) (sym same) shown))

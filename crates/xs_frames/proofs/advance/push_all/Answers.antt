@@ -26,6 +26,7 @@ frames-preserved g c =
       stronger = stronger_more c.args.system.now (frames_of c.args.frames.now) (frames_of c.frames.frames) (frames_of c.push_frame.new.frames) (same_length c.args.frames.now c.frames.frames c.frames.invariant.last) c.frames.invariant.stronger
           (moved_stronger c.args.system.now c.frames.frames c.push_frame.new.frames c.frames.i c.push_frame.ensures.moved);
       pushed = levels_more c.args.system.now c.frames.frames c.push_frame.new.frames c.frames.i c.push_frame.ensures.moved c.frames.invariant.pushed c.in_ok-push_frame.ensures.pushed;
+      seen = c.in_ok-push_frame.ensures.seen;
       kept = c.in_ok-push_frame.ensures.kept;
     }
 
@@ -37,3 +38,9 @@ returns-clause-pushed g c = λ j some lt. c.frames.invariant.pushed j some (less
 
 pub returns-clause-kept : goal.returns-clause-kept
 returns-clause-kept g c = c.frames.invariant.kept
+
+pub push_frame-requires-clause-seen : goal.push_frame-requires-clause-seen
+push_frame-requires-clause-seen g c = c.frames.invariant.seen
+
+pub returns-clause-seen : goal.returns-clause-seen
+returns-clause-seen g c = c.frames.invariant.seen

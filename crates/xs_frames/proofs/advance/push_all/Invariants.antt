@@ -1,4 +1,5 @@
-use Rattle.std.proofs.Common.{◌≡◌}
+use Rattle.std.proofs.Common.{◌≡◌, All}
+use Rattle.xs_frames.specs.Shown.{IsSeen}
 use Rattle.xs_frames.specs.Framed.{AreStronger}
 use Rattle.xs_frames.specs.Levels.{frames_of, IsLevelled, AreLevelsPushed}
 use Rattle.xs_frames.specs.Apart.{IsKept}
@@ -10,5 +11,6 @@ invariant-frames g l = record {
   last : l.frames.last ≡ l.initial.frames.last;
   stronger : AreStronger l.system (frames_of l.initial.frames) (frames_of l.frames);
   pushed : AreLevelsPushed l.system l.frames l.i;
+  seen : All (IsSeen l.system) l.seen.items;
   kept : IsKept l.system l.bad (frames_of l.frames) l.kept;
 }

@@ -1,9 +1,11 @@
 use Rattle.std.proofs.Common.{◌≡◌, sym, ℕ, ◌<◌, All, List, arith, subst, length}
 use Rattle.std.proofs.lemmas.Grind.{common_steps}
 use Rattle.xs_lits.specs.Literal.{Literal}
-use Rattle.xs_frames.specs.Shown.{IsReached}
+use Rattle.xs_frames.specs.Levels.{frames_of}
+use Rattle.xs_frames.specs.Framed.{frame_at}
+use Rattle.xs_frames.specs.Shown.{IsShown}
 use Rattle.xs_frames.proofs.PushLemmas.{moved_more, places_more}
-use Rattle.xs_frames.proofs.ShownLaws.{frame_stays}
+use Rattle.xs_frames.proofs.ShownLaws.{frame_stays, all_seen}
 use Rattle.xs_frames.proofs.advance.push_frame.Goals as goal
 
 pub clauses-preserved : goal.clauses-preserved
@@ -13,8 +15,8 @@ clauses-preserved g c =
       framed = c.push_clause.ensures.framed;
       moved = moved_more c.args.system.now c.args.frames.now c.clauses.frames c.push_clause.new.frames c.args.i inv.moved c.push_clause.ensures.moved;
       pushed = places_more c.args.system.now c.clauses.frames c.push_clause.new.frames c.args.i c.clauses.k c.push_clause.ensures.moved inv.pushed c.in_ok-push_clause.ensures.pushed;
-      shown = subst (λ (frame : List (List Literal)). All (IsReached c.args.system.now frame) c.push_clause.new.shown.items)
-          (frame_stays c.args.system.now c.args.frames.now c.clauses.frames c.args.i inv.moved) c.in_ok-push_clause.ensures.shown;
+      seen = subst (λ (frame : List (List Literal)). All (IsShown c.args.system.now frame c.args.i) c.push_clause.new.seen.items)
+          (frame_stays c.args.system.now c.args.frames.now c.clauses.frames c.args.i inv.moved) c.in_ok-push_clause.ensures.seen;
       kept = c.in_ok-push_clause.ensures.kept;
     }
 
@@ -29,11 +31,14 @@ push_clause-requires-clause-place g c =
     let inside : c.clauses.k < length c.args.frames.now.held.items = grind (arith, common_steps) in
     subst (λ (n : ℕ). c.clauses.k < n) (sym c.clauses.invariant.moved.count) inside
 
-pub push_clause-requires-clause-shown : goal.push_clause-requires-clause-shown
-push_clause-requires-clause-shown g c =
+pub push_clause-requires-clause-seen : goal.push_clause-requires-clause-seen
+push_clause-requires-clause-seen g c =
     let inv = c.clauses.invariant in
-    subst (λ (frame : List (List Literal)). All (IsReached c.args.system.now frame) c.clauses.shown.items)
-    (sym (frame_stays c.args.system.now c.args.frames.now c.clauses.frames c.args.i inv.moved)) inv.shown
+    subst (λ (frame : List (List Literal)). All (IsShown c.args.system.now frame c.args.i) c.clauses.seen.items)
+    (sym (frame_stays c.args.system.now c.args.frames.now c.clauses.frames c.args.i inv.moved)) inv.seen
+
+pub returns-clause-seen : goal.returns-clause-seen
+returns-clause-seen g c = all_seen c.args.system.now (frame_at (frames_of c.args.frames.now) c.args.i) c.args.i c.clauses.seen.items c.clauses.invariant.seen
 
 pub push_clause-requires-clause-kept : goal.push_clause-requires-clause-kept
 push_clause-requires-clause-kept g c = c.clauses.invariant.kept

@@ -1,6 +1,6 @@
 use Rattle.std.specs.Prelude.{All}
 use Rattle.xs_frames.specs.Framed.{frame_at}
-use Rattle.xs_frames.specs.Shown.{IsReached}
+use Rattle.xs_frames.specs.Shown.{IsShown}
 use Rattle.xs_frames.specs.Levels.{frames_of, IsLevelled, HasMoved}
 use Rattle.xs_frames.specs.Apart.{IsKept}
 use Rattle.xs_frames.proofs.PushLemmas.{ArePlacesPushed}
@@ -11,6 +11,6 @@ invariant-clauses g l = record {
   framed : IsLevelled l.system l.frames;
   moved : HasMoved l.system l.initial.frames l.frames l.i;
   pushed : ArePlacesPushed l.system l.frames l.i l.k;
-  shown : All (IsReached l.system (frame_at (frames_of l.initial.frames) l.i)) l.shown.items;
+  seen : All (IsShown l.system (frame_at (frames_of l.initial.frames) l.i) l.i) l.seen.items;
   kept : IsKept l.system l.bad (frames_of l.frames) l.kept;
 }

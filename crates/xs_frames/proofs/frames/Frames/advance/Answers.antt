@@ -1,4 +1,5 @@
-use Rattle.std.proofs.Common.{◌≡◌, ◌+◌, ◌-◌, length, OnOk, Result, Ok, Err, subst}
+use Rattle.std.proofs.Common.{◌≡◌, ◌∙◌, ◌+◌, ◌-◌, length, OnOk, Result, Ok, Err, sym, subst, true, false}
+use Rattle.std.specs.Result.{is_err}
 use Rattle.xs_frames.specs.Framed.{ArePushed}
 use Rattle.xs_frames.specs.FramesRecord.{FramesValue}
 use Rattle.xs_frames.specs.Levels.{frames_of}
@@ -26,3 +27,28 @@ pub returns-clause-frontier : goal.returns-clause-frontier
 returns-clause-frontier g c =
     subst (λ (v : FramesValue). OnOk c.advance_frames-answer.result (length (frames_of c.advance_frames-answer.new.frames) - 1 ≡ length v.frames - 1 + 1)) c.self.view_is
     (on_ok c.advance_frames-answer.result (λ e. last_more c.self.inside.levels c.advance_frames-answer.new.frames e) c.advance_frames-answer.ensures.frontier)
+
+when_ok : {T E P : Type 0} (r : Result T E) → is_err r ≡ false → OnOk r P → P
+when_ok (Ok x) e h = h
+when_ok (Err x) e h = absurd (differ e)
+  where
+    differ : true ≡ false → ⊥
+    differ e = cc
+
+pub advance_frames-answer-requires-clause-seen : goal.advance_frames-answer-requires-clause-seen
+advance_frames-answer-requires-clause-seen g c = c.self.invariant.seen c.if-self.false
+
+pub advance_frames-answer-requires-clause-lasting : goal.advance_frames-answer-requires-clause-lasting
+advance_frames-answer-requires-clause-lasting g c = c.self.invariant.lasting c.if-self.false
+
+pub invariant_of-self : goal.invariant_of-self
+invariant_of-self g c =
+    record {
+      fit = c.self.invariant.fit;
+      agreed = c.self.invariant.agreed;
+      bad = λ ready. c.self.invariant.bad c.if-self.false;
+      seen = λ ready. when_ok c.advance_frames-answer.result (sym c.is_err-self-inside.ensures.value ∙ ready) c.advance_frames-answer.ensures.seen;
+      levelled = c.advance_frames-answer.ensures.framed;
+      lasting = λ ready. when_ok c.advance_frames-answer.result (sym c.is_err-self-inside.ensures.value ∙ ready) c.advance_frames-answer.ensures.lasting;
+      kept = λ ready. when_ok c.advance_frames-answer.result (sym c.is_err-self-inside.ensures.value ∙ ready) c.advance_frames-answer.ensures.kept;
+    }

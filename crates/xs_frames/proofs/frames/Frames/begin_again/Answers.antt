@@ -8,6 +8,9 @@ use Rattle.xs_frames.proofs.OwedLemmas.{levelled_new}
 use Rattle.xs_frames.specs.FramesRecord.{FramesValue}
 use Rattle.xs_frames.specs.Levels.{frames_of}
 use Rattle.xs_frames.specs.Numbered.{AreNumbered}
+use Rattle.xs_frames.specs.Framed.{IsInductive}
+use Rattle.xs_frames.specs.declared.lasting.Lasting.{Lasting}
+use Rattle.xs_frames.proofs.LastingLaws.{lasting_again}
 use Rattle.xs_frames.proofs.Framing.{numbered}
 use Rattle.xs_frames.proofs.frames.Frames.begin_again.Goals as goal
 
@@ -28,6 +31,9 @@ invariant_of-self c =
       fit = c.self.invariant.fit;
       agreed = c.self.invariant.agreed;
       bad = λ ready. c.self.invariant.bad c.if-self.false;
+      seen = λ ready. c.self.invariant.seen c.if-self.false;
+      lasting = λ ready. lasting_again c.self.inside.system (frames_of c.new.result) c.begin_again.new.self (frames_new c.new.result c.new.ensures.held c.new.ensures.last)
+          (subst (λ (l : Lasting). IsInductive c.self.inside.system l.clauses) (sym c.begin_again.ensures) (c.self.invariant.lasting c.if-self.false).inductive);
       levelled = levelled_new c.self.inside.system c.new.result c.new.ensures.held c.new.ensures.last;
       kept = λ ready.
           subst (λ (fs : List (List (List Literal))). IsKept c.self.inside.system c.self.inside.bad fs c.begin_again-answer.new.self)
