@@ -1,22 +1,22 @@
 -- A derivation of one part, goal by goal, and those of all parts.
-use Rattle.std.specs.Prelude.{◌≡◌, ◌≤◌, List, [], ◌∷◌, ◌++◌, map, All}
+use Rattle.std.specs.Prelude.{◌≡◌, ◌≤◌, true, false, List, [], ◌∷◌, ◌++◌, length, replicate, map, All}
 use Rattle.xs_lits.specs.Literal.{Literal}
-use Rattle.xs_lits.specs.StoreRecord.{StoreValue}
 use Rattle.xs_lits.specs.Steps.{with_steps}
 use Rattle.xs_lits.specs.declared.step.Step.{Step}
 use Rattle.xs_lits.specs.States.{moved_on}
 use Rattle.xs_lits.specs.declared.system.System.{System}
+use Rattle.xs_solver.specs.KeptRecord.{KeptValue}
 use Rattle.xs_certificate_laws.specs.Accepted.{highest}
 use Rattle.xs_certificate_laws.specs.CertificateText.{AreWritable}
 use Rattle.xs_certifying.specs.Queries.{IsSoFar}
 use Rattle.xs_certifying.specs.declared.parts.Parts.{Parts}
 
--- The store has the clauses given and those of the steps so far, over the variables of the former, and nothing is true there; and
--- the steps cover the goals so far.
-pub record IsPartWay (givens : List (List Literal)) (store : StoreValue) (steps : List Step) (covered : List (List Literal)) : Type 0 where
-  pub vars : store.vars ≡ highest givens
-  pub clauses : store.clauses ≡ with_steps givens steps
-  pub empty : store.trail ≡ []
+-- The search has the clauses given as added ones and those of the steps so far as learned ones, over the variables of the former; and the
+-- steps cover the goals so far.
+pub record IsPartWay (givens : List (List Literal)) (search : KeptValue) (steps : List Step) (covered : List (List Literal)) : Type 0 where
+  pub vars : search.vars ≡ highest givens
+  pub clauses : search.clauses ≡ with_steps givens steps
+  pub marks : search.marks ≡ replicate (length givens) false ++ replicate (length steps) true
   pub so_far : IsSoFar givens steps covered
 
 -- each variable of the step's clause is positive

@@ -1,9 +1,9 @@
 //! The derivation of one part of a certificate.
 //!
-//! [`derive`] is the main function. It puts the clauses given into a store, once, and then asks the search for each goal in turn,
-//! which appends the clauses of its steps to the same store and hands the steps to a recorder. Between the goals stands `IsPartWay`:
-//! what the store has, and that the steps so far cover the goals so far.
-ghost use Rattle.std.specs.Prelude.{◌≡◌, ◌+◌, ◌<◌, ◌≤◌, ◌^◌, [], length, take, All, IfOk, OnOk};
+//! [`derive`] is the main function. It has one search that keeps all its steps: the clauses given are added, once, and then it is
+//! asked for each goal in turn and learns the clauses of its steps. Between the goals stands `IsPartWay`: what the search has, and that
+//! the steps so far cover the goals so far.
+ghost use Rattle.std.specs.Prelude.{◌≡◌, ◌+◌, ◌<◌, ◌≤◌, ◌^◌, true, [], length, take, All, IfOk, OnOk};
 ghost use Rattle.xs_lits.specs.Literal.{Literal};
 ghost use Rattle.xs_lits.specs.Models.{FollowsFrom};
 ghost use Rattle.xs_lits.specs.Derivation.{IsUpTo};
@@ -19,9 +19,7 @@ use xs_adviser::Panel;
 use xs_lits::clause::ClauseList;
 use xs_lits::lit::Lit;
 use xs_lits::recorder::{KeepAll, StepsList};
-use xs_lits::store::Store;
-use xs_solver::arena::Arena;
-use xs_solver::solve::solve_in;
+use xs_solver::kept::Search;
 use xs_value::OutOfMemory;
 
 // The first number that no variable of a search has.
@@ -65,17 +63,23 @@ fn question(alloc: Global, vars: u64, goal: &[Lit]) -> Result<Vec<Lit>, OutOfMem
     Ok(lits)
 }
 
-// A store of the clauses given.
-fn filled(alloc: Global, vars: u64, givens: &ClauseList) -> Result<Arena, OutOfMemory>
+// A search over the clauses given, which keeps all its steps.
+fn search_over(
+    alloc: Global,
+    vars: u64,
+    givens: &ClauseList,
+) -> Result<Search<KeepAll>, OutOfMemory>
     requires small { vars < 2 ^ 62 }
+    requires vars { vars ≡ highest givens.now }
     requires in_range { All (All (IsUpTo vars)) givens.now }
-    ensures { IfOk result (λ store. store ≡ record { vars = vars; clauses = givens.now; trail = []; found = [] }) }
+    ensures begun { IfOk result (λ s. IsPartWay givens.now s.kept s.recorder []) }
+    ensures cores { IfOk result (λ s. s.cores ≡ true) }
 {
-    let mut store = Arena::new(alloc, vars)?;
+    let mut search = Search::new(alloc, vars, KeepAll::new(alloc))?;
     for clause in givens.as_slice() {
-        store.push(clause.lits())?;
+        search.add(clause)?;
     }
-    Ok(store)
+    Ok(search)
 }
 
 // Derives one more goal.
@@ -84,20 +88,22 @@ fn cover(
     givens: &ClauseList,
     goals: &ClauseList,
     place: usize,
-    store: &mut Arena,
+    vars: u64,
+    search: &mut Search<KeepAll>,
     panel: &mut Panel,
-    recorder: &mut KeepAll,
 ) -> Result<(), OutOfMemory>
     requires small { highest givens.now < 2 ^ 62 }
     requires follow { All (FollowsFrom givens.now) goals.now }
     requires apart { All HasNoOpposites goals.now }
     requires place { place < length goals.now }
-    requires before { IsPartWay givens.now store.old recorder.old (take place goals.now) }
-    ensures { OnOk result (IsPartWay givens.now store.new recorder.new (take (place + 1) goals.now)) }
+    requires vars { vars ≡ highest givens.now }
+    requires cores { search.old.cores ≡ true }
+    requires before { IsPartWay givens.now search.old.kept search.old.recorder (take place goals.now) }
+    ensures way { OnOk result (IsPartWay givens.now search.new.kept search.new.recorder (take (place + 1) goals.now)) }
+    ensures cores { search.new.cores ≡ true }
 {
-    let vars = store.vars();
     let assumed = question(alloc, vars, goals.at(place).lits())?;
-    let _verdict = solve_in(alloc, store, assumed.as_slice(), panel, recorder)?;
+    let _verdict = search.ask(assumed.as_slice(), panel)?;
     Ok(())
 }
 
@@ -125,25 +131,25 @@ fn see_all_positive(steps: &StepsList)
 fn finished(
     givens: &ClauseList,
     goals: &ClauseList,
-    store: &Arena,
-    recorder: &KeepAll,
+    search: &Search<KeepAll>,
 ) -> Result<StepsList, OutOfMemory>
     requires small { highest givens.now < 2 ^ 62 }
-    requires done { IsPartWay givens.now store.now recorder.now goals.now }
+    requires done { IsPartWay givens.now search.now.kept search.now.recorder goals.now }
     ensures derived { IfOk result (λ steps. IsSoFar givens.now steps goals.now) }
     ensures writable { IfOk result (λ steps. AreWritable steps) }
 {
-    if store.count() >= END_OF_COUNTS {
+    if search.count() as u64 >= END_OF_COUNTS {
         return Err(OutOfMemory);
     }
-    see_all_positive(recorder.steps());
-    let steps = recorder.steps().copy()?;
+    let made = search.recorder().steps();
+    see_all_positive(made);
+    let steps = made.copy()?;
     Ok(steps)
 }
 
 /// Steps that each follow from the clauses given and the steps before them, and cover each goal: a given clause or a step's has
-/// literals of the goal alone. They are made by searches over the clauses given and the steps so far, one for each goal, that keep all
-/// their steps. Where a variable is 2^62 or more, it answers want of memory.
+/// literals of the goal alone. They are made by one search over the clauses given and the steps so far, which is asked for each goal and
+/// keeps all its steps. Where a variable is 2^62 or more, it answers want of memory.
 pub fn derive(
     alloc: Global,
     givens: &ClauseList,
@@ -160,18 +166,9 @@ pub fn derive(
         return Err(OutOfMemory);
     }
     panel.ready(vars)?;
-    let mut store = filled(alloc, vars, givens)?;
-    let mut recorder = KeepAll::new(alloc);
+    let mut search = search_over(alloc, vars, givens)?;
     for place in 0..goals.len() {
-        cover(
-            alloc,
-            givens,
-            goals,
-            place,
-            &mut store,
-            panel,
-            &mut recorder,
-        )?;
+        cover(alloc, givens, goals, place, vars, &mut search, panel)?;
     }
-    finished(givens, goals, &store, &recorder)
+    finished(givens, goals, &search)
 }
