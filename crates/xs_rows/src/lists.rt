@@ -1,6 +1,6 @@
 //! Lists, names, domains and valuations.
 use std::alloc::Global;
-use xs_value::{Domain, Dotted, Items, Name, NumList, OutOfMemory, SymList, Valuation, Value};
+use xs_value::{Domain, Dotted, Members, Name, NumList, OutOfMemory, SymList, Valuation, Value};
 
 /// A list that was given these numbers.
 fn numbers_of(alloc: Global, numbers: &[i64]) -> Result<NumList, OutOfMemory> {
@@ -24,7 +24,7 @@ fn has_only(domain: &Domain, inside: Value, outside: Value) -> bool {
 fn numbers_hold(alloc: Global) -> Result<bool, OutOfMemory> {
     let numbers = numbers_of(alloc, &[3, 3, -7])?;
     let is_list = ends_in(&numbers, 3, -7);
-    let domain = Domain::Numbers(numbers);
+    let domain = Domain::Numbers(Members::new(numbers)?);
     Ok(is_list && domain.count() == 2 && has_only(&domain, Value::Num(-7), Value::Num(0)))
 }
 
@@ -92,10 +92,15 @@ fn a_valuation_gives_what_was_set(rt: HostRuntime) {
     assert!(rt; matches!(valuations_hold(rt.alloc()), Ok(true)));
 }
 
+/// How many values a domain has that lists no symbol.
+fn count_of_none(alloc: Global) -> Result<u64, OutOfMemory> {
+    let none = Members::new(SymList::new(alloc))?;
+    Ok(Domain::Symbols(none).count())
+}
+
 #[test]
 fn domains_without_a_list_have_their_values(rt: HostRuntime) {
     let range = Domain::Range { lo: -2, hi: 2 };
     assert!(rt; range.count() == 5 && has_only(&range, Value::Num(-2), Value::Bool(true)));
-    let symbols: SymList = Items::new(rt.alloc());
-    assert!(rt; Domain::Symbols(symbols).count() == 0 && Domain::Boolean.count() == 2);
+    assert!(rt; matches!(count_of_none(rt.alloc()), Ok(0)) && Domain::Boolean.count() == 2);
 }

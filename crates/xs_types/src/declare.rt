@@ -12,7 +12,7 @@ use crate::numbers::TextNumbers;
 use crate::sort::{Class, Judged, Sort, kept, range};
 use std::alloc::Global;
 use xs_tree::{Declared, Member};
-use xs_value::{Domain, NumList, OutOfMemory, SymList};
+use xs_value::{Domain, Members, NumList, OutOfMemory, SymList};
 
 /// What is known of the values of a declared type, and the first rule that it breaks. An instance is no
 /// variable; it counts as a truth value.
@@ -55,10 +55,10 @@ fn declare_members(
 {
     if begins_with_number(members) {
         let listed = listed_numbers(alloc, members)?;
-        Ok(Domain::Numbers(listed))
+        Ok(Domain::Numbers(Members::new(listed)?))
     } else {
         let listed = listed_symbols(alloc, numbers, members)?;
-        Ok(Domain::Symbols(listed))
+        Ok(Domain::Symbols(Members::new(listed)?))
     }
 }
 

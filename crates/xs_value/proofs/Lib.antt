@@ -3,3 +3,4 @@ mod Cutting
 mod Different
 pub mod ListLaws
 pub mod ResultLaws
+mod Searching

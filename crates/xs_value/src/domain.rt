@@ -7,6 +7,7 @@ ghost use Rattle.std.specs.Ordering.{int_eq};
 ghost use Rattle.xs_value.specs.Domains.{Has, IsCountable, count_of, different};
 
 use crate::items::Items;
+use crate::members::Members;
 use crate::memory::OutOfMemory;
 use crate::value::Value;
 
@@ -22,8 +23,8 @@ pub type SymList = Items<u32>;
 pub enum Domain {
     Boolean,
     Range { lo: i64, hi: i64 },
-    Numbers(NumList),
-    Symbols(SymList),
+    Numbers(Members<i64>),
+    Symbols(Members<u32>),
 }
 
 impl Domain {
@@ -46,8 +47,8 @@ impl Domain {
         match (self, value) {
             (Domain::Boolean, Value::Bool(_)) => true,
             (Domain::Range { lo, hi }, Value::Num(number)) => *lo <= number && number <= *hi,
-            (Domain::Numbers(numbers), Value::Num(number)) => numbers.as_slice().contains(&number),
-            (Domain::Symbols(symbols), Value::Sym(symbol)) => symbols.as_slice().contains(&symbol),
+            (Domain::Numbers(numbers), Value::Num(number)) => numbers.has(&number),
+            (Domain::Symbols(symbols), Value::Sym(symbol)) => symbols.has(&symbol),
             _ => false,
         }
     }

@@ -1,5 +1,8 @@
 //! Texts and dotted names.
 //! A [`Name`] is seen as its bytes, of any length and with no rule on them, and a [`Dotted`] as its parts, at least one.
+//!
+//! The copies of a name share its bytes. So the paths of a thousand variables below long names take a pointer for each of
+//! their parts, however long the names are.
 
 ghost use Rattle.std.specs.Prelude.{◌≡◌, ◌↔◌, [], ◌∷◌, ◌++◌, ◌<◌, length, slice_get, Some, IsTrue, IfOk, OnOk, OnErr};
 
@@ -7,11 +10,12 @@ use crate::items::Items;
 use crate::memory::OutOfMemory;
 use std::alloc::Global;
 use std::marker::Model;
+use std::rc::Rc;
 
 /// A text, which contracts see as the list of its bytes.
 #[derive(Drop)]
 pub struct Name {
-    bytes: Vec<u8>,
+    bytes: Rc<Vec<u8>>,
 }
 
 /// A list of names.
@@ -22,7 +26,7 @@ impl Model for Name {
 
     ghost Value = { List ℕ };
 
-    ghost view = { λ name. name.bytes.items };
+    ghost view = { λ name. name.bytes.value.items };
 }
 
 impl Name {
@@ -31,7 +35,7 @@ impl Name {
         ensures { IfOk result (λ name. name ≡ text.now) }
     {
         Ok(Name {
-            bytes: Vec::from_slice(alloc, text)?,
+            bytes: Rc::new(alloc, Vec::from_slice(alloc, text)?)?,
         })
     }
 
@@ -54,11 +58,13 @@ impl Name {
         self.text() == other.text()
     }
 
-    /// A name of its own with the same text.
+    /// A name with the same text, which it shares: takes no memory.
     pub fn copy(&self) -> Result<Name, OutOfMemory>
         ensures { IfOk result (λ name. name ≡ self.now) }
     {
-        Name::new(self.allocator(), self.text())
+        Ok(Name {
+            bytes: self.bytes.clone()?,
+        })
     }
 }
 
