@@ -50,16 +50,12 @@ pub(crate) fn is_any_taken(taken: &Texts, names: &NameList) -> bool
 }
 
 /// Adds names to the texts.
-pub(crate) fn add_names(
-    alloc: Global,
-    taken: &mut Texts,
-    names: &NameList,
-) -> Result<(), OutOfMemory>
+pub(crate) fn add_names(taken: &mut Texts, names: &NameList) -> Result<(), OutOfMemory>
     ensures { OnOk result (taken.new ≡ with_texts taken.old names.now) }
 {
     let names = names.as_slice();
     for i in 0..names.len() {
-        taken.add(alloc, names[i].text())?;
+        taken.add(names[i].text())?;
     }
     Ok(())
 }

@@ -70,7 +70,7 @@ fn judge_causes(
         if let Some(rule) = broken(alloc, faults, &written[..i], names, cause)? {
             return Err(CauseFault::Broken(rule, number_of(i + 1)?));
         }
-        add_names(alloc, names, &cause_names(alloc, cause)?)?;
+        add_names(names, &cause_names(alloc, cause)?)?;
     }
     Ok(())
 }

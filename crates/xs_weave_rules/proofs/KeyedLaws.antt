@@ -14,25 +14,9 @@ use Rattle.xs_tree.proofs.BorrowedTexts.{same_bytes}
 use Rattle.xs_tree.proofs.BoolLaws.{if_true, if_false, or_false, or_assoc}
 use Rattle.xs_tree.proofs.AmongLaws.{among_joined}
 
--- a set of texts has those of its list
-pub any_text : {K : Type 0} (text : K → Text) (ks : List K) (x : Text) → list_any (λ k. pointwise nat_eq x (text k)) ks ≡ is_among (map text ks) x
-any_text text [] x = refl
-any_text text (k ∷ ks) x = λ i. same_bytes x (text k) i || any_text text ks x i
-
 pub map_push : {A B : Type 0} (f : A → B) (xs : List A) (x : A) → map f (xs ++ x ∷ []) ≡ map f xs ++ f x ∷ []
 map_push f [] x = refl
 map_push f (y ∷ xs) x = ap (λ ys. f y ∷ ys) (map_push f xs x)
-
--- a text that is put goes last, where it is new
-pub put_text : {K : Type 0} (text : K → Text) (ks : List K) (k : K) →
-    map text (if list_any (λ j. pointwise nat_eq (text k) (text j)) ks then ks else ks ++ k ∷ []) ≡ with_text (map text ks) (text k)
-put_text text ks k = go (list_any (λ j. pointwise nat_eq (text k) (text j)) ks) (is_among (map text ks) (text k)) (any_text text ks (text k))
-  where
-    go : (a b : Bool) → a ≡ b → map text (if a then ks else ks ++ k ∷ []) ≡ (if b then map text ks else map text ks ++ text k ∷ [])
-    go true true e = refl
-    go false false e = map_push text ks k
-    go true false e = cc
-    go false true e = cc
 
 pub texts_more : (xs ys zs : List Text) → with_texts xs (ys ++ zs) ≡ with_texts (with_texts xs ys) zs
 texts_more xs [] zs = refl

@@ -6,5 +6,7 @@ pub mod WeavableLaw
 pub mod KeyedLaws
 pub mod LocalLaws
 pub mod SiteFaults
+mod StepLaws
+mod SymbolLaws
 mod CountLaws
 pub mod PlacingLaws

@@ -17,11 +17,10 @@ use Rattle.xs_weave_rules.specs.Rules.{first_of, effect_rules, target_kind, is_n
 use Rattle.xs_weave_rules.specs.FirstBroken.{AllKept, IsFirstBroken}
 use Rattle.xs_weave_rules.specs.Keyed.{with_text, with_texts, with_pair, with_pairs, is_pair_among}
 use Rattle.xs_weave_rules.specs.Locals.{variable, seen_kind}
-use Rattle.xs_weave_rules.specs.Faults.{fault_at, first_fault, owned_slices, file_slices, sites_of, slice_rule, names_of, adds_taken, mode_rule, mode_faults, rule_of, faults_of, mode_symbols, placed_tree, slices_in, slice_name, target_pair, IsMet, IsTaken, IsLeft}
+use Rattle.xs_weave_rules.specs.Faults.{fault_at, first_fault, owned_slices, file_slices, sites_of, slice_rule, names_of, adds_taken, mode_rule, mode_faults, mode_symbols, placed_tree, slices_in, slice_name, target_pair, IsMet, IsTaken, IsLeft}
 use Rattle.xs_weave_rules.specs.declared.fault.Rule.{Rule}
 use Rattle.xs_weave_rules.specs.declared.fault.Rule.TheVariants.{NoSuchVariable, NotAStateVariable, DoubleSlice, DoubleMode, VariableTaken, NameTaken}
 use Rattle.xs_weave_rules.specs.declared.fault.RuleFault.{RuleFault}
-use Rattle.xs_weave_rules.specs.declared.modes.Judged.{Judged}
 use Rattle.xs_weave_rules.specs.declared.placed.Placed.{Placed}
 use Rattle.xs_weave_rules.specs.declared.items.Met.{Met}
 use Rattle.xs_weave_rules.specs.declared.items.SliceNames.{SliceNames}
@@ -30,34 +29,6 @@ use Rattle.xs_tree.proofs.ListLaws.{flat_end, drop_here, map_length}
 use Rattle.xs_tree.proofs.BoolLaws.{or_false, or_assoc}
 use Rattle.xs_tree.specs.Values.{opposite}
 use Rattle.xs_tree.proofs.AmongLaws.{among_joined}
-
--- modes, one on
-module _ (judged : Judged) (states names : List Text) (n : ℕ) (ms : List ModeRule) (i : ℕ) (m : ModeRule) (below : i < length ms) (here : m ≡ get_or ms i m) where
-  mode_here : faults_of judged states names n (map mode_tree (drop i ms)) ≡
-      fault_at (rule_of judged states names (mode_tree m)) (n + 1) (faults_of judged (with_text states (mode_symbol judged.slice.now.name (Some m.name))) (with_text names m.name) (n + 1) (map mode_tree (drop (i + 1) ms)))
-  mode_here = ap (λ xs. faults_of judged states names n (map mode_tree xs)) (drop_here ms i m below here)
-
-  pub mode_next : (states' names' : List Text) (n' : ℕ) → rule_of judged states names (mode_tree m) ≡ None → states' ≡ with_text states (mode_symbol judged.slice.now.name (Some m.name)) →
-      names' ≡ with_text names m.name → n' ≡ n + 1 → faults_of judged states' names' n' (map mode_tree (drop (i + 1) ms)) ≡ faults_of judged states names n (map mode_tree (drop i ms))
-  mode_next states' names' n' kept s t e =
-      let rest : List Text → List Text → ℕ → Option RuleFault = λ ss ns k. faults_of judged ss ns k (map mode_tree (drop (i + 1) ms)) in
-      (λ j. rest (s j) (t j) (e j))
-      ∙ sym (ap (λ r. fault_at r (n + 1) (rest (with_text states (mode_symbol judged.slice.now.name (Some m.name))) (with_text names m.name) (n + 1))) kept) ∙ sym mode_here
-
-  pub mode_stops : (fault : RuleFault) → rule_of judged states names (mode_tree m) ≡ Some fault.rule → fault.item ≡ n + 1 → faults_of judged states names n (map mode_tree (drop i ms)) ≡ Some fault
-  mode_stops fault told at =
-      mode_here
-      ∙ ap (λ r. fault_at r (n + 1) (faults_of judged (with_text states (mode_symbol judged.slice.now.name (Some m.name))) (with_text names m.name) (n + 1) (map mode_tree (drop (i + 1) ms)))) told
-      ∙ ap (λ k. Some (record { rule = fault.rule; item = k })) (sym at)
-
-  pub states_next : (states' : List Text) → states' ≡ with_text states (mode_symbol judged.slice.now.name (Some m.name)) →
-      with_texts states' (mode_symbols judged.slice.now.name (map mode_tree (drop (i + 1) ms))) ≡ with_texts states (mode_symbols judged.slice.now.name (map mode_tree (drop i ms)))
-  states_next states' s =
-      ap (λ ss. with_texts ss (mode_symbols judged.slice.now.name (map mode_tree (drop (i + 1) ms)))) s
-      ∙ sym (ap (λ xs. with_texts states (mode_symbols judged.slice.now.name (map mode_tree xs))) (drop_here ms i m below here))
-
-  pub last_next : (n' : ℕ) → n' ≡ n + 1 → n' + length (drop (i + 1) ms) ≡ n + length (drop i ms)
-  last_next n' e = let l : length (drop i ms) ≡ suc (length (drop (i + 1) ms)) = ap length (drop_here ms i m below here) in omega arith
 
 -- items after others
 module _ (told : Site → Option Rule) where

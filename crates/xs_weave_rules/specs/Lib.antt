@@ -11,3 +11,5 @@ pub mod Faults
 pub mod OutOfMemory
 pub mod Counted
 pub mod Placing
+pub mod Steps
+pub mod Symbols

@@ -208,7 +208,7 @@ impl<'a> Met<'a> {
         ensures told { IfErr result (IsFirstAfter (program_known known.now) placed.now.item
             (mode_sites (slices_in self.old) (placed_tree placed.now) [] (placed_tree placed.now).slice.modes)) }
     {
-        self.add_slice(alloc, names, placed)?;
+        self.add_slice(names, placed)?;
         let judged = Judged {
             known,
             owns: &self.owns,
@@ -221,12 +221,7 @@ impl<'a> Met<'a> {
     }
 
     /// Takes the names of a slice, and the variable that it affects.
-    fn add_slice(
-        &mut self,
-        alloc: Global,
-        names: &SliceNames,
-        placed: &Placed<'a>,
-    ) -> Result<(), OutOfMemory>
+    fn add_slice(&mut self, names: &SliceNames, placed: &Placed<'a>) -> Result<(), OutOfMemory>
         ensures states { OnOk result (self.new.states ≡ with_texts self.old.states (names.now.switch ∷ names.now.nominal ∷ [])) }
         ensures owns { OnOk result (self.new.owns ≡ with_text self.old.owns names.now.own) }
         ensures slices { OnOk result (self.new.slices ≡ with_text self.old.slices placed.now.slice.now.name) }
@@ -234,21 +229,21 @@ impl<'a> Met<'a> {
         ensures placed { OnOk result (self.new.placed ≡ self.old.placed) }
     {
         self.targets.add(placed.owner, &placed.slice.target)?;
-        self.slices.add(alloc, placed.slice.name.text())?;
-        self.owns.add(alloc, names.own.text())?;
-        self.add_states(alloc, names)
+        self.slices.add(placed.slice.name.text())?;
+        self.owns.add(names.own.text())?;
+        self.add_states(names)
     }
 
     /// Notes the names that a slice adds for its state.
-    fn add_states(&mut self, alloc: Global, names: &SliceNames) -> Result<(), OutOfMemory>
+    fn add_states(&mut self, names: &SliceNames) -> Result<(), OutOfMemory>
         ensures states { OnOk result (self.new.states ≡ with_texts self.old.states (names.now.switch ∷ names.now.nominal ∷ [])) }
         ensures owns { OnOk result (self.new.owns ≡ self.old.owns) }
         ensures slices { OnOk result (self.new.slices ≡ self.old.slices) }
         ensures targets { OnOk result (self.new.targets ≡ self.old.targets) }
         ensures placed { OnOk result (self.new.placed ≡ self.old.placed) }
     {
-        self.states.add(alloc, names.switch.text())?;
-        self.states.add(alloc, names.nominal.text())
+        self.states.add(names.switch.text())?;
+        self.states.add(names.nominal.text())
     }
 
     /// What the slice's variable is declared to be, or the first rule that the slice's item breaks.

@@ -1,9 +1,10 @@
-use Rattle.std.proofs.Common.{map, ◌∙◌, ap}
+use Rattle.std.proofs.Common.{◌≡◌, ◌++◌, OnOk, subst}
 use Rattle.xs_weave_rules.specs.Keyed.{with_text}
-use Rattle.xs_weave_rules.proofs.KeyedLaws.{put_text}
+use Rattle.xs_weave_rules.specs.Steps.{texts_in}
+use Rattle.xs_weave_rules.proofs.StepLaws.{text_zero}
 use Rattle.xs_weave_rules.proofs.texts.Texts.add.Goals as goal
 
 pub returns : goal.returns
 returns c =
-    ap (map (λ text. text.items)) c.in_ok-insert.ensures.keys ∙ put_text (λ text. text.items) c.self.inside.set.keys c.in_ok-text.text
-    ∙ ap (λ texts. with_text texts c.in_ok-text.text.items) c.self.view_is ∙ ap (with_text c.args.self.now) c.in_ok-text.ensures.items
+    subst (λ texts. OnOk c.ended.result (texts_in c.ended.new.steps.keys c.ended.new.ends.keys ≡ texts))
+    (λ i. with_text (c.self.view_is i) (text_zero c.self.inside.steps.keys i ++ c.args.text.now)) c.ended.ensures.texts

@@ -1,7 +1,11 @@
-use Rattle.std.proofs.Common.{◌∙◌, ap}
+use Rattle.std.proofs.Common.{refl, ◌∙◌, ap}
 use Rattle.xs_tree.specs.Texts.{is_among}
-use Rattle.xs_weave_rules.proofs.KeyedLaws.{any_text}
+use Rattle.xs_weave_rules.specs.Steps.{is_end_of}
+use Rattle.xs_weave_rules.proofs.StepLaws.{ends_have}
 use Rattle.xs_weave_rules.proofs.texts.Texts.has.Goals as goal
 
 pub returns : goal.returns
-returns c = c.contains.ensures ∙ any_text (λ text. text.items) c.self.inside.set.keys c.args.text.now ∙ ap (λ texts. is_among texts c.args.text.now) c.self.view_is
+returns c =
+    c.is_end.ensures ∙ ap (is_end_of c.self.inside.ends.keys) c.found.ensures
+    ∙ ends_have c.self.inside.steps.keys c.self.invariant.steps_are c.args.text.now _ refl c.self.inside.ends.keys c.self.invariant.ends_are
+    ∙ ap (λ texts. is_among texts c.args.text.now) c.self.view_is
