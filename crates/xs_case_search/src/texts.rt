@@ -1,7 +1,7 @@
 //! The texts of traces, as lines.
 //!
 //! [`texts_of`] prints each trace of an analysis and cuts its text at the line feeds.
-ghost use Rattle.std.specs.Prelude.{◌≡◌, ◌<◌, ◌^◌, map, length, All, IfOk};
+ghost use Rattle.std.specs.Prelude.{◌≡◌, map, All, IfOk};
 ghost use Rattle.xs_certificate_laws.specs.CertificateText.{IsWritableText};
 ghost use Rattle.xs_case_search.specs.Texts.{AreLinesIn, text_lines, CanBePrinted};
 
@@ -9,31 +9,19 @@ use std::alloc::Global;
 use xs_cert::{LineList, TextList};
 use xs_report::print_trace;
 use xs_types::Typed;
-use xs_value::{ByteList, MomentList, OutOfMemory};
+use xs_value::{MomentList, OutOfMemory, first_line};
 
 // The lines of a text that end in a line feed.
 fn lines(alloc: Global, bytes: &[u8]) -> Result<LineList, OutOfMemory>
     ensures { IfOk result (AreLinesIn bytes.now) }
 {
     let mut lines = LineList::new(alloc);
-    let mut line = ByteList::new(alloc);
-    for byte in bytes {
-        if *byte == b'\n' {
-            lines.push(line)?;
-            line = ByteList::new(alloc);
-        } else {
-            line.push(*byte)?;
-        }
+    let mut rest = bytes;
+    while let Some((line, after)) = first_line(rest) {
+        lines.push(line)?;
+        rest = after;
     }
     Ok(lines)
-}
-
-// The number of lines, which memory keeps small.
-fn count(lines: &LineList) -> usize
-    ensures value { result ≡ length lines.now }
-    ensures small { result < 2 ^ 63 }
-{
-    lines.as_slice().len()
 }
 
 // The lines of a trace's text.
@@ -44,7 +32,7 @@ fn text_of(alloc: Global, t: &Typed, trace: &MomentList) -> Result<LineList, Out
 {
     let text = print_trace(alloc, t, trace)?;
     let list = lines(alloc, text.as_slice())?;
-    let _count = count(&list);
+    let _count = list.len();
     Ok(list)
 }
 

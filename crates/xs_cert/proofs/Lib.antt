@@ -1,3 +1,4 @@
+pub mod LineTexts
 pub mod PieceLaws
 pub mod Cutting
 pub mod LineLaws

@@ -1,4 +1,5 @@
 pub mod Seen
+pub mod LinesIn
 pub mod Pieces
 pub mod Cuts
 pub mod Told

@@ -4,12 +4,10 @@
 
 ghost use Rattle.std.specs.Prelude.{◌≡◌, IfOk};
 
+use crate::line_list::LineList;
 use xs_lits::clause::ClauseList;
 use xs_lits::recorder::StepsList;
-use xs_value::{ByteList, Items, OutOfMemory, SetList};
-
-/// The lines of one trace's text, without their line feeds.
-pub type LineList = Items<ByteList>;
+use xs_value::{Items, OutOfMemory, SetList};
 
 /// The texts of traces, each as its lines.
 pub type TextList = Items<LineList>;

@@ -4,7 +4,7 @@
 //! that is wrong first or missing ([`CertFault`]). Which bytes spell a certificate, and what is wrong first
 //! with bytes that spell none, stands in `xs_certificate_laws`; `specs/Seen.antt` says which certificate of those
 //! definitions a [`Certificate`] is. Both are linear in the text, and no room is reserved by a number that a
-//! text claims.
+//! text claims. The lines of a trace lie in one text, and are seen as a list ([`LineList`]).
 //!
 //! ```text
 //! xsap-certificate 2
@@ -18,6 +18,7 @@
 #![tactic(auto)]
 
 mod certificate;
+mod line_list;
 mod lines;
 mod numbers;
 mod pieces;
@@ -26,6 +27,7 @@ mod whole;
 mod words;
 mod writing;
 
-pub use certificate::{CertFault, Certificate, LineList, TextList, copy_texts};
+pub use certificate::{CertFault, Certificate, TextList, copy_texts};
+pub use line_list::LineList;
 pub use whole::read;
 pub use writing::write;

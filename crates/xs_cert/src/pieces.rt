@@ -3,7 +3,7 @@
 
 ghost use Rattle.std.specs.Prelude.{◌≡◌, [], ◌∷◌, ◌++◌, OnOk, map};
 ghost use Rattle.std.specs.Fmt.{decimal};
-ghost use Rattle.xs_text_laws.specs.Lines.{counted, fed};
+ghost use Rattle.xs_text_laws.specs.Lines.{counted};
 ghost use Rattle.xs_certificate_laws.specs.CertificateText.{literal_text, set_line, clause_line, step_line};
 ghost use Rattle.xs_cert.specs.Pieces.{after_spaces};
 
@@ -27,18 +27,6 @@ pub(crate) fn append_counted(
     text.append(b" ")?;
     text.append_number(alloc, count as u64)?;
     text.append(b"\n")
-}
-
-/// Appends lines with a line feed after each.
-#[tactic(auto, using(crate::proofs::PieceLaws::piece_rules))]
-pub(crate) fn append_lines(text: &mut ByteList, lines: &[ByteList]) -> Result<(), OutOfMemory>
-    ensures { OnOk result (text.new ≡ text.old ++ fed lines.now) }
-{
-    for line in lines {
-        text.append(line.as_slice())?;
-        text.append(b"\n")?;
-    }
-    Ok(())
 }
 
 /// Appends the line of a set.

@@ -5,6 +5,7 @@
 
 ghost use Rattle.std.specs.Prelude.{◌≡◌, IfErr, OnOk, Some, codes};
 ghost use Rattle.std.specs.Option.{option_map};
+ghost use Rattle.xs_text_laws.specs.Lines.{IsLine};
 ghost use Rattle.xs_certificate_laws.specs.LineReading.{count_in, set_in, clause_in, step_in};
 ghost use Rattle.xs_certificate_laws.specs.Expecting.{numbers_in, part_word};
 ghost use Rattle.xs_cert.specs.Told.{told_version, told_part};
@@ -13,7 +14,8 @@ ghost use Rattle.xs_cert.specs.Reading.{sets_left, clauses_left, steps_left, ver
 ghost use Rattle.xs_cert.specs.declared.reading.Expect.TheVariants as expect;
 ghost use Rattle.xs_cert.specs.declared.reading.Refusal.TheVariants as refusal;
 
-use crate::certificate::{CertFault, Certificate, LineList, TextList};
+use crate::certificate::{CertFault, Certificate, TextList};
+use crate::line_list::LineList;
 use crate::lines::{
     Numbers, Version, clause_in, count_in, numbers_in, set_in, step_in, version_in,
 };
@@ -21,7 +23,7 @@ use std::alloc::Global;
 use xs_lits::clause::ClauseList;
 use xs_lits::recorder::StepsList;
 use xs_lits::step::Step;
-use xs_value::{ByteList, OutOfMemory, SetList};
+use xs_value::{OutOfMemory, SetList};
 
 /// The three derivations.
 #[derive(Clone, Copy, Debug, PartialEq, Eq)]
@@ -107,8 +109,9 @@ impl Reading {
         }
     }
 
-    /// Reads one more line.
+    /// Reads one more line, which has no line feed in it.
     pub(crate) fn take(&mut self, alloc: Global, line: &[u8]) -> Result<(), Refusal>
+        requires { IsLine line.now }
         ensures ok { OnOk result (read_line self.old line.now ≡ Some self.new) }
         ensures err { IfErr result (IsRefused (read_line self.old line.now)) }
     {
@@ -204,10 +207,10 @@ impl Reading {
 
     /// Keeps a line of a trace's text.
     fn take_text(&mut self, alloc: Global, more: u64, left: u64, line: &[u8]) -> Result<(), Refusal>
+        requires { IsLine line.now }
         ensures ok { OnOk result (with_line more left self.old line.now ≡ self.new) }
         ensures err { IfErr result (λ made. made ≡ refusal.OutOfMemory) }
     {
-        let line = ByteList::from_slice(alloc, line)?;
         self.trace.push(line)?;
         self.leave_text(alloc, more, left)?;
         Ok(())

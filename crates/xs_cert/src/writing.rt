@@ -9,8 +9,9 @@ ghost use Rattle.xs_certificate_laws.specs.CertificateText.{IsWritable, SpellsCe
 ghost use Rattle.xs_cert.specs.Pieces.{head_text, traced_lines, listed_lines, invariant_lines, derived_lines};
 ghost use Rattle.xs_cert.specs.Seen.{seen};
 
-use crate::certificate::{Certificate, LineList};
-use crate::pieces::{append_clause, append_counted, append_lines, append_set, append_step};
+use crate::certificate::Certificate;
+use crate::line_list::LineList;
+use crate::pieces::{append_clause, append_counted, append_set, append_step};
 use std::alloc::Global;
 use xs_lits::clause::{Clause, ClauseList};
 use xs_lits::recorder::StepsList;
@@ -120,7 +121,7 @@ fn append_traced(
 {
     append_set(alloc, text, set)?;
     append_counted(alloc, text, b"trace", trace.len())?;
-    append_lines(text, trace.as_slice())
+    text.append(trace.text())
 }
 
 /// Appends the number of clauses, and the clauses.

@@ -4,7 +4,6 @@
 //! and has failed exactly the faults of its set.
 
 ghost use Rattle.std.specs.Prelude.{◌≡◌, ◌↔◌, Some, IsTrue, IfOk, map};
-ghost use Rattle.xs_text_laws.specs.Lines.{fed};
 ghost use Rattle.xs_flat_laws.specs.FaultModes.{mode_of};
 ghost use Rattle.xs_flat_laws.specs.FlatTrace.{stands_in_some};
 ghost use Rattle.xs_eval.specs.Replayed.{IsReaching};
@@ -22,7 +21,7 @@ use xs_cert::LineList;
 use xs_eval::{Replayed, Table, has_failed, replay};
 use xs_report::{TraceFault, read_trace};
 use xs_sets::has_number;
-use xs_value::{ByteList, MomentList, OutOfMemory};
+use xs_value::{MomentList, OutOfMemory};
 
 /// The rule that is broken first at the text of a trace for a set.
 pub(crate) fn trace_rule(
@@ -36,8 +35,7 @@ pub(crate) fn trace_rule(
     requires short { IsShortText text.now }
     ensures { IfOk result (FindsAt (asked q.now) (a_trace k set.now text.now)) }
 {
-    let bytes = joined(alloc, text.as_slice())?;
-    match read_trace(alloc, q.plain, bytes.as_slice()) {
+    match read_trace(alloc, q.plain, text.text()) {
         Ok(trace) => moments_rule(alloc, q, set, &trace),
         Err(fault) => text_rule(fault),
     }
@@ -55,18 +53,6 @@ fn text_rule(fault: TraceFault) -> Result<Option<u32>, OutOfMemory>
         | TraceFault::MissingValue(_)
         | TraceFault::Twice(_) => Ok(Some(4)),
     }
-}
-
-/// The lines with a line feed after each.
-fn joined(alloc: Global, lines: &[ByteList]) -> Result<ByteList, OutOfMemory>
-    ensures { IfOk result (λ bytes. bytes ≡ fed lines.now) }
-{
-    let mut bytes = ByteList::new(alloc);
-    for line in lines {
-        bytes.append(line.as_slice())?;
-        bytes.append(b"\n")?;
-    }
-    Ok(bytes)
 }
 
 /// The rule from 5 on that moments break first: they are no trace, do not reach the top event, or have failed

@@ -30,12 +30,12 @@ returns-in-No c =
 
 pub overflow_add-line : goal.overflow_add-line
 overflow_add-line c =
-    let room = room_at (asked c.args.q.now).certificate c.loop-k.k c.loop-k.line c.len.result c.at-text.result.now c.requires.certificate.few c.loop-k.invariant.line c.at-text.ensures c.len.ensures in
+    let room = room_at (asked c.args.q.now).certificate c.loop-k.k c.loop-k.line c.len.result c.at-text.result.now c.requires.certificate.few c.loop-k.invariant.line c.at-text.ensures c.len.ensures.value in
     omega (arith, room)
 
 pub overflow_add-line-in-loop-k : goal.overflow_add-line-in-loop-k
 overflow_add-line-in-loop-k c =
-    let room = room_at (asked c.args.q.now).certificate c.loop-k.k c.loop-k.line c.len.result c.at-text.result.now c.requires.certificate.few c.loop-k.invariant.line c.at-text.ensures c.len.ensures in
+    let room = room_at (asked c.args.q.now).certificate c.loop-k.k c.loop-k.line c.len.result c.at-text.result.now c.requires.certificate.few c.loop-k.invariant.line c.at-text.ensures c.len.ensures.value in
     omega (arith, room)
 
 pub loop-k-preserved : goal.loop-k-preserved
@@ -48,7 +48,7 @@ loop-k-preserved c =
     record {
       rest = set_goes_on a c.loop-k.k sets texts c.at.result.now c.at-text.result.now (set_sites 0 sets texts) c.at.ensures c.at-text.ensures c.loop-k.invariant.rest kept;
       order = in_order_after a c.loop-k.k c.at.result.now (a_trace c.loop-k.k c.at.result.now c.at-text.result.now ∷ []) c.loop-k.invariant.order c.at.ensures kept;
-      line = line_next a.certificate c.loop-k.k c.loop-k.line c.len.result c.at-text.result.now c.loop-k.invariant.line c.at-text.ensures c.len.ensures;
+      line = line_next a.certificate c.loop-k.k c.loop-k.line c.len.result c.at-text.result.now c.loop-k.invariant.line c.at-text.ensures c.len.ensures.value;
     }
 
 pub returns : goal.returns

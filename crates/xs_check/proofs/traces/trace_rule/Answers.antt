@@ -1,4 +1,4 @@
-use Rattle.std.proofs.Common.{◌≡◌, ◌∙◌, Some, sym, ap, subst}
+use Rattle.std.proofs.Common.{◌≡◌, Some, sym, subst}
 use Rattle.std.proofs.lemmas.Result.{IfOk-weaker}
 use Rattle.xs_check.specs.Asked.{asked}
 use Rattle.xs_text_laws.specs.Lines.{fed}
@@ -6,7 +6,7 @@ use Rattle.xs_tree.specs.ModelTree.{model_tree}
 use Rattle.xs_certificate_laws.specs.Certificate.{a_trace}
 use Rattle.xs_tree.specs.Told.{told_trace}
 use Rattle.xs_report.specs.Faults.{IsFaultOf}
-use Rattle.xs_text_laws.specs.Given.{BytesGive, GivesTrace}
+use Rattle.xs_text_laws.specs.Given.{BytesGive}
 use Rattle.xs_check.specs.Found.{FindsAt}
 use Rattle.xs_check.specs.Moments.{FindsMoments, IsTextFault}
 use Rattle.xs_check.proofs.SiteLaws.{moments_found, text_broken}
@@ -17,7 +17,7 @@ pub moments_rule-requires-clause-replayed : goal.moments_rule-requires-clause-re
 moments_rule-requires-clause-replayed c =
     let m = model_tree c.args.q.now.plain.now.model in
     let told = told_trace c.args.q.now.plain.now.model.symbols c.in-Ok.trace in
-    let same : c.as_slice-2.result.now ≡ fed c.args.text.now = c.as_slice-2.ensures ∙ c.in_ok-bytes.ensures ∙ ap fed c.as_slice.ensures in
+    let same : c.text.result.now ≡ fed c.args.text.now = c.text.ensures in
     can_be_replayed m c.requires.fit.printable c.args.text.now c.in-Ok.trace c.requires.short
     (lines_give m c.requires.fit.printable c.args.text.now told c.requires.short.lines (subst (λ b. BytesGive m b told) same c.in-Ok.ensures.trace))
 
@@ -26,15 +26,15 @@ returns-in-Ok c =
     let a = asked c.args.q.now in
     let symbols = c.args.q.now.plain.now.model.symbols in
     let told = told_trace symbols c.in-Ok.trace in
-    let same : c.as_slice-2.result.now ≡ fed c.args.text.now = c.as_slice-2.ensures ∙ c.in_ok-bytes.ensures ∙ ap fed c.as_slice.ensures in
+    let same : c.text.result.now ≡ fed c.args.text.now = c.text.ensures in
     let gives = lines_give a.model c.requires.fit.printable c.args.text.now told c.requires.short.lines (subst (λ b. BytesGive a.model b told) same c.in-Ok.ensures.trace) in
     IfOk-weaker c.moments_rule.result (FindsMoments a c.args.set.now told) (FindsAt a (a_trace c.args.k c.args.set.now c.args.text.now))
     (moments_found a c.args.k c.args.set.now c.args.text.now c.requires.fit.printable told gives) c.moments_rule.ensures
 
-pub returns : goal.returns
-returns c =
+pub returns-in-Err : goal.returns-in-Err
+returns-in-Err c =
     let a = asked c.args.q.now in
-    let same : c.as_slice-2.result.now ≡ fed c.args.text.now = c.as_slice-2.ensures ∙ c.in_ok-bytes.ensures ∙ ap fed c.as_slice.ensures in
+    let same : c.text.result.now ≡ fed c.args.text.now = c.text.ensures in
     IfOk-weaker c.text_rule.result (λ rule. (rule ≡ Some 4) × IsTextFault c.in-Err.fault) (FindsAt a (a_trace c.args.k c.args.set.now c.args.text.now))
     (λ rule h. subst (FindsAt a (a_trace c.args.k c.args.set.now c.args.text.now)) (sym h.0)
     (text_broken a c.args.k c.args.set.now c.args.text.now (gives_none a.model c.requires.fit.printable c.args.text.now c.in-Err.fault c.requires.short.lines h.1 (subst (λ b. IsFaultOf a.model b c.in-Err.fault) same c.in-Err.ensures.fault))))
