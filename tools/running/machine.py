@@ -1,10 +1,13 @@
 """What a kept program needs of the machine, and how it is told that something is not there."""
 import os
+import resource
 
 CPUINFO = "/proc/cpuinfo"
 # The processor's level for which the kit compiles, x86-64-v2, and the C library whose calls the programs name.
 FLAGS = ("cx16", "lahf_lm", "popcnt", "pni", "sse4_1", "sse4_2", "ssse3")
 LIBC = (2, 34)
+# The bytes of stack that a program gets: expressions of the greatest height take a quarter of it.
+STACK = 8 << 20
 
 
 class Unready(Exception):
@@ -48,3 +51,11 @@ def lacking():
     if name != "glibc" or not all(it.isdigit() for it in numbers[:2]) or tuple(map(int, numbers[:2])) < LIBC:
         return f"the kept program needs glibc 2.34 or later, and this machine has {libc() or 'another C library'}"
     return None
+
+
+def widen_stack():
+    """Has the programs that are run from here get their stack, or as much of it as the system lets them have."""
+    soft, hard = resource.getrlimit(resource.RLIMIT_STACK)
+    wanted = STACK if hard == resource.RLIM_INFINITY else min(STACK, hard)
+    if soft != resource.RLIM_INFINITY and soft < wanted:
+        resource.setrlimit(resource.RLIMIT_STACK, (wanted, hard))
