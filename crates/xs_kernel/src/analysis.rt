@@ -21,6 +21,27 @@ impl Kernel {
         Ok(())
     }
 
+    /// Notes that the clause is used which says the value of a variable that is known without assumptions. Where there is none yet it is
+    /// owed, and its number is seen when the step is made.
+    fn note_unit(&mut self, var: usize) -> Result<(), OutOfMemory> {
+        let unit = at(&self.trail.units, var);
+        let place = at(&self.trail.places, var);
+        if unit == 0 {
+            self.owed.push(place)?;
+        }
+        self.note_used(place, unit)
+    }
+
+    /// The number of a clause that is used, by its key: that of the literal at a place of the trail where it has none.
+    fn number_in(&self, key: u64) -> u64 {
+        let number = key & 0xffff_ffff;
+        if number != 0 {
+            return number;
+        }
+        let code = at(&self.trail.codes, (key >> 32) as usize);
+        u64::from(at(&self.trail.units, (code / 2) as usize))
+    }
+
     /// Marks a variable, and answers whether it was not marked.
     fn mark(&mut self, var: usize) -> Result<bool, OutOfMemory> {
         let Some(mark) = self.marks.get_mut(var) else {
@@ -63,9 +84,7 @@ impl Kernel {
             }
             let its = at(&self.trail.levels, var);
             if its == 0 {
-                let unit = at(&self.trail.units, var);
-                let place = at(&self.trail.places, var);
-                self.note_used(place, unit)?;
+                self.note_unit(var)?;
             } else if its == level {
                 count = count.saturating_add(1);
             } else {
@@ -150,9 +169,7 @@ impl Kernel {
         for i in 0..length {
             let var = (at(self.lits_of(place), i) / 2) as usize;
             if at(&self.trail.levels, var) == 0 && self.mark(var)? {
-                let unit = at(&self.trail.units, var);
-                let place = at(&self.trail.places, var);
-                self.note_used(place, unit)?;
+                self.note_unit(var)?;
             }
         }
         Ok(())
@@ -181,8 +198,7 @@ impl Kernel {
         let var = (assumption / 2) as usize;
         let _is_new = self.mark(var)?;
         if at(&self.trail.levels, var) == 0 {
-            let unit = at(&self.trail.units, var);
-            self.note_used(0, unit)?;
+            self.note_unit(var)?;
             self.unmark();
             return Ok(());
         }
@@ -230,8 +246,9 @@ impl Kernel {
         let alloc = self.alloc;
         self.used.sort()?;
         let mut hints = HintList::new(alloc);
-        for key in &self.used {
-            hints.push(*key & 0xffff_ffff)?;
+        for i in 0..self.used.len() {
+            let key = self.used.get(i).copied().unwrap_or(0);
+            hints.push(self.number_in(key))?;
         }
         self.lits.clear();
         for code in &self.learned {

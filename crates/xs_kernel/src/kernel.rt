@@ -62,8 +62,10 @@ pub struct Kernel {
     pub learned: Vec<u32>,
     pub used: Vec<u64>,
     pub lits: Vec<Lit>,
-    /// How many literals at the beginning of the trail are learned as clauses of their own.
-    settled: usize,
+    /// The places on the trail of literals that the last analysis used and that are true without any assumption, but not yet learned as
+    /// clauses of their own; and for each variable whether that is wanted.
+    pub owed: Vec<u32>,
+    wanted: Vec<bool>,
     /// The steps of the present question.
     steps: Vec<Step>,
     /// The number of the next clause that is learned.
@@ -99,7 +101,8 @@ impl Kernel {
             learned: Vec::new(alloc),
             used: Vec::new(alloc),
             lits: Vec::new(alloc),
-            settled: 0,
+            owed: Vec::new(alloc),
+            wanted: Vec::new(alloc),
             steps: Vec::new(alloc),
             next: 1,
             set: 0,
@@ -126,6 +129,7 @@ impl Kernel {
         self.clauses.more()?;
         self.trail.more()?;
         self.marks.push(false)?;
+        self.wanted.push(false)?;
         Ok(())
     }
 
@@ -211,7 +215,7 @@ impl Kernel {
                     return self.contradiction(place);
                 }
                 self.learn(place, panel)?;
-            } else if self.trail.level() == 0 && self.is_unsettled()? {
+            } else if self.trail.level() == 0 && self.has_forgotten()? {
                 continue;
             } else if let Some(proposal) = self.go_on(assumptions, vars, panel)? {
                 return Ok(proposal);
@@ -225,12 +229,8 @@ impl Kernel {
         self.lessons.len() >= self.most
     }
 
-    /// Where nothing is assumed, learns what is true without any assumption, or forgets where much is learned; answers whether there was
-    /// something to do.
-    fn is_unsettled(&mut self) -> Result<bool, OutOfMemory> {
-        if self.settle_units()? {
-            return Ok(true);
-        }
+    /// Where nothing is assumed, forgets where much is learned; answers whether there was something to do.
+    fn has_forgotten(&mut self) -> Result<bool, OutOfMemory> {
         if !self.has_many() {
             return Ok(false);
         }
@@ -275,8 +275,12 @@ impl Kernel {
         same
     }
 
-    /// Forgets the older half of what was learned, at the beginning of a trail.
+    /// Forgets the older half of what was learned, at the beginning of a trail. The clauses that gave values there may be among them, so
+    /// these values are learned first.
     fn forget(&mut self) -> Result<(), OutOfMemory> {
+        for i in 0..self.trail.codes.len() {
+            self.settle_unit(i)?;
+        }
         let alloc = self.alloc;
         let old = std::mem::replace(&mut self.clauses, Clauses::new(alloc));
         for _ in 0..=self.vars {
@@ -366,21 +370,13 @@ impl Kernel {
         Ok(false)
     }
 
-    /// Learns the literals that are true without any assumption as clauses of their own, and answers whether there was a new one.
-    fn settle_units(&mut self) -> Result<bool, OutOfMemory> {
-        let mut is_new = false;
-        for i in self.settled..self.trail.codes.len() {
-            let code = at(&self.trail.codes, i);
-            self.settle_unit(code)?;
-            self.settled = self.settled.saturating_add(1);
-            is_new = true;
-        }
-        Ok(is_new)
-    }
-
-    /// Learns a literal as a clause of its own.
-    fn settle_unit(&mut self, code: u32) -> Result<(), OutOfMemory> {
+    /// Learns the literal at a place of the trail, which is true without any assumption, as a clause of its own, unless it is already.
+    fn settle_unit(&mut self, place: usize) -> Result<(), OutOfMemory> {
+        let code = at(&self.trail.codes, place);
         let var = (code / 2) as usize;
+        if at(&self.trail.units, var) != 0 {
+            return Ok(());
+        }
         let by = at(&self.trail.reasons, var).saturating_sub(1);
         if self.lits_of(by).len() == 1 {
             let number = self.number_of(by);
@@ -391,6 +387,73 @@ impl Kernel {
         put(&mut self.trail.units, var, self.next);
         let step = self.step()?;
         self.take_step(step)
+    }
+
+    /// Wants the literals that gave the one at a place of the trail its value learned as clauses of their own.
+    fn want_reasons(&mut self, place: usize) {
+        let var = (at(&self.trail.codes, place) / 2) as usize;
+        let by = at(&self.trail.reasons, var).saturating_sub(1);
+        let length = self.lits_of(by).len();
+        for i in 0..length {
+            let other = (at(self.lits_of(by), i) / 2) as usize;
+            self.want(other);
+        }
+    }
+
+    /// Wants the value of a variable learned as a clause of its own, unless it is.
+    fn want(&mut self, var: usize) {
+        if at(&self.trail.units, var) == 0 {
+            if let Some(wanted) = self.wanted.get_mut(var) {
+                *wanted = true;
+            }
+        }
+    }
+
+    /// Whether the literal at a place of the trail is wanted as a clause of its own.
+    fn is_wanted(&self, place: usize) -> bool {
+        let var = (at(&self.trail.codes, place) / 2) as usize;
+        self.wanted.get(var).copied().unwrap_or(false)
+    }
+
+    /// Learns the literals that are owed as clauses of their own, and before them those that they follow from.
+    fn settle_owed(&mut self) -> Result<(), OutOfMemory> {
+        let mut end = 0;
+        for i in 0..self.owed.len() {
+            let place = at(&self.owed, i) as usize;
+            let var = (at(&self.trail.codes, place) / 2) as usize;
+            self.want(var);
+            end = end.max(place.saturating_add(1));
+        }
+        self.owed.clear();
+        for place in (0..end).rev() {
+            if self.is_wanted(place) {
+                self.want_reasons(place);
+            }
+        }
+        for place in 0..end {
+            if self.is_wanted(place) {
+                self.settle_unit(place)?;
+                let var = (at(&self.trail.codes, place) / 2) as usize;
+                if let Some(wanted) = self.wanted.get_mut(var) {
+                    *wanted = false;
+                }
+            }
+        }
+        Ok(())
+    }
+
+    /// The step of what was learned, after those of the literals that it uses and that are true without any assumption.
+    fn last_step(&mut self) -> Result<Step, OutOfMemory> {
+        if self.owed.is_empty() {
+            return self.step();
+        }
+        let alloc = self.alloc;
+        let learned = std::mem::replace(&mut self.learned, Vec::new(alloc));
+        let used = std::mem::replace(&mut self.used, Vec::new(alloc));
+        self.settle_owed()?;
+        self.learned = learned;
+        self.used = used;
+        self.step()
     }
 
     /// Keeps a step.
@@ -410,7 +473,7 @@ impl Kernel {
         self.is_calm = false;
         self.granted = 0;
         let back = self.analyse(place)?;
-        let step = self.step()?;
+        let step = self.last_step()?;
         panel.learned(step.clause.lits());
         let number = self.next;
         self.take_step(step)?;
@@ -424,9 +487,8 @@ impl Kernel {
 
     /// That the clause at a place is false without any assumption.
     fn contradiction(&mut self, place: u32) -> Result<Proposal, OutOfMemory> {
-        let _is_new = self.settle_units()?;
         self.imply(0, place)?;
-        Ok(Proposal::Core(self.step()?))
+        Ok(Proposal::Core(self.last_step()?))
     }
 
     /// The next assumption, or choice, is made true; or an answer is given.
@@ -445,7 +507,7 @@ impl Kernel {
             let value = self.trail.value(code);
             if value == FALSE {
                 self.refute(code)?;
-                return Ok(Some(Proposal::Core(self.step()?)));
+                return Ok(Some(Proposal::Core(self.last_step()?)));
             }
             self.trail.begin_level()?;
             if value == FREE {
