@@ -13,6 +13,7 @@ import tempfile
 import time
 
 from running import explaining, programs
+from running.outputs import state_of
 
 REFUSED, NONE_ENDED = 2, 124
 ENDED = {8: "out of memory", 7: "a file failed"}
@@ -78,15 +79,6 @@ def cert_of(name, size):
         return name
     root, end = os.path.splitext(name)
     return f"{root}.{size}{end}"
-
-
-def state_of(path):
-    """Returns what tells whether a file was written, or None where there is none."""
-    try:
-        found = os.stat(path)
-    except OSError:
-        return None
-    return found.st_mtime_ns, found.st_size, found.st_ino
 
 
 def run_layer(path, words, size, seconds):
