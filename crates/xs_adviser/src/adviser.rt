@@ -1,11 +1,13 @@
 //! What an adviser is: code of a caller's own, which suggests free choices to the search and hears what it learns.
 //!
 //! Contracts see of an adviser how often it was told and asked, and for how many variables it has room, if it tells
-//! that. What it answers is any number.
+//! that. What it answers is any number. It also hears the news of a search, which it may show to someone, and which change
+//! nothing.
 ghost use Rattle.std.specs.Prelude.{◌≡◌, ◌<◌, ◌^◌, OnOk, OnErr};
 ghost use Rattle.std.specs.Option.{option_map};
 ghost use Rattle.xs_value.specs.Counts.{next_count};
 
+use crate::news::News;
 use xs_lits::lit::Lit;
 use xs_value::OutOfMemory;
 
@@ -43,6 +45,14 @@ pub trait Adviser: Drop {
         ensures told { told self.new ≡ next_count (told self.old) }
         ensures asked { asked self.new ≡ asked self.old }
         ensures room { room self.new ≡ room self.old };
+
+    /// Hears what the search has come to. An adviser that does not say otherwise does nothing with it.
+    fn hears(&mut self, _news: &News<'_>)
+        ensures told { told self.new ≡ told self.old }
+        ensures asked { asked self.new ≡ asked self.old }
+        ensures room { room self.new ≡ room self.old }
+    {
+    }
 
     /// How many learned clauses it was told.
     fn told(&self) -> u64

@@ -20,6 +20,7 @@
 mod active;
 mod adviser;
 mod in_order;
+mod news;
 mod panel;
 mod round;
 mod scripted;
@@ -27,5 +28,6 @@ mod scripted;
 pub use active::Active;
 pub use adviser::Adviser;
 pub use in_order::InOrder;
+pub use news::News;
 pub use panel::Panel;
 pub use scripted::{CodeList, Scripted};
