@@ -51,8 +51,7 @@ pub trait Adviser: Drop {
         ensures told { told self.new ≡ told self.old }
         ensures asked { asked self.new ≡ asked self.old }
         ensures room { room self.new ≡ room self.old }
-    {
-    }
+    {}
 
     /// How many learned clauses it was told.
     fn told(&self) -> u64
