@@ -15,7 +15,7 @@ ghost use Rattle.xs_certifying.specs.Queries.{IsSoFar};
 ghost use Rattle.xs_certifying.specs.Deriving.{IsPartWay, HasPositive};
 
 use std::alloc::Global;
-use xs_adviser::Panel;
+use xs_adviser::{News, Panel};
 use xs_lits::clause::ClauseList;
 use xs_lits::lit::Lit;
 use xs_lits::recorder::{KeepAll, StepsList};
@@ -103,6 +103,10 @@ fn cover(
     ensures cores { search.new.cores ≡ true }
 {
     let assumed = question(alloc, vars, goals.at(place).lits())?;
+    panel.hears(&News::Goal {
+        derived: place,
+        count: goals.len(),
+    });
     let _verdict = search.ask(assumed.as_slice(), panel)?;
     Ok(())
 }
