@@ -21,7 +21,7 @@ def command():
     """Returns the path of the kit's command, or says that it is missing."""
     found = shutil.which("rt")
     if not found:
-        raise Unready("the command rt of the kit is not on the path, and --prove and --unproved need it (README.md names the kit)")
+        raise Unready("the command rt of the kit is not on the path, and --prove and --unproved need it (release/release.txt names the kit)")
     return found
 
 
