@@ -1,11 +1,12 @@
-// Advisers that count show that each verb that searches asks them, and tells them what was learned.
+// Advisers that count show that each verb that searches asks them, and tells them what was learned; and others that an analysis tells
+// them how far it is.
 //
 // A run owns its advisers, so what they counted is shown by how it ends: an adviser that has no room for a further search once it was
-// asked, or once it was told, ends the run with want of memory. One that was neither would not.
+// asked, or once it was told, ends the run with want of memory. One that was neither would not. The same holds of what one has heard.
 
 use crate::desks::{BOTH, File, PAIR, SWITCHES, desk_of, joined, ran};
 use std::alloc::Global;
-use xs_adviser::{Active, Adviser, InOrder};
+use xs_adviser::{Active, Adviser, InOrder, News};
 use xs_lits::lit::Lit;
 use xs_value::OutOfMemory;
 
@@ -183,6 +184,95 @@ fn orders_ask_and_tell_their_adviser(rt: HostRuntime) -> Result<(), OutOfMemory>
 #[test]
 fn odds_ask_and_tell_their_adviser(rt: HostRuntime) -> Result<(), OutOfMemory> {
     assert!(rt; counts(rt.alloc(), &MARKS, &ODDS, 0)?);
+    Ok(())
+}
+
+/// A piece of news: a frontier, a set of one fault with the steps of its trace, an invariant, or so many goals.
+#[derive(Clone, Copy, PartialEq, Eq)]
+enum Piece {
+    Frontier(usize),
+    Set(u32, usize),
+    Invariant,
+    Goals(usize),
+}
+
+impl Piece {
+    fn says(self, news: &News<'_>) -> bool {
+        match news {
+            News::Frontier(number) => self == Piece::Frontier(*number),
+            News::Set { faults, steps } => {
+                faults.len() == 1 && self == Piece::Set(faults[0], *steps)
+            }
+            News::Invariant => self == Piece::Invariant,
+            News::Goal { derived, .. } => self == Piece::Goals(*derived),
+        }
+    }
+}
+
+/// An adviser that picks nothing, and has no room for a further search once it has heard this.
+#[derive(Drop)]
+struct Hearing {
+    piece: Piece,
+    heard: bool,
+    told: u64,
+    asked: u64,
+}
+
+impl Adviser for Hearing {
+    ghost told = { λ h. h.told };
+
+    ghost asked = { λ h. h.asked };
+
+    fn ready(&mut self, _vars: u64) -> Result<(), OutOfMemory> {
+        if self.heard { Err(OutOfMemory) } else { Ok(()) }
+    }
+
+    fn pick(&mut self) -> u64 {
+        self.asked = self.asked.saturating_add(1);
+        0
+    }
+
+    fn learned(&mut self, _lits: &[Lit]) {
+        self.told = self.told.saturating_add(1);
+    }
+
+    fn hears(&mut self, news: &News<'_>) {
+        self.heard = self.heard || self.piece.says(news);
+    }
+
+    fn told(&self) -> u64 {
+        self.told
+    }
+
+    fn asked(&self) -> u64 {
+        self.asked
+    }
+}
+
+/// The number that an analysis of the pair ends with whose adviser has room until it hears this. The fault A leads to the event in
+/// three steps.
+fn ends_after(alloc: Global, piece: Piece) -> Result<i32, OutOfMemory> {
+    let adviser = Hearing {
+        piece,
+        heard: false,
+        told: 0,
+        asked: 0,
+    };
+    let mut advisers: Vec<Box<dyn Adviser>> = Vec::new(alloc);
+    advisers.push(Box::new(alloc, adviser)?)?;
+    let mut desk = desk_of(alloc, &GIVEN, &[])?;
+    Ok(ran(alloc, &ANALYSE, &mut desk, advisers))
+}
+
+#[test]
+fn an_analysis_tells_its_adviser_how_far_it_is(rt: HostRuntime) -> Result<(), OutOfMemory> {
+    let alloc = rt.alloc();
+    assert!(rt; ends_after(alloc, Piece::Frontier(0))? == 8);
+    assert!(rt; ends_after(alloc, Piece::Frontier(3))? == 8);
+    assert!(rt; ends_after(alloc, Piece::Set(1, 3))? == 8);
+    assert!(rt; ends_after(alloc, Piece::Invariant)? == 8);
+    assert!(rt; ends_after(alloc, Piece::Goals(0))? == 8);
+    assert!(rt; ends_after(alloc, Piece::Set(2, 3))? == 0);
     Ok(())
 }
 

@@ -3,7 +3,7 @@
 //!
 //! `main` hands [`xs_run::run::run`] the words of the command line, a desk over real files, and the advisers of the searches, and ends
 //! with the number of its status; all that is promised of a run stands at that call, and `ended` promises that the number is that
-//! of the status. The desk over real files is `real_desk`.
+//! of the status. The desk over real files is that of `xs_main`.
 //!
 //! ```text
 //! xsap_program extend --model lamp.smv --faults lamp.fei --extended out.smv
@@ -20,11 +20,9 @@
 //! ```
 #![tactic(auto)]
 
-ghost use Rattle.std.specs.Prelude.{◌≡◌, IfOk, map, pos};
-ghost use Rattle.xs_loading.specs.Statuses.{number_of as number_of_status};
-ghost use Rattle.xsap_program.specs.Ended.{HasRun, IsEnded};
+ghost use Rattle.std.specs.Prelude.{IfOk, map};
+ghost use Rattle.xs_main.specs.Ended.{HasRun, IsEnded};
 
-use real_desk::RealDesk;
 use std::alloc::{AllocError, Global};
 use std::env;
 use std::io::ErrorKind;
@@ -32,13 +30,9 @@ use std::process::ExitCode;
 use xs_adviser::{Active, Adviser, InOrder};
 use xs_desk::Desk;
 use xs_loading::status::Status;
+use xs_main::{NOT_TEXT, RealDesk, exit_number};
 use xs_run::run::run;
 use xs_value::OutOfMemory;
-
-mod real_desk;
-
-/// The number that the program ends with where a word is not text, which no status has.
-const NOT_TEXT: u8 = 11;
 
 /// Runs what the words of the command line ask for, and ends with the number of its status.
 fn main(rt: HostRuntime) -> ExitCode {
@@ -90,23 +84,4 @@ fn advised<D: Desk>(alloc: Global, words: &[&str], desk: &mut D) -> Result<Statu
     advisers.push(Box::new(alloc, InOrder::new())?)?;
     advisers.push(Box::new(alloc, Active::new(alloc))?)?;
     Ok(run(alloc, words, desk, advisers))
-}
-
-/// The number of a status, as the system takes it.
-fn exit_number(status: &Status) -> u8
-    ensures { pos result ≡ number_of_status status.now }
-{
-    match status {
-        Status::Done => 0,
-        Status::Bounded(_) => 1,
-        Status::Words(_) => 2,
-        Status::Model(_) => 3,
-        Status::Faults(_) => 4,
-        Status::Top(_) => 5,
-        Status::NotAccepted(_) => 6,
-        Status::Desk => 7,
-        Status::Memory => 8,
-        Status::Causes(_) => 9,
-        Status::Set(_) => 10,
-    }
 }

@@ -4,7 +4,7 @@ use Rattle.xs_tree.specs.ProgramTree.{Text}
 use Rattle.xs_words.specs.declared.fault.WordFault.{WordFault}
 use Rattle.xs_loading.specs.declared.status.Status.TheVariants as status
 use Rattle.xs_loading.specs.Answered.{Told, Said}
-use Rattle.xsap_program.specs.Ended.{HasRun}
+use Rattle.xs_main.specs.Ended.{HasRun}
 
 no_words : {P : Type 0} (f : WordFault) → status.Memory ≡ status.Words f → P
 no_words f e = cc
