@@ -66,6 +66,20 @@ for word in "$@"; do printf '<%s>' "$word"; done; echo " shown"
 [ "$2" = - ] && cat
 exit 1
 """
+# The stand-in for the program that prints news: it tells of three sets, makes a file where it has, and its top event says what more it does.
+WATCHED = """#!/bin/sh
+while [ $# -gt 1 ]; do
+    case "$1" in --cert|--extended) echo begun > "$2" ;; --top) top=$2 ;; esac
+    shift
+done
+printf 'frontier 0\\nfrontier 1\\nset 1 1 2\\nset 1 3 4\\nset 2 2\\nfrontier 7\\n' >&2
+[ "$top" = invariant ] && printf 'invariant\\ngoal 11 80\\n' >&2
+[ "$top" = noise ] && echo noise >&2
+[ "$top" = full ] && exit 8
+[ "$top" = quick ] && exit 0
+touch told
+exec sleep 20
+"""
 EXPLAIN = """#!/bin/sh
 read -r line
 printf 'means: explained <%s>\\nin line 2, column 7:\\n' "$line"
@@ -81,7 +95,7 @@ ci) [ -e must-fail ] && exit 9
     echo "rt: xsap_program: its tests are proved"; echo "rt: xsap_explain NOT PROVED"
     [ -n "$FAILS" ] && exit 1
     [ -n "$TOUCH" ] && touch "$TOUCH"
-    for name in xsap_program xsap_explain xsap_show; do
+    for name in xsap_program xsap_explain xsap_show xsap_watched; do
         mkdir -p crates/$name/out; cp crates/$name/src/main.rt crates/$name/out/$name
     done ;;
 esac
@@ -111,7 +125,7 @@ class Place:
             shutil.copy(HERE / it, self.top / it)
         for it in ("docs", "examples/crossing"):
             shutil.copytree(HERE / it, self.top / it)
-        self.write("crates.txt", "# crates\nlow:\nother:\nxsap_explain: low\nxsap_show: low\nxsap_program: low # the program\n")
+        self.write("crates.txt", "# crates\nlow:\nother:\nxsap_explain: low\nxsap_show: low\nxsap_program: low # the program\nxsap_watched: low\n")
         self.write("crates/low/src/lib.rt", "//! Low.\n")
         self.write("crates/low/proofs/Lib.antt", "")
         self.write("crates/other/src/lib.rt", "//! Other.\n")
@@ -119,6 +133,7 @@ class Place:
         self.write("crates/xsap_program/src/main.rt", PROGRAM.format(mark="first"))
         self.write("crates/xsap_explain/src/main.rt", EXPLAIN)
         self.write("crates/xsap_show/src/main.rt", SHOW)
+        self.write("crates/xsap_watched/src/main.rt", WATCHED)
         self.write("../bin/rt", KIT).chmod(0o755)
         self.write("../cpuinfo", f"processor : 0\nflags\t\t: {GOOD_FLAGS}\n")
         self.machine = ["x86_64", "glibc 2.36", str(self.cpu)]
@@ -132,7 +147,8 @@ class Place:
 
     def build(self, mark="first"):
         """Puts the programs where rt ci leaves them, newer than every source."""
-        for name, text in (("xsap_program", PROGRAM.format(mark=mark)), ("xsap_explain", EXPLAIN), ("xsap_show", SHOW)):
+        for name, text in (("xsap_program", PROGRAM.format(mark=mark)), ("xsap_explain", EXPLAIN), ("xsap_show", SHOW),
+                           ("xsap_watched", WATCHED)):
             path = self.write(f"crates/{name}/out/{name}", text)
             path.chmod(0o755)
             later = time.time() + 5
@@ -159,7 +175,7 @@ class Place:
         """Makes release/ of programs that are built, which are then removed."""
         self.build(mark)
         wants(self.tool("release")[0], 0, "tools/release ends with")
-        for name in ("xsap_program", "xsap_explain", "xsap_show"):
+        for name in ("xsap_program", "xsap_explain", "xsap_show", "xsap_watched"):
             shutil.rmtree(self.top / f"crates/{name}/out")
         return self
 

@@ -2,14 +2,15 @@
 
 The exact form is made of the short one (short.py), the names of outputs are looked at (outputs.py), and then the program is run. The report
 of analyse and causes is shown by xsap_show, that of other verbs in a table of tables.py, and with `--format exact` it stays as it was
-printed. A refusal is told on standard error, with the program's status. What a run that failed has begun to write is removed.
+printed. A refusal is told on standard error, with the program's status. What a run that failed has begun to write is removed. How far a
+search is, is shown meanwhile (watching.py).
 """
 import os
 import re
 import signal
 import subprocess
 
-from running import explaining, kept, outputs, programs, short, tables, telling
+from running import explaining, kept, outputs, programs, short, tables, telling, watching
 from running.machine import Unready
 from running.short import Wrong, shown
 
@@ -79,7 +80,7 @@ def in_layers(path, show, asked):
             return False
         return put(asked.own.get("--output"), in_form(path, show, asked, report), 0) == explaining.FAILED
 
-    return layers.run(path, words, False, hand_on)
+    return layers.run(path, words, False, hand_on, lambda: watching.watch_of(path, asked))
 
 
 def form_of(asked):
@@ -90,7 +91,7 @@ def answer(path, show, asked):
     """Runs the program, shows what it has said, and returns the status."""
     words, before, status = asked.exact(), outputs.states_of(asked), None
     try:
-        status, report = captured(path, words, asked)
+        status, report = captured(path, words, asked, watching.watch_of(path, asked))
     finally:
         if status not in (0, 1):
             outputs.remove(before)
@@ -104,20 +105,24 @@ def answer(path, show, asked):
     return status
 
 
-def captured(path, words, asked):
-    """Runs the program by the exact form, which is printed where that is asked for, and returns its status and what it said."""
+def captured(path, words, asked, watch=None):
+    """Runs the program by the exact form, which is printed where that is asked for, and returns its status and what it said. Where the run is
+    watched, it is the program that prints news."""
+    path, errors = (watching.program(), {"stderr": subprocess.PIPE}) if watch else (path, {})
     if "--verbose" in asked.own:
         programs.tell(f"runs {short.command_of([path, *words])}")
     try:
-        child, held = explaining.begin([path, *words], stdout=subprocess.PIPE)
+        child, held = explaining.begin([path, *words], stdout=subprocess.PIPE, **errors)
     except (OSError, ValueError) as error:
         raise Unready(f"{path} can't be run: {getattr(error, 'strerror', None) or error}") from None
     explaining.handle_signals(lambda number, _: child.send_signal(number))
     explaining.let_go(held)
-    said = child.stdout.read()
+    said = watching.follow(child, watch) if watch else child.stdout.read()
     child.stdout.close()
     status = child.wait()
     explaining.handle_signals(signal.SIG_DFL)
+    if watch:
+        watch.end(status not in (0, 1, *explaining.REFUSED))
     if status < 0:
         raise Broken(-status)
     return status, said

@@ -63,11 +63,15 @@ def accepted(path, asked, cert):
 
 def names_of(path, asked):
     """Returns the names of the faults, and behind them those of the causes."""
-    names = answering.faults_of(path, asked)
-    if "--causes" in asked.values:
-        tokens = smv.tokens_of(telling.text_of(asked.values["--causes"]))
-        names += [it.tokens[1].text for it in smv.parts_of(tokens, "causes") if len(it.tokens) > 1]
-    return names
+    return [*answering.faults_of(path, asked), *causes_of(asked)]
+
+
+def causes_of(asked):
+    """Returns the names of the common causes that are asked about."""
+    if "--causes" not in asked.values:
+        return []
+    tokens = smv.tokens_of(telling.text_of(asked.values["--causes"]))
+    return [it.tokens[1].text for it in smv.parts_of(tokens, "causes") if len(it.tokens) > 1]
 
 
 def has_first_moment(path, asked):

@@ -12,7 +12,7 @@ import subprocess
 import tempfile
 import time
 
-from running import explaining, programs
+from running import explaining, programs, watching
 from running.outputs import state_of
 
 REFUSED, NONE_ENDED = 2, 124
@@ -81,22 +81,25 @@ def cert_of(name, size):
     return f"{root}.{size}{end}"
 
 
-def run_layer(path, words, size, seconds):
+def run_layer(path, words, size, seconds, watch):
     """Runs one layer, and returns it, or None where it has not ended within so many seconds. Where it is neither complete nor bounded, what it
-    has written is removed."""
+    has written is removed. Where there is what shows how far it is, the program that prints news is run."""
     given, begun = dict(zip(words[::2], words[1::2])), time.monotonic()
     files = {it: state_of(given[it]) for it in ("--extended", "--cert")}
+    path, errors = (watching.program(), {"stderr": subprocess.PIPE}) if watch else (path, {})
     child, held = explaining.begin([path, "analyse", *words, *(["--size", str(size)] if size else [])], stdin=subprocess.DEVNULL,
-                                   stdout=subprocess.PIPE)
+                                   stdout=subprocess.PIPE, **errors)
     status = None
     try:
         explaining.let_go(held)
-        report, _ = child.communicate(timeout=seconds)
-        status = child.returncode
+        report = watching.follow(child, watch, seconds) if watch else child.communicate(timeout=seconds)[0]
+        status = child.wait()
         return Layer(size, status, report, given["--cert"], time.monotonic() - begun)
     except subprocess.TimeoutExpired:
         return None
     finally:
+        if watch:
+            watch.end(status not in (0, 1, *explaining.REFUSED))
         if status not in (0, 1):
             child.kill()
             child.wait()
@@ -105,14 +108,14 @@ def run_layer(path, words, size, seconds):
                     os.unlink(given[option])
 
 
-def layers(path, words, count, seconds):
+def layers(path, words, count, seconds, watched):
     """Runs the layers, tells of each, and returns each that ended. Those after the first write the same extension, so it is not kept."""
     given, begun = dict(zip(words[::2], words[1::2])), time.monotonic()
     with tempfile.TemporaryDirectory(prefix="xsap-layers-") as folder:
         for size in [*range(1, count), None]:
             own = {"cert": cert_of(given["--cert"], size), **({} if size == 1 or count <= 1 else {"extended": f"{folder}/extended.smv"})}
             left = None if seconds is None else seconds - (time.monotonic() - begun)
-            layer = run_layer(path, changed(words, **own), size, left) if left is None or left > 0 else None
+            layer = run_layer(path, changed(words, **own), size, left, watched()) if left is None or left > 0 else None
             if layer is None:
                 programs.tell(f"{seconds} seconds are over: no further layer")
                 return
@@ -137,9 +140,9 @@ def broken_off(number, _):
     raise Broken(number)
 
 
-def run(path, words, explains, hand_on=put):
+def run(path, words, explains, hand_on=put, watched=lambda: None):
     """Runs the layers of these words of analyse, and returns the status of the last one that ended. The report is handed on by a function that
-    returns whether this failed."""
+    returns whether this failed. Another one returns what shows how far a layer is, or None."""
     found = parted(words)
     if isinstance(found, str):
         programs.tell(found)
@@ -153,7 +156,7 @@ def run(path, words, explains, hand_on=put):
     explaining.handle_signals(broken_off)
     last, complete, ended_by = None, None, None
     try:
-        for last in layers(path, words, count, seconds):
+        for last in layers(path, words, count, seconds, watched):
             complete = complete if last.status else last
     except Broken as why:
         ended_by = why.args[0]

@@ -101,8 +101,10 @@ BESIDE = {
 # What each verb writes, in the short form under no name of another file.
 WRITES = {"extend": ("--extended",), "analyse": ("--extended", "--cert"), "make": ("--model", "--faults"), "causes": ("--cert",),
           "orders": ("--cert",)}
+# The verbs that search, and show meanwhile how far they are.
+SEARCHING = ("analyse", "fmea", "make", "causes", "orders", "odds")
 # The options that the short form has beside those of the verb, each with what its value is, or None where it has none.
-SHORT = {"--format": "FORM", "--full": None, "--output": "FILE", "--force": None, "--verbose": None}
+SHORT = {"--format": "FORM", "--full": None, "--output": "FILE", "--force": None, "--verbose": None, "--quiet": None}
 SHORT_WORDS = {
     "--cert FILE": "takes the sets of an accepted certificate of analyse in place of a search",
     "--format FORM": "how the answer is shown; exact is the report as the program prints it",
@@ -110,6 +112,7 @@ SHORT_WORDS = {
     "--output FILE": "where the answer goes in place of standard output",
     "--force": "overwrites files that were there before",
     "--verbose": "prints on standard error what is handed to the program",
+    "--quiet": "prints nothing of how far the search is",
 }
 # What follows analyse in place of --size: the words by which the command runs it for sizes in turn.
 LAYERS = "--layers [--seconds NUMBER]"
@@ -169,7 +172,8 @@ def short_usage(verb):
 
 def short_options(verb):
     """Returns the options that the short form of a verb has beside its own, each with what its value is."""
-    left_out = {*(() if verb in SHOWN else ("--full",)), *(() if verb in WRITES else ("--force",)), *(("--format",) if verb in OWN_VERBS else ())}
+    left_out = {*(() if verb in SHOWN else ("--full",)), *(() if verb in WRITES else ("--force",)), *(("--format",) if verb in OWN_VERBS else ()),
+                *(() if verb in SEARCHING else ("--quiet",))}
     more = {"odds": {"--cert": "FILE"}, "analyse": {"--layers": None, "--seconds": "NUMBER"}}.get(verb, {})
     return {**more, **{it: value for it, value in SHORT.items() if it not in left_out}}
 
