@@ -57,7 +57,7 @@ OPTIONS = {
     "--extended": "the extension, which is written",
     "--top": "the top event, an expression over the model, as 'road & !down'",
     "--tops": "top events with ; between",
-    "--depth": "how many steps the search may look ahead; 40 is a good begin",
+    "--depth": "the upper limit on the steps of traces; a large one costs nothing by itself",
     "--size": "of how many faults a set has at most",
     "--cert": "the certificate: written by analyse, causes and orders, read by the checks",
     "--trace": "the trace that is judged",
