@@ -3,7 +3,7 @@
   PREFIX/bin/xsap, xsap_program, and so on          links to what stands in
   PREFIX/lib/xsap/                                  the front, the programs, release.txt with their sums, and about.txt
   PREFIX/share/man/man1/xsap.1                      the manual page
-  PREFIX/share/doc/xsap/                            the manual, and the example of the help
+  PREFIX/share/doc/xsap/                            the manual, the tutorial and the guide to modelling, and the example of the help
   PREFIX/share/bash-completion/completions/xsap     and PREFIX/share/zsh/site-functions/_xsap: completions
 """
 import os
@@ -14,6 +14,7 @@ from running.machine import Unready
 from running.programs import TOP
 from running.verbs import FORMS, OWN, OWN_VERBS, SHORT, SHOWING, VERBS, VERSION, file_options, options_of, short_options
 
+DOCUMENTS = ("MANUAL.md", "TUTORIAL.md", "MODELLING.md")
 EXAMPLE_FILES = ("model.smv", "faults.fei", "causes", "tops", "crash.trace", "pass.trace")
 
 
@@ -70,7 +71,8 @@ def lay_down(prefix, data, text):
             kept.write(f"{to}/tools/running/{name}", kept.read(f"{TOP}/tools/running/{name}"))
     kept.write(f"{to}/about.txt", text.encode())
     kept.write(f"{share}/man/man1/xsap.1", kept.read(f"{TOP}/docs/xsap.1"))
-    kept.write(f"{share}/doc/xsap/MANUAL.md", kept.read(f"{TOP}/docs/MANUAL.md"))
+    for name in DOCUMENTS:
+        kept.write(f"{share}/doc/xsap/{name}", kept.read(f"{TOP}/docs/{name}"))
     for name in EXAMPLE_FILES:
         kept.write(f"{share}/doc/xsap/examples/crossing/{name}", kept.read(f"{TOP}/examples/crossing/{name}"))
     kept.write(f"{share}/bash-completion/completions/xsap", bash_completion().encode())

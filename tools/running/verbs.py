@@ -29,7 +29,7 @@ VERBS = {
 }
 # The verbs of the command itself, which are runs of the program, with their options.
 OWN_VERBS = {
-    "lint": ("tells what is lawful in a model and its fault file and mostly a mistake",
+    "lint": ("reports what is allowed in a model and its fault file and mostly a mistake",
              "--model FILE --faults FILE [--top EXPRESSION] [--depth NUMBER]"),
 }
 # The words with which show takes the sets of an accepted certificate.
@@ -38,7 +38,7 @@ CERTIFIED = {"show": ("shows the sets of an accepted certificate, without a sear
 # The verbs of the program that shows reports, with their words.
 SHOWING = {
     "show": ("shows a report of analyse or causes as tables, as a page, or for other tools", "FILE [--format FORM] [--full] [--output FILE]"),
-    "diff": ("tells which minimal cut sets are gone and have come from one report to another", "OLD NEW"),
+    "diff": ("reports which minimal cut sets are gone and have come from one report to another", "OLD NEW"),
 }
 # The verbs whose reports that program shows.
 SHOWN = ("analyse", "causes", "show")
@@ -118,18 +118,18 @@ SHORT_WORDS = {
 LAYERS = "--layers [--seconds NUMBER]"
 LAYERS_WORDS = {
     "--layers": "the word after analyse, in the short form anywhere: sizes 1, 2, .. in turn, each with a certificate, as cuts.2.cert",
-    "--seconds NUMBER": "after how many seconds no further layer is begun, and the running one is broken off",
+    "--seconds NUMBER": "after how many seconds no further layer is begun, and the running one is interrupted",
 }
 # The words of the command itself, which come in place of a verb or before it; and those that it has in the repository alone.
 OWN = {
     "--help": "this text; --help VERB: a verb's options, one by one",
     "--version": "the version, the commit, the kit, and whether the program was proved here",
-    "--explain": "before the words of a run: explains a refusal on standard error, as is done on a terminal",
-    "--exact": "before the words of a run: hands all of them on as they are, and explains nothing",
+    "--explain": "before the arguments of a run: explains a refusal on standard error, as is done on a terminal",
+    "--exact": "before the arguments of a run: passes all of them on as they are, and explains nothing",
 }
 OF_REPOSITORY = {
     "--prove": "proves and builds the programs here, by the kit's command rt",
-    "--unproved": "before the words of a run: compiles and runs the program without any proof",
+    "--unproved": "before the arguments of a run: compiles and runs the program without any proof",
     "--install": "installs the programs, a manual page and completions below a folder: --install PREFIX",
 }
 EXAMPLE = """  cd {folder}
@@ -137,10 +137,10 @@ EXAMPLE = """  cd {folder}
     --extended /tmp/extended.smv --cert /tmp/cuts.cert
   {command} check --model model.smv --faults faults.fei --top crash --cert /tmp/cuts.cert
 """
-STATUSES = """Exit status: 0 done, complete; 1 done, but only up to the depth; 2 to 6, 9, 10 refused, in one line that tells the place;
-7 a file or standard output failed; 8 out of memory; 11 a word is no text; 70 there is no program to run.
-Of lint: 0 nothing is told to be a mistake, 1 something is.
-Of show and diff: 0 shown, or no difference; 1 the reports differ; 2 the words; 3 a file is no report; 4 there is no such file."""
+STATUSES = """Exit status: 0 done, complete; 1 done, but only up to the depth; 2 to 6, 9, 10 refused, in one line with the place;
+7 a file or standard output failed; 8 out of memory; 11 an argument is not text; 70 there is no program to run.
+Of lint: 0 no warning, 1 warnings.
+Of show and diff: 0 shown, or no difference; 1 the reports differ; 2 wrong arguments; 3 a file is no report; 4 there is no such file."""
 
 
 def words_of(verb):
@@ -208,7 +208,7 @@ def help_text(name, manual, folder):
     verbs = "".join(f"  {verb:13} {does}\n{wrapped(options, ' ' * 16)}" for verb, (does, options) in {**VERBS, **OWN_VERBS, **SHOWING}.items())
     words = OWN if os.path.isabs(folder) else {**OWN, **OF_REPOSITORY}
     own = "".join(f"  {word:13} {means}\n" for word, means in words.items())
-    layers = f"  {name} analyse {LAYERS} ..   the words of analyse but --size: sizes in turn\n"
+    layers = f"  {name} analyse {LAYERS} ..   the arguments of analyse but --size: sizes in turn\n"
     example = EXAMPLE.format(folder=folder, command="../../xsap" if name == "./xsap" else name)
     return (
         f"{name} extends SMV models with faults, and finds and certifies the minimal cut sets of a top event.\n\n"
