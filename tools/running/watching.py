@@ -184,12 +184,12 @@ def program():
 
 def follow(child, watch, seconds=None):
     """Returns what a program prints, while its news is shown. Raises TimeoutExpired where it has not ended within so many seconds."""
-    said, left, begun = [], b"", time.monotonic()
+    said, left, ends = [], b"", float("inf") if seconds is None else time.monotonic() + seconds
     with selectors.DefaultSelector() as ready:
         for it in (child.stdout, child.stderr):
             ready.register(it, selectors.EVENT_READ)
         while ready.get_map():
-            for key, _ in ready.select(ON_TERMINAL):
+            for key, _ in ready.select(max(min(ON_TERMINAL, ends - time.monotonic()), 0)):
                 piece = os.read(key.fd, PIECE)
                 if not piece:
                     ready.unregister(key.fileobj)
@@ -198,7 +198,7 @@ def follow(child, watch, seconds=None):
                 else:
                     left = watch.hear(left + piece)
             watch.show()
-            if seconds is not None and time.monotonic() - begun > seconds:
+            if ready.get_map() and time.monotonic() >= ends:
                 raise subprocess.TimeoutExpired(child.args, seconds)
     child.stdout.close()
     child.stderr.close()
