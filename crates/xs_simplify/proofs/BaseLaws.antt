@@ -1,18 +1,20 @@
 -- Changes of a clause base, from those of its slots.
 use Rattle.std.proofs.Common.{◌≡◌, ℕ, ◌+◌, ◌<◌, ◌≤◌, List, [], ◌∷◌, ◌++◌, length, get_or, map, take, Some, All, refl, sym, ap, ◌∙◌, subst}
-use Rattle.std.proofs.lemmas.List.{append-nil, append_assoc, map_more, take_all}
+use Rattle.std.proofs.lemmas.List.{append-nil, append_assoc, map_more, map-append, take_all}
 use Rattle.xs_lits.specs.Literal.{Literal, opposite}
 use Rattle.xs_lits.specs.Derivation.{IsUpTo}
 use Rattle.xs_lits.specs.Code.{code_of}
 use Rattle.xs_simplify.specs.Meeting.{IsOwn, AreMetAlike, HasNoHigherVariable}
 use Rattle.xs_simplify.specs.Slots.{Slot, AreNoted, IsSimpler, standing}
-use Rattle.xs_simplify.specs.Elimination.{resolvents}
+use Rattle.xs_simplify.specs.Elimination.{resolvents, unless_tautology}
+use Rattle.xs_simplify.specs.Resolution.{each_once}
 use Rattle.xs_simplify.specs.Changes.{slot_at, changed, dropped, shrunk, gathered, taken_out, resolvents_in, covered, entered}
 use Rattle.xs_simplify.specs.Occurring.{noted_at}
 use Rattle.xs_simplify.specs.Based.{IsSound, Becomes, Adds, AddsAll, TakesOut, Assigns, Covers, IsEntered}
 use Rattle.xs_simplify.specs.declared.base.Base.{Base}
 use Rattle.xs_simplify.proofs.SlotLaws.{noted_changed, dropped_lessens, shrunk_lessens, covered_lessens}
 use Rattle.xs_simplify.proofs.SimplerLaws.{simpler_itself, simpler_all, unit_law, subsumption_law, elimination_law}
+use Rattle.xs_simplify.proofs.SlotSteps.{entered_more}
 use Rattle.xs_simplify.proofs.ListLaws.{met_alike, no_higher_variable}
 
 -- a base is as simple as itself, and changes follow one another
@@ -86,9 +88,25 @@ resolved_by occurrences l m slots with against cs ds list e f g h i j =
     ∙ (ap (λ x. resolvents l x ds) (f ∙ ap (gathered l slots) e)
     ∙ ap (resolvents l (gathered l slots (noted_at occurrences (code_of l)))) (i ∙ (ap (λ x. gathered x slots against) g ∙ ap (gathered (opposite l) slots) (h ∙ ap (λ x. noted_at occurrences (code_of x)) g))))
 
--- what is entered into an empty base
-pub is_entered : (places : ℕ) (list : List (List Literal)) (a b : Base) (cs : List (List Literal)) → a.places ≡ places → a.slots.items ≡ [] → cs ≡ entered list → AddsAll a b cs → IsEntered places list b
-is_entered places list a b cs e none is f = record { sound = f.sound; places = f.places ∙ e; slots = f.slots ∙ (ap (λ s. s ++ map Some cs) none ∙ ap (map Some) is) }
+-- clauses are entered one by one
+pub entered_none : (places : ℕ) (list : List (List Literal)) (b : Base) → IsSound b → b.places ≡ places → b.slots.items ≡ [] → IsEntered places (take 0 list) b
+entered_none places list b sound e none = record { sound = sound; places = e; slots = none }
+
+pub entered_next : (places : ℕ) (list : List (List Literal)) (a b : Base) (cs : List (List Literal)) (i : ℕ) (c : List Literal) → i < length list → c ≡ get_or list i c → IsEntered places (take i list) a → cs ≡ unless_tautology (each_once c) → AddsAll a b cs → IsEntered places (take (i + 1) list) b
+entered_next places list a b cs i c lt is f one g =
+    let all = entered (take i list) in
+    let more : all ++ unless_tautology (each_once c) ≡ entered (take (i + 1) list) = entered_more c (each_once c) list i all (all ++ unless_tautology (each_once c)) lt is refl refl refl in
+    record {
+      sound = g.sound;
+      places = g.places ∙ f.places;
+      slots = g.slots
+          ∙ (ap (λ s. s ++ map Some cs) f.slots
+          ∙ (ap (λ x. map Some all ++ map Some x) one
+          ∙ (sym (map-append Some all (unless_tautology (each_once c))) ∙ ap (map Some) more)));
+    }
+
+pub entered_all : (places : ℕ) (list : List (List Literal)) (b : Base) (i : ℕ) → length list ≤ i → IsEntered places (take i list) b → IsEntered places list b
+entered_all places list b i over f = subst (λ cs. IsEntered places cs b) (take_all i list over) f
 
 entered_simpler : (places : ℕ) (list : List (List Literal)) (a b : Base) → IsEntered places list a → Becomes a b → IsSimpler places (map Some (entered list)) b.slots.items
 entered_simpler places list a b f g = subst (λ s. IsSimpler places s b.slots.items) f.slots (subst (λ n. IsSimpler n a.slots.items b.slots.items) f.places g.simpler)

@@ -60,12 +60,22 @@ impl Base {
         var < 2 || self.places < var
     }
 
-    /// How many clauses have the variable of a literal.
-    pub fn uses(&self, lit: Lit) -> usize {
-        let opposite = lit.neg();
-        let with = count_each(&self.slots, self.occurrences.at(lit), lit);
-        let against = count_each(&self.slots, self.occurrences.at(opposite), opposite);
-        with.saturating_add(against)
+    // How many clauses have a literal, counted up to a limit.
+    fn count(&self, lit: Lit, limit: usize) -> usize {
+        count_each(&self.slots, self.occurrences.at(lit), lit, limit)
+    }
+
+    /// How many clauses have the variable of a literal, each sign counted up to a limit.
+    pub fn uses(&self, lit: Lit, limit: usize) -> usize {
+        self.count(lit, limit)
+            .saturating_add(self.count(lit.neg(), limit))
+    }
+
+    // Whether the variable of a literal has so few clauses that eliminating it is tried.
+    fn is_rare(&self, lit: Lit) -> bool {
+        let limit = PRODUCT.saturating_add(1);
+        let with = self.count(lit, limit);
+        with.saturating_mul(self.count(lit.neg(), limit)) <= PRODUCT
     }
 
     /// Appends a clause.
@@ -105,10 +115,13 @@ impl Base {
         drop_each(&mut self.slots, self.occurrences.at(opposite), opposite);
     }
 
-    // The resolvents on a literal, if they are few and short enough to stand in the place of their clauses.
-    fn resolvents_of(&self, lit: Lit) -> Result<Option<ClauseList>, OutOfMemory>
+    // The resolvents on a literal, if they are at most so many, and few and short enough to stand in the place of their clauses.
+    fn resolvents_of(&self, lit: Lit, most: usize) -> Result<Option<ClauseList>, OutOfMemory>
         ensures { IfOk result (λ o. IfSome o (λ list. list ≡ resolvents_in self.now.occurrences lit self.now.slots.items)) }
     {
+        if !self.is_rare(lit) {
+            return Ok(None);
+        }
         let with = gather(self.alloc, &self.slots, self.occurrences.at(lit), lit)?;
         let opposite = lit.neg();
         let against = gather(
@@ -117,23 +130,21 @@ impl Base {
             self.occurrences.at(opposite),
             opposite,
         )?;
-        if with.len().saturating_mul(against.len()) > PRODUCT {
-            return Ok(None);
-        }
-        let list = resolve_all(self.alloc, lit, with.as_slice(), against.as_slice())?;
+        let list = resolve_all(self.alloc, lit, with.as_slice(), against.as_slice(), most)?;
         Ok(list)
     }
 
-    /// Eliminates the variable of a literal if it is no place and that makes the clauses no more; answers whether it did.
+    /// Eliminates the variable of a literal if it is no place, that makes the clauses no more, and it has at most so many resolvents;
+    /// answers whether it did.
     #[tactic(auto, using(crate::proofs::BaseLaws::becomes_itself, crate::proofs::BaseLaws::becomes_eliminated))]
-    pub fn eliminate(&mut self, lit: Lit) -> Result<bool, OutOfMemory>
+    pub fn eliminate(&mut self, lit: Lit, most: usize) -> Result<bool, OutOfMemory>
         requires { IsSound self.old }
         ensures { OnOk result (Becomes self.old self.new) }
     {
         if !self.is_own(lit.var()) {
             return Ok(false);
         }
-        let Some(list) = self.resolvents_of(lit)? else {
+        let Some(list) = self.resolvents_of(lit, most)? else {
             return Ok(false);
         };
         self.take_out(lit);

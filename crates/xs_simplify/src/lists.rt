@@ -4,7 +4,8 @@
 ghost use Rattle.std.specs.Prelude.{◌≡◌, ◌++◌, IfOk, OnOk, Some, map};
 ghost use Rattle.std.specs.Option.{option_to_list};
 ghost use Rattle.xs_simplify.specs.Slots.{standing as stands};
-ghost use Rattle.xs_simplify.specs.Changes.{entered as enters};
+ghost use Rattle.xs_simplify.specs.Resolution.{each_once as once};
+ghost use Rattle.xs_simplify.specs.Elimination.{unless_tautology};
 ghost use Rattle.xs_simplify.specs.Based.{IsEntered};
 
 use crate::base::Base;
@@ -12,29 +13,29 @@ use crate::literals::each_once;
 use crate::resolving::push_open;
 use std::alloc::Global;
 use xs_lits::clause::{Clause, ClauseList};
+use xs_lits::lit::Lit;
 use xs_value::OutOfMemory;
 
-// The clauses, each literal once, but for tautologies.
-#[tactic(auto, using(crate::proofs::SlotSteps::entered_more))]
-fn entered(alloc: Global, list: &[Clause]) -> Result<ClauseList, OutOfMemory>
-    ensures { IfOk result (λ all. all ≡ enters list.now) }
+// A clause with each literal once, or none if it is a tautology.
+fn entered(alloc: Global, lits: &[Lit]) -> Result<ClauseList, OutOfMemory>
+    ensures { IfOk result (λ one. one ≡ unless_tautology (once lits.now)) }
 {
-    let mut all = ClauseList::new(alloc);
-    for clause in list {
-        let once = each_once(alloc, clause.lits())?;
-        push_open(&mut all, once, usize::MAX)?;
-    }
-    Ok(all)
+    let mut one = ClauseList::new(alloc);
+    let clause = each_once(alloc, lits)?;
+    push_open(&mut one, clause, usize::MAX)?;
+    Ok(one)
 }
 
-/// A base of these clauses.
-#[tactic(auto, using(crate::proofs::BaseLaws::is_entered))]
+/// A base of these clauses. They are entered one by one, so that beside the list and the base no other copy stands.
+#[tactic(auto, using(crate::proofs::BaseLaws::entered_none, crate::proofs::BaseLaws::entered_next, crate::proofs::BaseLaws::entered_all))]
 pub fn base_of(alloc: Global, places: u64, list: &[Clause]) -> Result<Base, OutOfMemory>
     ensures { IfOk result (λ b. IsEntered places list.now b) }
 {
-    let all = entered(alloc, list)?;
     let mut base = Base::new(alloc, places);
-    base.add_all(&all)?;
+    for clause in list {
+        let one = entered(alloc, clause.lits())?;
+        base.add_all(&one)?;
+    }
     Ok(base)
 }
 

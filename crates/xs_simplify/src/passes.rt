@@ -8,7 +8,7 @@ ghost use Rattle.xs_simplify.specs.Based.{IsSound, Becomes};
 ghost use Rattle.std.specs.Prelude.{OnOk};
 
 use crate::base::Base;
-use crate::queue::Queue;
+use crate::queue::{MANY, Queue};
 use xs_lits::clause::Clause;
 use xs_lits::lit::Lit;
 use xs_value::OutOfMemory;
@@ -42,8 +42,8 @@ fn queue_of(base: &Base) -> Result<Queue, OutOfMemory> {
 
 // Puts the variable of a literal into the queue if it is no place.
 fn put(queue: &mut Queue, base: &Base, lit: Lit) -> Result<(), OutOfMemory> {
-    if base.is_own(lit.var()) {
-        queue.put(lit, base.uses(lit))?;
+    if base.is_own(lit.var()) && queue.has_room_for(lit) {
+        queue.put(lit, base.uses(lit, MANY))?;
     }
     Ok(())
 }
@@ -73,7 +73,7 @@ fn try_one(base: &mut Base, queue: &mut Queue, lit: Lit) -> Result<bool, OutOfMe
     ensures { OnOk result (Becomes base.old base.new) }
 {
     let from = base.slots.len();
-    let is_gone = base.eliminate(lit)?;
+    let is_gone = base.eliminate(lit, usize::MAX)?;
     if is_gone {
         put_from(queue, base, from)?;
     }
@@ -123,6 +123,19 @@ fn one_round(base: &mut Base) -> Result<bool, OutOfMemory>
     Ok(changed)
 }
 
+// Eliminates the variables that have no resolvents, the highest first. Gates are numbered from what they read upwards, so all
+// that nothing reads go before others grow into them.
+#[tactic(auto, using(crate::proofs::BaseLaws::becomes_itself, crate::proofs::BaseLaws::becomes_all))]
+fn eliminate_unread(base: &mut Base) -> Result<(), OutOfMemory>
+    requires { IsSound base.old }
+    ensures { OnOk result (Becomes base.old base.new) }
+{
+    for var in (1..base.variables()).rev() {
+        base.eliminate(Lit::new(var, false), 0)?;
+    }
+    Ok(())
+}
+
 /// Makes the clauses of a base simpler.
 #[tactic(auto, using(crate::proofs::BaseLaws::becomes_itself, crate::proofs::BaseLaws::becomes_all))]
 pub fn simplify(base: &mut Base) -> Result<(), OutOfMemory>
@@ -130,6 +143,7 @@ pub fn simplify(base: &mut Base) -> Result<(), OutOfMemory>
     ensures { OnOk result (Becomes base.old base.new) }
 {
     propagate_all(base)?;
+    eliminate_unread(base)?;
     for _round in 0..ROUNDS {
         let changed = one_round(base)?;
         if !changed {

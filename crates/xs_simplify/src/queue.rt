@@ -33,20 +33,19 @@ impl Queue {
         Ok(Queue { buckets, tries })
     }
 
-    // Counts that a variable is put in; answers whether it may be.
-    fn may_put(&mut self, var: usize) -> bool {
-        if var >= self.tries.len() || self.tries[var] >= TRIES {
-            return false;
-        }
-        self.tries[var] += 1;
-        true
+    /// Whether a variable may be put in once more.
+    pub fn has_room_for(&self, lit: Lit) -> bool {
+        let var = lit.var() as usize;
+        var < self.tries.len() && self.tries[var] < TRIES
     }
 
     /// Puts a variable in that has so many clauses, unless it was too often or there are none.
     pub fn put(&mut self, lit: Lit, count: usize) -> Result<(), OutOfMemory> {
-        if count == 0 || !self.may_put(lit.var() as usize) {
+        let var = lit.var() as usize;
+        if count == 0 || var >= self.tries.len() || self.tries[var] >= TRIES {
             return Ok(());
         }
+        self.tries[var] += 1;
         let at = count.min(MANY) - 1;
         if at < self.buckets.len() {
             self.buckets[at].push(lit)?;

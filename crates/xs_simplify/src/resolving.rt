@@ -50,16 +50,17 @@ fn resolve_with(
 
 #[tactic(auto, using(crate::proofs::SlotSteps::resolvents_more))]
 /// All resolvents of the clauses of a literal with those of its opposite that are no tautologies, or `None` where they
-/// are more than these clauses or one is too long.
+/// are more than these clauses or than `most`, or one is too long.
 pub fn resolve_all(
     alloc: Global,
     lit: Lit,
     with: &[Clause],
     against: &[Clause],
+    most: usize,
 ) -> Result<Option<ClauseList>, OutOfMemory>
     ensures { IfOk result (λ o. IfSome o (λ list. list ≡ resolvents lit with.now against.now)) }
 {
-    let most = with.len().saturating_add(against.len());
+    let most = with.len().saturating_add(against.len()).min(most);
     let mut list = ClauseList::new(alloc);
     for clause in with {
         if !resolve_with(alloc, &mut list, lit, clause.lits(), against, most)? {

@@ -22,10 +22,13 @@ fn slot_has(slot: &Option<Clause>, lit: Lit) -> bool
     }
 }
 
-/// How many of these places have a clause with the literal.
-pub fn count_each(slots: &[Option<Clause>], at: &[usize], lit: Lit) -> usize {
+/// How many of these places have a clause with the literal, counted up to a limit.
+pub fn count_each(slots: &[Option<Clause>], at: &[usize], lit: Lit, limit: usize) -> usize {
     let mut count: usize = 0;
     for i in at {
+        if count >= limit {
+            return count;
+        }
         if *i < slots.len() && slot_has(&slots[*i], lit) {
             count = count.saturating_add(1);
         }
