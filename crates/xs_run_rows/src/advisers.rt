@@ -250,7 +250,7 @@ impl Adviser for Hearing {
 }
 
 /// The number that an analysis of the pair ends with whose adviser has room until it hears this. The fault A leads to the event in
-/// three steps.
+/// four steps: no fault is there at first, and three steps count from the moment on at which it is.
 fn ends_after(alloc: Global, piece: Piece) -> Result<i32, OutOfMemory> {
     let adviser = Hearing {
         piece,
@@ -268,11 +268,11 @@ fn ends_after(alloc: Global, piece: Piece) -> Result<i32, OutOfMemory> {
 fn an_analysis_tells_its_adviser_how_far_it_is(rt: HostRuntime) -> Result<(), OutOfMemory> {
     let alloc = rt.alloc();
     assert!(rt; ends_after(alloc, Piece::Frontier(0))? == 8);
-    assert!(rt; ends_after(alloc, Piece::Frontier(3))? == 8);
-    assert!(rt; ends_after(alloc, Piece::Set(1, 3))? == 8);
+    assert!(rt; ends_after(alloc, Piece::Frontier(4))? == 8);
+    assert!(rt; ends_after(alloc, Piece::Set(1, 4))? == 8);
     assert!(rt; ends_after(alloc, Piece::Invariant)? == 8);
     assert!(rt; ends_after(alloc, Piece::Goals(0))? == 8);
-    assert!(rt; ends_after(alloc, Piece::Set(2, 3))? == 0);
+    assert!(rt; ends_after(alloc, Piece::Set(2, 4))? == 0);
     Ok(())
 }
 
