@@ -10,6 +10,7 @@ mod analysis;
 mod clauses;
 mod decisions;
 mod kernel;
+mod numbers;
 mod propagation;
 mod trail;
 
