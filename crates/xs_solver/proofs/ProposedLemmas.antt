@@ -2,20 +2,20 @@
 use Rattle.std.proofs.Common.{suc, ◌≡◌, ℕ, ◌<◌, Bool, true, false, List, [], ◌∷◌, ◌++◌, length, get_or, Option, Some, None, All, IfSome, refl, sym, ap, ◌∙◌, subst, arith}
 use Rattle.std.specs.Option.{option_map}
 use Rattle.std.proofs.lemmas.List.{append-nil}
-use Rattle.std.proofs.lemmas.List.Elements.{All-nil, All-cons, All-push}
+use Rattle.std.proofs.lemmas.List.Elements.{All-nil, All-cons}
 use Rattle.xs_lits.specs.Literal.{Literal}
 use Rattle.xs_lits.specs.Assignment.{Assignment}
-use Rattle.xs_lits.specs.Models.{Satisfies, FollowsFrom, clause_value}
+use Rattle.xs_lits.specs.Models.{Satisfies, FollowsFrom}
+use Rattle.xs_lits.specs.StoreRecord.{StoreValue}
 use Rattle.xs_lits.specs.Derivation.{IsUpTo}
 use Rattle.xs_lits.specs.declared.step.Step.{Step}
-use Rattle.xs_lits.proofs.ModelLemmas.{Satisfies-from_All}
-use Rattle.xs_solver.specs.Search.{AreSteps, with_steps, Grows}
-use Rattle.xs_solver.specs.Kept.{added_of, AreMarked, IsAnswer, IsRefuted}
+use Rattle.xs_solver.specs.Search.{Grows}
+use Rattle.xs_solver.specs.Kept.{added_of, IsKept, IsAnswer, IsRefuted}
 use Rattle.xs_solver.specs.Proposed.{HasTrue, IsRight}
 use Rattle.xs_solver.specs.declared.solve.Verdict.{Verdict}
 use Rattle.xs_solver.specs.declared.solve.Verdict.TheVariants.{Sat, Unsat}
 use Rattle.xs_solver.proofs.VerdictLemmas.{all_follow, All-first}
-use Rattle.xs_solver.proofs.KeptLemmas.{models, all_added}
+use Rattle.xs_solver.proofs.KeptLemmas.{models, all_added, steps_in_range}
 
 kept_nothing : (o : Option (List Step)) → o ≡ option_map (λ ks. ks ++ []) o
 kept_nothing None = refl
@@ -24,10 +24,6 @@ kept_nothing (Some ks) = ap Some (sym (append-nil ks))
 -- nothing was learned
 pub grows_none : (vars : ℕ) (cs ds : List (List Literal)) (k l : Option (List Step)) → ds ≡ cs → l ≡ k → Grows vars cs k ds l
 grows_none vars cs ds k l same kept = record { steps = []; are_steps = tt; clauses = same; kept = kept ∙ kept_nothing k }
-
-steps_in_range : (vars : ℕ) (ss : List Step) (cs : List (List Literal)) → AreSteps vars cs ss → All (All (IsUpTo vars)) cs → All (All (IsUpTo vars)) (with_steps cs ss)
-steps_in_range vars [] cs steps all = all
-steps_in_range vars (s ∷ ss) cs steps all = steps_in_range vars ss (cs ++ s.clause ∷ []) steps.1 (All-push (All (IsUpTo vars)) cs s.clause all steps.0.in_range)
 
 -- what was learned is in range
 pub grown_in_range : (vars : ℕ) (cs ds : List (List Literal)) (k l : Option (List Step)) → Grows vars cs k ds l → All (All (IsUpTo vars)) cs → All (All (IsUpTo vars)) ds
@@ -63,20 +59,20 @@ right_from_answer cores vars cs ds es ms k l assumptions (Sat a) g s = record {
 right_from_answer cores vars cs ds es ms k l assumptions (Unsat c) g r = refuted_before cores vars cs ds es k l assumptions c g r
 
 -- what is right is an answer about the added clauses
-pub answer_from_right : (cores : Bool) (vars : ℕ) (cs es : List (List Literal)) (ms : List Bool) (ss : List Step) (assumptions : List Literal) (v : Verdict) → AreMarked vars [] cs ms ss → IsRight cores vars (added_of cs ms) cs es assumptions v → IsAnswer cores vars (added_of cs ms) es assumptions v
-answer_from_right cores vars cs es ms ss assumptions (Sat a) marked right = right
-answer_from_right cores vars cs es ms ss assumptions (Unsat c) marked r = record {
+pub answer_from_right : (cores : Bool) (s : StoreValue) (es : List (List Literal)) (ms : List Bool) (assumptions : List Literal) (v : Verdict) → IsKept s ms → IsRight cores s.vars (added_of s.clauses ms) s.clauses es assumptions v → IsAnswer cores s.vars (added_of s.clauses ms) es assumptions v
+answer_from_right cores s es ms assumptions (Sat a) kept right = right
+answer_from_right cores s es ms assumptions (Unsat c) kept r = record {
   negated = r.negated;
-  follows = λ v model. r.follows v (models vars v [] cs ms ss marked (Satisfies-from_All v [] (All-nil (λ d. clause_value v d ≡ true))) model);
+  follows = λ v model. r.follows v (models s ms v kept model);
   listed = r.listed;
 }
 
 -- the clause of a verdict that is right
-pub refuted_from_right : (cores : Bool) (vars : ℕ) (cs es : List (List Literal)) (ms : List Bool) (ss : List Step) (assumptions : List Literal) (r : Option (List Literal)) (told : Option Verdict) →
-    AreMarked vars [] cs ms ss → IfSome r (λ core. told ≡ Some (Unsat core)) → IfSome told (IsRight cores vars (added_of cs ms) cs es assumptions) → IfSome r (λ core. IsAnswer cores vars (added_of cs ms) es assumptions (Unsat core))
-refuted_from_right cores vars cs es ms ss assumptions None told marked e right = tt
-refuted_from_right cores vars cs es ms ss assumptions (Some core) told marked e right =
-    answer_from_right cores vars cs es ms ss assumptions (Unsat core) marked (subst (λ (t : Option Verdict). IfSome t (IsRight cores vars (added_of cs ms) cs es assumptions)) e right)
+pub refuted_from_right : (cores : Bool) (s : StoreValue) (es : List (List Literal)) (ms : List Bool) (assumptions : List Literal) (r : Option (List Literal)) (told : Option Verdict) →
+    IsKept s ms → IfSome r (λ core. told ≡ Some (Unsat core)) → IfSome told (IsRight cores s.vars (added_of s.clauses ms) s.clauses es assumptions) → IfSome r (λ core. IsAnswer cores s.vars (added_of s.clauses ms) es assumptions (Unsat core))
+refuted_from_right cores s es ms assumptions None told kept e right = tt
+refuted_from_right cores s es ms assumptions (Some core) told kept e right =
+    answer_from_right cores s es ms assumptions (Unsat core) kept (subst (λ (t : Option Verdict). IfSome t (IsRight cores s.vars (added_of s.clauses ms) s.clauses es assumptions)) e right)
 
 -- each added clause up to a place has a true literal
 abbrev pub AreTrueUpTo : Assignment → List (List Literal) → List Bool → ℕ → Type 0

@@ -102,6 +102,15 @@ impl Arena {
         &self.clauses
     }
 
+    /// Takes over what another store has done so far.
+    pub(crate) fn take_work(&mut self, of: &Arena)
+        ensures { self.new ≡ self.old }
+    {
+        self.set = of.set;
+        self.visited = of.visited;
+        self.listed = of.listed;
+    }
+
     /// How many literals were made true so far, one for each time, up to the end of a 64-bit number.
     pub fn literals_set(&self) -> u64 {
         self.set

@@ -106,7 +106,7 @@ fn has_true(lits: &[Lit], assign: &Assign) -> bool
 }
 
 /// Whether the clause at a place was learned; one that has no mark was.
-fn is_learned(marks: &[bool], place: usize) -> bool
+pub(crate) fn is_learned(marks: &[bool], place: usize) -> bool
     ensures { result ≡ slice_index_or marks.now place true }
 {
     match marks.get(place) {

@@ -1,11 +1,9 @@
-use Rattle.std.proofs.Common.{◌≡◌, ℕ, ◌-◌, ◌++◌, [], true, List, Bool, All, IfSome, length, replicate, sym, ap, ◌∙◌, subst, arith}
-use Rattle.xs_lits.specs.Literal.{Literal}
+use Rattle.std.proofs.Common.{◌≡◌, ℕ, ◌-◌, ◌++◌, true, All, IfSome, length, replicate, sym, ap, ◌∙◌, subst, arith}
 use Rattle.xs_lits.specs.Derivation.{IsUpTo}
 use Rattle.xs_solver.specs.KeptRecord.{KeptValue}
-use Rattle.xs_solver.specs.Search.{with_steps}
 use Rattle.xs_solver.specs.Trail.{IsIdle}
-use Rattle.xs_solver.specs.Kept.{AreMarked, HasLearned, IsAnswer, added_of}
-use Rattle.xs_solver.proofs.KeptLemmas.{kept_from_search, marked_in_range, marked_learned, length_marks, length_with_steps}
+use Rattle.xs_solver.specs.Kept.{HasLearned, IsAnswer, added_of}
+use Rattle.xs_solver.proofs.KeptLemmas.{kept_from_search, kept_learned, length_with_steps}
 use Rattle.xs_solver.proofs.ProposedLemmas.{refuted_from_right}
 use Rattle.xs_solver.specs.declared.solve.Verdict.TheVariants.{Unsat}
 use Rattle.xs_solver.proofs.kept.Kept.refute.Goals as goal
@@ -18,7 +16,7 @@ refuted-requires-clause-in_range g c =
     let s = c.self.inside.store in
     let ms = c.self.inside.marks.items in
     let old = (kept_from_search c.self.inside.failed s ms c.self.inside.trail c.self.invariant c.if-self.false).0 in
-    marked_in_range s.vars [] s.clauses ms old.steps old.are_marked
+    old.in_range
 
 pub refuted-requires-clause-asked : goal.refuted-requires-clause-asked
 refuted-requires-clause-asked g c = subst (λ (k : KeptValue). All (IsUpTo k.vars) c.args.assumptions.now) (sym c.self.view_is) c.requires.in_range
@@ -30,18 +28,10 @@ invariant_of-self-2 g c =
     let old = (kept_from_search c.self.inside.failed s ms c.self.inside.trail c.self.invariant c.if-self.false).0 in
     let grows = c.in_ok-told.ensures.grows in
     let missing : c.count.result - length ms ≡ length grows.steps =
-    omega (arith, c.count.ensures, ap length grows.clauses, length_with_steps s.clauses grows.steps, length_marks s.vars [] s.clauses ms old.steps old.are_marked) in
+    omega (arith, c.count.ensures, ap length grows.clauses, length_with_steps s.clauses grows.steps, old.marked) in
     let marks : c.mark.new.marks.items ≡ ms ++ replicate (length grows.steps) true = c.in_ok-learned.ensures ∙ ap (λ n. ms ++ replicate n true) missing in
-    let vars : c.refuted.new.store.vars ≡ s.vars = c.refuted.ensures.vars in
-    let marked = marked_learned s.vars s.clauses ms old.steps grows.steps grows.are_steps old.are_marked in (
-      record {
-        small = omega (arith, vars, old.small);
-        empty = c.refuted.ensures.trail ∙ old.empty;
-        steps = old.steps ++ grows.steps;
-        are_marked = subst (λ (n : ℕ). AreMarked n [] c.refuted.new.store.clauses c.mark.new.marks.items (old.steps ++ grows.steps)) (sym vars)
-            (subst (λ (x : List (List Literal)). AreMarked s.vars [] x c.mark.new.marks.items (old.steps ++ grows.steps)) (sym grows.clauses)
-            (subst (λ (x : List Bool). AreMarked s.vars [] (with_steps s.clauses grows.steps) x (old.steps ++ grows.steps)) (sym marks) marked));
-      },
+    let vars : c.refuted.new.store.vars ≡ s.vars = c.refuted.ensures.vars in (
+      kept_learned s c.refuted.new.store ms c.mark.new.marks.items grows.steps old grows.are_steps grows.clauses vars (c.refuted.ensures.trail ∙ old.empty) marks,
       subst (λ (n : ℕ). IsIdle n c.self.inside.trail) (sym vars) (kept_from_search c.self.inside.failed s ms c.self.inside.trail c.self.invariant c.if-self.false).1,
     )
 
@@ -51,7 +41,7 @@ returns-clause-answer g c =
     let ms = c.self.inside.marks.items in
     let old = (kept_from_search c.self.inside.failed s ms c.self.inside.trail c.self.invariant c.if-self.false).0 in
     subst (λ (k : KeptValue). IfSome c.core_of.result (λ core. IsAnswer c.args.cores k.vars (added_of k.clauses k.marks) c.refuted.new.store.clauses c.args.assumptions.now (Unsat core))) c.self.view_is
-    (refuted_from_right c.args.cores s.vars s.clauses c.refuted.new.store.clauses ms old.steps c.args.assumptions.now c.core_of.result c.in_ok-told.told old.are_marked c.core_of.ensures (c.in_ok-told.ensures.right (added_of s.clauses ms)))
+    (refuted_from_right c.args.cores s c.refuted.new.store.clauses ms c.args.assumptions.now c.core_of.result c.in_ok-told.told old c.core_of.ensures (c.in_ok-told.ensures.right (added_of s.clauses ms)))
 
 pub returns-clause-learned : goal.returns-clause-learned
 returns-clause-learned g c =
@@ -60,7 +50,7 @@ returns-clause-learned g c =
     let old = (kept_from_search c.self.inside.failed s ms c.self.inside.trail c.self.invariant c.if-self.false).0 in
     let grows = c.in_ok-told.ensures.grows in
     let missing : c.count.result - length ms ≡ length grows.steps =
-    omega (arith, c.count.ensures, ap length grows.clauses, length_with_steps s.clauses grows.steps, length_marks s.vars [] s.clauses ms old.steps old.are_marked) in
+    omega (arith, c.count.ensures, ap length grows.clauses, length_with_steps s.clauses grows.steps, old.marked) in
     let marks : c.mark.new.marks.items ≡ ms ++ replicate (length grows.steps) true = c.in_ok-learned.ensures ∙ ap (λ n. ms ++ replicate n true) missing in
     subst (λ (k : KeptValue). HasLearned k.vars k.clauses k.marks (g.R.Recorder.kept c.args.recorder.now) c.refuted.new.store.clauses c.mark.new.marks.items (g.R.Recorder.kept c.refuted.new.recorder)) c.self.view_is
     (record { steps = grows.steps; are_steps = grows.are_steps; clauses = grows.clauses; marks = marks; kept = grows.kept })
