@@ -230,3 +230,13 @@ asked_well old new v k k' w s vars same h = record {
   where
     repeated : List Step → List Bool
     repeated ls = replicate (length ls) true
+
+-- after learned clauses went
+pub forgot_well : (old new : Guarded) → IsWell old → HasSameGuards old new → new.vars ≡ old.vars → new.search.kept.vars ≡ old.search.kept.vars →
+    length new.search.kept.marks ≡ length new.search.kept.clauses → added_in new ≡ added_in old → HasPut old new []
+forgot_well old new w s vars same marked added = record {
+  well = well_kept old new w s (vars ∙ w.vars ∙ sym same) (equal_most old.search.kept.vars new.search.kept.vars same) (subst (λ (n : ℕ). n < 2 ^ 62) (sym same) w.small) marked;
+  guards = s;
+  vars = same;
+  added = added ∙ sym (append-nil (added_in old));
+}

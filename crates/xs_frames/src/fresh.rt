@@ -1,7 +1,7 @@
-//! The search made anew. It keeps what it learns, and each clause whose place in the frames another one took or that went to the next
-//! frame, so it grows with each question. Once it has more than twice the clauses that it began with, [`freshen`] makes one over what is
-//! alive: the lists of the system, the bad states that are asked about, and each clause of the frames once. So memory is in proportion to
-//! what is alive, and no question pays for what was learned long ago.
+//! The search made anew. It drops what it learned and is of no more use, but keeps each clause whose place in the frames another one took
+//! or that went to the next frame, so it grows with each question. Once it has more than twice the clauses that it began with, [`freshen`]
+//! makes one over what is alive: the lists of the system, the bad states that are asked about, and each clause of the frames once. So
+//! memory is in proportion to what is alive, and no question pays for what was learned long ago.
 ghost use Rattle.std.specs.Prelude.{◌≡◌, suc, [], ◌∷◌, All, IfOk, OnOk};
 ghost use Rattle.xs_frames.specs.Apart.{IsKept};
 ghost use Rattle.xs_frames.specs.Condition.{IsFit, IsOverNow};
@@ -72,7 +72,7 @@ fn renewed(
     Ok(kept)
 }
 
-/// Makes the search anew where it has too many clauses.
+/// Has the search drop what it learned and is of no more use, and makes it anew where it has too many clauses.
 pub fn freshen(
     system: &System,
     frames: &Levels,
@@ -86,6 +86,7 @@ pub fn freshen(
     requires kept { IsKept system.now bad.now (frames_of frames.now) kept.old }
     ensures { OnOk result (IsKept system.now bad.now (frames_of frames.now) kept.new) }
 {
+    kept.forget()?;
     if kept.is_small() {
         return Ok(());
     }

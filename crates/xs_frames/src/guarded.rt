@@ -5,8 +5,8 @@
 //! renamed, so that those of two lists never meet. A clause that holds in the frames up to a number is kept once, as `guard of that frame ->
 //! clause`, and each guard implies the next frame's: so under the guard of a frame just its clauses have to hold.
 //! The frame of number 0 is the list of the first states. Bad states and frames that are not asked about any more
-//! are retired: their guard is false from then on. What the search learns stays, and so does a clause whose place in the frames
-//! another one took, until the search is made anew ([`crate::fresh`]).
+//! are retired: their guard is false from then on. What the search learns stays as long as it is of use, and a clause whose place in the
+//! frames another one took until the search is made anew ([`crate::fresh`]).
 ghost use Rattle.std.specs.Prelude.{◌≡◌, ◌≤◌, ◌<◌, ◌+◌, ◌*◌, ◌^◌, ◌∷◌, ◌++◌, [], IfOk, IfSome, OnOk, All, length};
 ghost use Rattle.xs_lits.specs.Literal.{opposite};
 ghost use Rattle.xs_lits.specs.Derivation.{IsUpTo};
@@ -34,8 +34,9 @@ use xs_value::OutOfMemory;
 /// How many clauses more than twice those that it begins with a search may have.
 const SLACK: usize = 200;
 
-/// How many clauses a search may have learned until it is made anew.
-const MOST_LEARNED: usize = 20_000;
+/// How many clauses a search may have learned until it is made anew. It drops by itself those that are of no more use
+/// ([`Guarded::forget`]), so there are as many only where nearly all of them are of use.
+const MOST_LEARNED: usize = 200_000;
 
 /// What is asked about beside a frame.
 #[derive(Clone, Copy, Debug, PartialEq, Eq)]
@@ -222,6 +223,15 @@ impl Guarded {
         let learned = self.search.learned();
         let given = self.search.count().saturating_sub(learned);
         given <= self.past.most && learned <= MOST_LEARNED
+    }
+
+    /// Has the search drop what it learned and is of no more use, where that is much.
+    pub fn forget(&mut self) -> Result<(), OutOfMemory>
+        requires { IsWell self.old }
+        ensures { OnOk result (HasAsked self.old self.new) }
+    {
+        self.search.forget()?;
+        Ok(())
     }
 
     /// Notes what the searches before this one did. It may have twice the clauses that it has now.

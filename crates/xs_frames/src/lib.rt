@@ -13,8 +13,8 @@
 //! A clause is kept once, with the number of the highest frame in which it holds, until a clause that says more takes its place
 //! (`src/levels.rt`, `specs/Levels.antt`).
 //! All queries go to one search that is kept, over the first states, the steps, the frames and the bad states that
-//! are asked about, each under a guard of its own; so what it learns stays (`src/guarded.rt`, `specs/Guarding.antt`), until it has twice the
-//! clauses that it began with: then it is made anew over what is alive (`src/fresh.rt`).
+//! are asked about, each under a guard of its own; so what it learns stays as long as it is of use (`src/guarded.rt`,
+//! `specs/Guarding.antt`), until it has twice the clauses that it began with: then it is made anew over what is alive (`src/fresh.rt`).
 //!
 //! The same frames serve for other bad states: `begin_again` goes back to the frontier 0, and keeps the search with all that it
 //! has learned. The clauses of an invariant that was found stand in each frame from then on (`src/lasting.rt`); what else was blocked in
