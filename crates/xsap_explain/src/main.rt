@@ -1,7 +1,7 @@
 //! Explains the line by which `xsap_program` refuses an input.
 //!
 //! The words are `explain FILE`, and the line stands on standard input. What it means, how its place is found, and the place in FILE go
-//! to standard output; [`xs_explain`] makes that text. FILE is read only where the place lies in a file. Where nothing can be explained
+//! to standard output; [`xsap_refusals`] makes that text. FILE is read only where the place lies in a file. Where nothing can be explained
 //! one sentence says why, and the status is not 0.
 //!
 //! ```text
@@ -15,8 +15,8 @@ use std::process::ExitCode;
 use std::rt::Files;
 use std::str::from_utf8;
 use std::{env, io};
-use xs_explain::{Explanation, look_up, read_refusal};
-use xs_lexer::OutOfMemory;
+use xsap_refusals::{Explanation, look_up, read_refusal};
+use smv_lexer::OutOfMemory;
 
 /// No line of a refusal has so many bytes.
 const LONGEST_LINE: u64 = 256;

@@ -1,9 +1,9 @@
 //! Extends SMV models with faults, replays traces of the extensions, finds their minimal cut sets, checks
 //! certificates of them, makes tables of them, generates cases, bounds probabilities, and takes in common causes and orders of faults.
 //!
-//! `main` hands [`xs_run::run::run`] the words of the command line, a desk over real files, and the advisers of the searches, and ends
+//! `main` hands [`verb_run::run::run`] the words of the command line, a desk over real files, and the advisers of the searches, and ends
 //! with the number of its status; all that is promised of a run stands at that call, and `ended` promises that the number is that
-//! of the status. The desk over real files is that of `xs_main`.
+//! of the status. The desk over real files is that of `xsap_main`.
 //!
 //! ```text
 //! xsap_program extend --model lamp.smv --faults lamp.fei --extended out.smv
@@ -21,18 +21,18 @@
 #![tactic(auto)]
 
 ghost use Rattle.std.specs.Prelude.{IfOk, map};
-ghost use Rattle.xs_main.specs.Ended.{HasRun, IsEnded};
+ghost use Rattle.xsap_main.specs.Ended.{HasRun, IsEnded};
 
 use std::alloc::{AllocError, Global};
 use std::env;
 use std::io::ErrorKind;
 use std::process::ExitCode;
-use xs_adviser::{Active, Adviser, InOrder};
-use xs_desk::Desk;
-use xs_loading::status::Status;
-use xs_main::{NOT_TEXT, RealDesk, exit_number};
-use xs_run::run::run;
-use xs_value::OutOfMemory;
+use sat_adviser::{Active, Adviser, InOrder};
+use base_files::Desk;
+use verb_loading::status::Status;
+use xsap_main::{NOT_TEXT, RealDesk, exit_number};
+use verb_run::run::run;
+use base_values::OutOfMemory;
 
 /// Runs what the words of the command line ask for, and ends with the number of its status.
 fn main(rt: HostRuntime) -> ExitCode {

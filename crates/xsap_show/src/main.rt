@@ -1,7 +1,7 @@
 //! Shows the report of an analysis in forms for people and for other tools, and tells how two reports differ.
 //!
 //! The words are `show FILE`, with `--format FORM` and `--full` or not, or `diff OLD NEW`; `-` is standard input. A file is the report
-//! that `xsap_program` prints. [`xs_shown`] reads it and makes the texts. All goes to standard output, and nothing before each file was
+//! that `xsap_program` prints. [`xsap_reports`] reads it and makes the texts. All goes to standard output, and nothing before each file was
 //! read and judged; where there is nothing to show one sentence says why, and the status is not 0.
 //!
 //! ```text
@@ -14,11 +14,11 @@ use std::io::{ErrorKind, Read};
 use std::process::ExitCode;
 use std::rt::Files;
 use std::{env, io};
-use xs_shown::{
+use xsap_reports::{
     Fault, Report, ReportFault, Values, changes_of, csv_of_sets, dot_of, html_of, json_of,
     markdown_of, open_psa_of, read, text_of, vcd_of,
 };
-use xs_value::OutOfMemory;
+use base_values::OutOfMemory;
 
 /// A longer file is no report.
 const LONGEST_FILE: u64 = 1_073_741_824;

@@ -2,7 +2,7 @@
 //! a line for each piece of news of the search.
 //!
 //! `main` does what that of `xsap_program` does, and `ended` promises the same. The two advisers are the same ones, each within one that
-//! prints the news which it hears ([`xs_watched::Watched`]).
+//! prints the news which it hears ([`sat_news::Watched`]).
 //!
 //! ```text
 //! xsap_watched analyse --model lamp.smv --faults lamp.fei --top '!on' --depth 4 --extended out.smv --cert out.cert
@@ -10,19 +10,19 @@
 #![tactic(auto)]
 
 ghost use Rattle.std.specs.Prelude.{IfOk, map};
-ghost use Rattle.xs_main.specs.Ended.{HasRun, IsEnded};
+ghost use Rattle.xsap_main.specs.Ended.{HasRun, IsEnded};
 
 use std::alloc::{AllocError, Global};
 use std::env;
 use std::io::{ErrorKind, Stderr};
 use std::process::ExitCode;
-use xs_adviser::{Active, Adviser, InOrder};
-use xs_desk::Desk;
-use xs_loading::status::Status;
-use xs_main::{NOT_TEXT, RealDesk, exit_number};
-use xs_run::run::run;
-use xs_value::OutOfMemory;
-use xs_watched::Watched;
+use sat_adviser::{Active, Adviser, InOrder};
+use base_files::Desk;
+use verb_loading::status::Status;
+use xsap_main::{NOT_TEXT, RealDesk, exit_number};
+use verb_run::run::run;
+use base_values::OutOfMemory;
+use sat_news::Watched;
 
 /// Runs what the words of the command line ask for, and ends with the number of its status.
 fn main(rt: HostRuntime) -> ExitCode {

@@ -1,6 +1,6 @@
 use Rattle.std.proofs.Common.{map}
-use Rattle.xs_loading.specs.declared.status.Status.TheVariants as status
-use Rattle.xs_main.proofs.EndedLaws.{without_memory}
+use Rattle.verb_loading.specs.declared.status.Status.TheVariants as status
+use Rattle.xsap_main.proofs.EndedLaws.{without_memory}
 use Rattle.xsap_watched.proofs.ended.Goals as goal
 
 pub returns-in-Ok : goal.returns-in-Ok

@@ -1,0 +1,16 @@
+use Rattle.std.proofs.Common.{rules, arith, ◌≡◌, ◌+◌, nat_eq, drop, get_or, if◌then◌else◌, ap, ◌∙◌}
+use Rattle.std.specs.List.{list_any}
+use Rattle.std.proofs.lemmas.List.{take_rest}
+use Rattle.base_values.proofs.Different.{counted, few_more}
+use Rattle.base_values.proofs.domain.different_symbols.Goals as goal
+
+pub loop-i-preserved : goal.loop-i-preserved
+loop-i-preserved c =
+    let item = get_or c.args.symbols.now c.loop-i.i 0 in
+    let later : c.contains-later.result ≡ list_any (λ y. nat_eq y item) (drop (c.loop-i.i + 1) c.args.symbols.now) =
+    c.contains-later.ensures.value ∙ ap (list_any (λ y. nat_eq y item)) (take_rest c.args.symbols.now (c.loop-i.i + 1)) in
+    let step : c.from-count.result ≡ (if c.contains-later.result then 0 else 1) = search rules in
+    record {
+      rest = counted nat_eq c.args.symbols.now c.loop-i.i item c.loop-i.count (c.loop-i.count + c.from-count.result) c.contains-later.result c.loop-i-test.true (search rules) later c.loop-i.invariant.rest (omega (arith, step));
+      few = omega (arith, step, c.loop-i.invariant.few, few_more c.contains-later.result);
+    }

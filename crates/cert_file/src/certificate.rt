@@ -1,0 +1,104 @@
+//! The file of a certificate, the end of the work where one is refused, and what is said of one that is accepted.
+//!
+//! The main function is [`load_certificate`]: it reads the file through the desk, and its bytes by `cert_text`.
+ghost use Rattle.std.specs.Prelude.{◌≡◌, ◌≤◌, ◌++◌, codes, length, IfOk, IfSome, IsErrOf};
+ghost use Rattle.base_files.specs.Desk.{Rose};
+ghost use Rattle.cert_text.specs.Seen.{seen};
+ghost use Rattle.cert_check.specs.Fit.{IsCheckable};
+ghost use Rattle.cut_text_laws.specs.AnalysisText.{size_line};
+ghost use Rattle.verb_loading.specs.Tasks.{IsRefusedAbove, HasAtMost};
+ghost use Rattle.cert_file.specs.CertificateFiles.{RefusesCertificate, HoldsCertificate};
+ghost use Rattle.verb_loading.specs.declared.status.InputFault.{InputFault};
+ghost use Rattle.verb_loading.specs.declared.status.Refusal.{Refusal};
+ghost use Rattle.verb_loading.specs.declared.status.Refusal.TheVariants as refusal;
+ghost use Rattle.verb_loading.specs.declared.status.Objection.TheVariants as objection;
+ghost use Rattle.verb_loading.specs.declared.input.Stop.TheVariants as stop;
+
+use std::alloc::Global;
+use cert_text::{CertFault, Certificate, read};
+use cert_check::spelled_are_checkable;
+use base_files::{Desk, DeskFault, read_whole};
+use verb_loading::input::Stop;
+use verb_loading::status::{InputFault, Objection, Part, Refusal};
+use base_values::{ByteList, OutOfMemory};
+
+/// The limit of the file of a certificate, in bytes.
+const CERT_LIMIT: u64 = 268_435_456;
+
+/// The certificate that the file spells.
+pub fn load_certificate<D: Desk>(
+    alloc: Global,
+    desk: &mut D,
+    name: &str,
+) -> Result<Certificate, Stop>
+    ensures ok { IfOk result (λ a. IfSome (D.files desk.old) (λ files. HoldsCertificate files name.now (seen a))) }
+    ensures checkable { IfOk result (λ a. IsCheckable (seen a)) }
+    ensures refused { (r : Refusal) → IsErrOf result (stop.Refused r) → IfSome (D.files desk.old) (λ files. RefusesCertificate files name.now r) }
+    ensures failed { IsErrOf result stop.Desk → Rose (D.faults desk.old) (D.faults desk.new) }
+    ensures files { D.files desk.new ≡ D.files desk.old }
+    ensures said { D.said desk.new ≡ D.said desk.old }
+    ensures later { D.faults desk.old ≤ D.faults desk.new }
+    ensures quiet { D.quiet desk.old → D.quiet desk.new × (D.faults desk.new ≡ D.faults desk.old) }
+{
+    let bytes = read_certificate_file(alloc, desk, name)?;
+    // The law by which what is read can be judged.
+    spelled_are_checkable();
+    match read(alloc, &bytes) {
+        Ok(certificate) => Ok(certificate),
+        Err(CertFault::BadLine(line)) => Err(cert_stop(Part::Read, 1, line)),
+        Err(CertFault::Ends(line)) => Err(cert_stop(Part::Read, 2, line)),
+        Err(CertFault::OutOfMemory) => Err(Stop::Memory),
+    }
+}
+
+/// The bytes of the file of a certificate.
+fn read_certificate_file<D: Desk>(alloc: Global, desk: &mut D, name: &str) -> Result<Vec<u8>, Stop>
+    ensures bytes { IfOk result (λ bytes. IfSome (D.files desk.old) (λ files. HasAtMost 268435456 files name.now bytes.items)) }
+    ensures short { IfOk result (λ bytes. length bytes.items ≤ 268435456) }
+    ensures refused { (r : Refusal) → IsErrOf result (stop.Refused r) →
+        (fault : InputFault) × (r ≡ refusal.NotAccepted (objection.Cert fault))
+        × IfSome (D.files desk.old) (λ files. IsRefusedAbove 268435456 files name.now fault) }
+    ensures failed { IsErrOf result stop.Desk → Rose (D.faults desk.old) (D.faults desk.new) }
+    ensures files { D.files desk.new ≡ D.files desk.old }
+    ensures said { D.said desk.new ≡ D.said desk.old }
+    ensures later { D.faults desk.old ≤ D.faults desk.new }
+    ensures quiet { D.quiet desk.old → D.quiet desk.new × (D.faults desk.new ≡ D.faults desk.old) }
+{
+    match read_whole(alloc, desk, name, CERT_LIMIT) {
+        Ok(bytes) => Ok(bytes),
+        Err(DeskFault::Absent) => Err(cert_stop(Part::Absent, 1, 0)),
+        Err(DeskFault::TooLong) => Err(cert_stop(Part::Length, 1, CERT_LIMIT)),
+        Err(DeskFault::Failed) => Err(Stop::Desk),
+        Err(DeskFault::OutOfMemory) => Err(Stop::Memory),
+    }
+}
+
+/// The end of the work where a rule of the file of a certificate is broken at a place.
+fn cert_stop(part: Part, number: u32, place: u64) -> Stop
+    ensures { result ≡ stop.Refused (refusal.NotAccepted (objection.Cert (record { part = part; number = number; place = place }))) }
+{
+    Stop::Refused(Refusal::NotAccepted(Objection::Cert(InputFault {
+        part,
+        number,
+        place,
+    })))
+}
+
+/// The end of the work where a line of a certificate breaks a rule.
+pub fn line_stop(line: u64, rule: u32) -> Stop
+    ensures { result ≡ stop.Refused (refusal.NotAccepted (objection.Line line rule)) }
+{
+    Stop::Refused(Refusal::NotAccepted(Objection::Line(line, rule)))
+}
+
+/// What is said of an accepted certificate: that it is, and its size where that is below the number of faults.
+pub fn accepted_report(alloc: Global, size: u32, faults: usize) -> Result<ByteList, OutOfMemory>
+    ensures { IfOk result (λ text. text ≡ codes "accepted\n" ++ size_line size faults) }
+{
+    let mut text = ByteList::from_slice(alloc, b"accepted\n")?;
+    if (size as usize) < faults {
+        let line = format!(in alloc; "size {size}\n")?;
+        text.append(line.as_bytes())?;
+    }
+    Ok(text)
+}

@@ -1,0 +1,201 @@
+//! The derivation of one part of a certificate.
+//!
+//! [`derive`] is the main function. It has one search that keeps all its steps: the clauses given are added, once, and then it is
+//! asked for each goal in turn and learns the clauses of its steps. Between the goals stands `IsPartWay`: what the search has, and that
+//! the steps so far cover the goals so far.
+ghost use Rattle.std.specs.Prelude.{◌≡◌, ◌+◌, ◌<◌, ◌≤◌, ◌^◌, true, [], length, take, All, IfOk, OnOk};
+ghost use Rattle.sat_clauses.specs.Literal.{Literal};
+ghost use Rattle.sat_clauses.specs.Models.{FollowsFrom};
+ghost use Rattle.sat_clauses.specs.Derivation.{IsUpTo};
+ghost use Rattle.sat_clauses.specs.Hints.{HasNoOpposites};
+ghost use Rattle.cert_laws.specs.Accepted.{highest_in, highest};
+ghost use Rattle.cert_laws.specs.CertificateText.{AreWritable};
+ghost use Rattle.cert_laws.specs.Derived.{asked};
+ghost use Rattle.cert_making.specs.Queries.{IsSoFar};
+ghost use Rattle.cert_making.specs.Deriving.{IsPartWay, HasPositive};
+
+use std::alloc::Global;
+use sat_adviser::{News, Panel};
+use sat_clauses::clause::ClauseList;
+use sat_clauses::lit::Lit;
+use sat_clauses::recorder::{KeepAll, StepsList};
+use sat_solver::kept::Search;
+use base_values::OutOfMemory;
+
+// The first number that no variable of a search has.
+const END_OF_VARIABLES: u64 = 4611686018427387904;
+
+// The first number that no count of a certificate's text has.
+const END_OF_COUNTS: u64 = 9223372036854775808;
+
+// The highest variable of literals, at least 1.
+fn highest_of(lits: &[Lit]) -> u64
+    ensures { result ≡ highest_in lits.now }
+{
+    let mut most = 1;
+    for lit in lits {
+        most = most.max(lit.var());
+    }
+    most
+}
+
+/// The highest variable of clauses, at least 1.
+pub fn highest(list: &ClauseList) -> u64
+    ensures { result ≡ highest list.now }
+{
+    let mut most = 1;
+    for clause in list.as_slice() {
+        most = most.max(highest_of(clause.lits()));
+    }
+    most
+}
+
+// What a search is asked to derive a clause: the opposites of its literals up to the highest variable.
+fn question(alloc: Global, vars: u64, goal: &[Lit]) -> Result<Vec<Lit>, OutOfMemory>
+    ensures { IfOk result (λ lits. lits.items ≡ asked vars goal.now) }
+{
+    let mut lits = Vec::new(alloc);
+    for lit in goal {
+        if lit.var() <= vars {
+            lits.push(lit.neg())?;
+        }
+    }
+    Ok(lits)
+}
+
+// A search over the clauses given, which keeps all its steps.
+fn search_over(
+    alloc: Global,
+    vars: u64,
+    givens: &ClauseList,
+) -> Result<Search<KeepAll>, OutOfMemory>
+    requires small { vars < 2 ^ 62 }
+    requires vars { vars ≡ highest givens.now }
+    requires in_range { All (All (IsUpTo vars)) givens.now }
+    ensures begun { IfOk result (λ s. IsPartWay givens.now s.kept s.recorder []) }
+    ensures cores { IfOk result (λ s. s.cores ≡ true) }
+{
+    let mut search = Search::new(alloc, vars, KeepAll::new(alloc))?;
+    for clause in givens.as_slice() {
+        search.add(clause)?;
+    }
+    Ok(search)
+}
+
+/// Ends news that were told.
+fn end(news: News<'_>) {
+    // (a value without a destructor ends where it is taken apart)
+    match news {
+        News::Frontier(_steps) => {}
+        News::Set {
+            faults: _faults,
+            steps: _steps,
+        } => {}
+        News::Invariant => {}
+        News::Goal {
+            derived: _derived,
+            count: _count,
+        } => {}
+    }
+}
+
+/// Tells the panel how many goals of a certificate are derived, of so many.
+fn tell(derived: usize, count: usize, panel: &mut Panel)
+    requires { count < 2 ^ 64 }
+{
+    let news = News::Goal { derived, count };
+    panel.hears(&news);
+    end(news);
+}
+
+// Derives one more goal.
+fn cover(
+    alloc: Global,
+    givens: &ClauseList,
+    goals: &ClauseList,
+    place: usize,
+    vars: u64,
+    search: &mut Search<KeepAll>,
+    panel: &mut Panel,
+) -> Result<(), OutOfMemory>
+    requires small { highest givens.now < 2 ^ 62 }
+    requires follow { All (FollowsFrom givens.now) goals.now }
+    requires apart { All HasNoOpposites goals.now }
+    requires place { place < length goals.now }
+    requires vars { vars ≡ highest givens.now }
+    requires cores { search.old.cores ≡ true }
+    requires before { IsPartWay givens.now search.old.kept search.old.recorder (take place goals.now) }
+    ensures way { OnOk result (IsPartWay givens.now search.new.kept search.new.recorder (take (place + 1) goals.now)) }
+    ensures cores { search.new.cores ≡ true }
+{
+    let assumed = question(alloc, vars, goals.at(place).lits())?;
+    tell(place, goals.len(), panel);
+    let _verdict = search.ask(assumed.as_slice(), panel)?;
+    Ok(())
+}
+
+// Sees that the variables of literals are positive.
+fn see_positive(lits: &[Lit])
+    ensures { All (λ (l : Literal). 1 ≤ l.var) lits.now }
+{
+    for lit in lits {
+        let _var = lit.var();
+    }
+}
+
+// Sees that the variables of the steps' clauses are positive.
+fn see_all_positive(steps: &StepsList)
+    ensures { All HasPositive steps.now }
+{
+    let mut i = 0;
+    while i < steps.len() {
+        see_positive(steps.at(i).clause.lits());
+        i += 1;
+    }
+}
+
+// The steps of a derivation that is done. A derivation of 2^63 or more clauses has no text, and there is no memory for one.
+fn finished(
+    givens: &ClauseList,
+    goals: &ClauseList,
+    search: &Search<KeepAll>,
+) -> Result<StepsList, OutOfMemory>
+    requires small { highest givens.now < 2 ^ 62 }
+    requires done { IsPartWay givens.now search.now.kept search.now.recorder goals.now }
+    ensures derived { IfOk result (λ steps. IsSoFar givens.now steps goals.now) }
+    ensures writable { IfOk result (λ steps. AreWritable steps) }
+{
+    if search.count() as u64 >= END_OF_COUNTS {
+        return Err(OutOfMemory);
+    }
+    let made = search.recorder().steps();
+    see_all_positive(made);
+    let steps = made.copy()?;
+    Ok(steps)
+}
+
+/// Steps that each follow from the clauses given and the steps before them, and cover each goal: a given clause or a step's has
+/// literals of the goal alone. They are made by one search over the clauses given and the steps so far, which is asked for each goal and
+/// keeps all its steps. Where a variable is 2^62 or more, it answers want of memory.
+pub fn derive(
+    alloc: Global,
+    givens: &ClauseList,
+    goals: &ClauseList,
+    panel: &mut Panel,
+) -> Result<StepsList, OutOfMemory>
+    requires follow { All (FollowsFrom givens.now) goals.now }
+    requires apart { All HasNoOpposites goals.now }
+    ensures derived { IfOk result (λ steps. IsSoFar givens.now steps goals.now) }
+    ensures writable { IfOk result (λ steps. AreWritable steps) }
+{
+    let vars = highest(givens);
+    if vars >= END_OF_VARIABLES {
+        return Err(OutOfMemory);
+    }
+    panel.ready(vars)?;
+    let mut search = search_over(alloc, vars, givens)?;
+    for place in 0..goals.len() {
+        cover(alloc, givens, goals, place, vars, &mut search, panel)?;
+    }
+    finished(givens, goals, &search)
+}

@@ -1,0 +1,149 @@
+//! The three derivations of a certificate: that its invariant holds first, that every step keeps it, and that it excludes the
+//! bad states.
+//!
+//! [`derive_parts`] makes them, each from the clauses given for its part to the clauses that the part is to show. For the second the
+//! invariant is to be shown of the state next, so [`moved`] writes its clauses over the bits of that state.
+ghost use Rattle.std.specs.Prelude.{◌≡◌, ◌++◌, [], ◌∷◌, map, All, IfOk};
+ghost use Rattle.sat_clauses.specs.Hints.{HasNoOpposites};
+ghost use Rattle.sat_clauses.specs.States.{moved_on, IsOverBits, IsInvariant};
+ghost use Rattle.cert_laws.specs.CertificateText.{AreWritable};
+ghost use Rattle.cert_making.specs.Queries.{IsSoFar};
+ghost use Rattle.cert_making.specs.Deriving.{AreDerived};
+
+use crate::derive::derive;
+use std::alloc::Global;
+use sat_adviser::Panel;
+use sat_clauses::System;
+use sat_clauses::clause::{Clause, ClauseList};
+use sat_clauses::lit::Lit;
+use sat_clauses::recorder::StepsList;
+use base_values::OutOfMemory;
+
+/// The derivations of a certificate.
+#[derive(Drop)]
+pub struct Parts {
+    /// That the invariant holds in each first state.
+    pub first: StepsList,
+    /// That every step keeps it.
+    pub next: StepsList,
+    /// That it holds in no bad state.
+    pub bad: StepsList,
+}
+
+// The clauses of two lists.
+fn both(list: &ClauseList, other: &ClauseList) -> Result<ClauseList, OutOfMemory>
+    ensures { IfOk result (λ all. all ≡ list.now ++ other.now) }
+{
+    let mut all = list.copy()?;
+    for clause in other.as_slice() {
+        all.push(clause.copy()?)?;
+    }
+    Ok(all)
+}
+
+// A clause, over the bits of the state next.
+fn moved_clause(alloc: Global, system: &System, clause: &Clause) -> Result<Clause, OutOfMemory>
+    requires { IsOverBits system.now clause.now }
+    ensures { IfOk result (λ moved. moved ≡ map (moved_on system.now.state_bits) clause.now) }
+{
+    let bits = u64::from(system.state_bits);
+    let mut lits = Vec::new(alloc);
+    for lit in clause.lits() {
+        lits.push(Lit::new(lit.var() + bits, lit.is_negated()))?;
+    }
+    Clause::from_lits(alloc, lits.as_slice())
+}
+
+// The clauses, over the bits of the state next.
+fn moved(alloc: Global, system: &System, list: &ClauseList) -> Result<ClauseList, OutOfMemory>
+    requires { All (IsOverBits system.now) list.now }
+    ensures { IfOk result (λ moved. moved ≡ map (map (moved_on system.now.state_bits)) list.now) }
+{
+    let mut moved = ClauseList::new(alloc);
+    for clause in list.as_slice() {
+        moved.push(moved_clause(alloc, system, clause)?)?;
+    }
+    Ok(moved)
+}
+
+// That the invariant holds in each first state.
+fn derive_first(
+    alloc: Global,
+    system: &System,
+    invariant: &ClauseList,
+    bad: &ClauseList,
+    panel: &mut Panel,
+) -> Result<StepsList, OutOfMemory>
+    requires over_bits { All (IsOverBits system.now) invariant.now }
+    requires apart { All HasNoOpposites invariant.now }
+    requires invariant { IsInvariant system.now bad.now invariant.now }
+    ensures derived { IfOk result (λ steps. IsSoFar system.now.first steps invariant.now) }
+    ensures writable { IfOk result AreWritable }
+{
+    let steps = derive(alloc, &system.first, invariant, panel)?;
+    Ok(steps)
+}
+
+// That every step keeps it.
+fn derive_next(
+    alloc: Global,
+    system: &System,
+    invariant: &ClauseList,
+    bad: &ClauseList,
+    panel: &mut Panel,
+) -> Result<StepsList, OutOfMemory>
+    requires over_bits { All (IsOverBits system.now) invariant.now }
+    requires apart { All HasNoOpposites invariant.now }
+    requires invariant { IsInvariant system.now bad.now invariant.now }
+    ensures derived { IfOk result (λ steps. IsSoFar (system.now.step ++ invariant.now) steps (map (map (moved_on system.now.state_bits)) invariant.now)) }
+    ensures writable { IfOk result AreWritable }
+{
+    let givens = both(&system.step, invariant)?;
+    let goals = moved(alloc, system, invariant)?;
+    let steps = derive(alloc, &givens, &goals, panel)?;
+    Ok(steps)
+}
+
+// That it holds in no bad state.
+fn derive_bad(
+    alloc: Global,
+    system: &System,
+    invariant: &ClauseList,
+    bad: &ClauseList,
+    panel: &mut Panel,
+) -> Result<StepsList, OutOfMemory>
+    requires over_bits { All (IsOverBits system.now) invariant.now }
+    requires invariant { IsInvariant system.now bad.now invariant.now }
+    ensures derived { IfOk result (λ steps. IsSoFar (bad.now ++ invariant.now) steps ([] ∷ [])) }
+    ensures writable { IfOk result AreWritable }
+{
+    let givens = both(bad, invariant)?;
+    let mut goals = ClauseList::new(alloc);
+    goals.push(Clause::from_lits(alloc, &[])?)?;
+    let steps = derive(alloc, &givens, &goals, panel)?;
+    Ok(steps)
+}
+
+/// The derivations of an invariant of a system that excludes the bad states of a list. Each part's steps follow from what is given
+/// for it, cover what it is to show, and can be written.
+pub fn derive_parts(
+    alloc: Global,
+    system: &System,
+    invariant: &ClauseList,
+    bad: &ClauseList,
+    panel: &mut Panel,
+) -> Result<Parts, OutOfMemory>
+    requires over_bits { All (IsOverBits system.now) invariant.now }
+    requires apart { All HasNoOpposites invariant.now }
+    requires invariant { IsInvariant system.now bad.now invariant.now }
+    ensures { IfOk result (AreDerived system.now invariant.now bad.now) }
+{
+    let first = derive_first(alloc, system, invariant, bad, panel)?;
+    let next = derive_next(alloc, system, invariant, bad, panel)?;
+    let last = derive_bad(alloc, system, invariant, bad, panel)?;
+    Ok(Parts {
+        first,
+        next,
+        bad: last,
+    })
+}

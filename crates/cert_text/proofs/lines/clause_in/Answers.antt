@@ -1,0 +1,7 @@
+use Rattle.std.proofs.Common.{sym, codes}
+use Rattle.cert_laws.specs.LineReading.{each_in, literal_in}
+use Rattle.cert_text.proofs.LineLaws.{not_after}
+use Rattle.cert_text.proofs.lines.clause_in.Goals as goal
+
+pub returns-in-None : goal.returns-in-None
+returns-in-None c = sym (not_after (codes "clause") (each_in literal_in) c.args.line.now c.in-None.ensures)

@@ -1,0 +1,7 @@
+use Rattle.cert_text.specs.Cuts.{words_after}
+use Rattle.cert_text.specs.Told.{told_version}
+use Rattle.cert_text.proofs.LineLaws.{no_faults}
+use Rattle.cert_text.proofs.lines.faults_and_size.Goals as goal
+
+pub returns-in-None : goal.returns-in-None
+returns-in-None c = no_faults (told_version c.args.version) c.args.bits (words_after c.args.words.now) c.in-None.ensures

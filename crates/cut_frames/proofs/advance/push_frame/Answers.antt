@@ -1,0 +1,55 @@
+use Rattle.std.proofs.Common.{◌≡◌, sym, ℕ, ◌<◌, All, List, arith, subst, length}
+use Rattle.std.proofs.lemmas.Grind.{common_steps}
+use Rattle.sat_clauses.specs.Literal.{Literal}
+use Rattle.cut_frames.specs.Levels.{frames_of}
+use Rattle.cut_frames.specs.Framed.{frame_at}
+use Rattle.cut_frames.specs.Shown.{IsShown}
+use Rattle.cut_frames.proofs.PushLemmas.{moved_more, places_more}
+use Rattle.cut_frames.proofs.ShownLaws.{frame_stays, all_seen}
+use Rattle.cut_frames.proofs.advance.push_frame.Goals as goal
+
+pub clauses-preserved : goal.clauses-preserved
+clauses-preserved g c =
+    let inv = c.clauses.invariant in
+    record {
+      framed = c.push_clause.ensures.framed;
+      moved = moved_more c.args.system.now c.args.frames.now c.clauses.frames c.push_clause.new.frames c.args.i inv.moved c.push_clause.ensures.moved;
+      pushed = places_more c.args.system.now c.clauses.frames c.push_clause.new.frames c.args.i c.clauses.k c.push_clause.ensures.moved inv.pushed c.in_ok-push_clause.ensures.pushed;
+      seen = subst (λ (frame : List (List Literal)). All (IsShown c.args.system.now frame c.args.i) c.push_clause.new.seen.items)
+          (frame_stays c.args.system.now c.args.frames.now c.clauses.frames c.args.i inv.moved) c.in_ok-push_clause.ensures.seen;
+      kept = c.in_ok-push_clause.ensures.kept;
+    }
+
+pub returns-in_err-push_clause-clause-moved : goal.returns-in_err-push_clause-clause-moved
+returns-in_err-push_clause-clause-moved g c = moved_more c.args.system.now c.args.frames.now c.clauses.frames c.push_clause.new.frames c.args.i c.clauses.invariant.moved c.push_clause.ensures.moved
+
+pub push_clause-requires-clause-next : goal.push_clause-requires-clause-next
+push_clause-requires-clause-next g c = subst (λ (n : ℕ). c.args.i < n) (sym c.clauses.invariant.moved.last) c.requires.next
+
+pub push_clause-requires-clause-place : goal.push_clause-requires-clause-place
+push_clause-requires-clause-place g c =
+    let inside : c.clauses.k < length c.args.frames.now.held.items = grind (arith, common_steps) in
+    subst (λ (n : ℕ). c.clauses.k < n) (sym c.clauses.invariant.moved.count) inside
+
+pub push_clause-requires-clause-seen : goal.push_clause-requires-clause-seen
+push_clause-requires-clause-seen g c =
+    let inv = c.clauses.invariant in
+    subst (λ (frame : List (List Literal)). All (IsShown c.args.system.now frame c.args.i) c.clauses.seen.items)
+    (sym (frame_stays c.args.system.now c.args.frames.now c.clauses.frames c.args.i inv.moved)) inv.seen
+
+pub returns-clause-seen : goal.returns-clause-seen
+returns-clause-seen g c = all_seen c.args.system.now (frame_at (frames_of c.args.frames.now) c.args.i) c.args.i c.clauses.seen.items c.clauses.invariant.seen
+
+pub push_clause-requires-clause-kept : goal.push_clause-requires-clause-kept
+push_clause-requires-clause-kept g c = c.clauses.invariant.kept
+
+pub returns-clause-pushed : goal.returns-clause-pushed
+returns-clause-pushed g c =
+    let over : (k : ℕ) → k < length c.args.frames.now.held.items → k < c.clauses.k = λ k lt. let count : c.len-count.result ≡ length c.args.frames.now.held.items = grind (arith, common_steps) in omega (arith, lt, count, c.clauses-test.false) in
+    λ k lt. c.clauses.invariant.pushed k (over k (subst (λ (n : ℕ). k < n) c.clauses.invariant.moved.count lt))
+
+pub returns-clause-moved : goal.returns-clause-moved
+returns-clause-moved g c = c.clauses.invariant.moved
+
+pub returns-clause-kept : goal.returns-clause-kept
+returns-clause-kept g c = c.clauses.invariant.kept

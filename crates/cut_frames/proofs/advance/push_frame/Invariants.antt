@@ -1,0 +1,16 @@
+use Rattle.std.specs.Prelude.{All}
+use Rattle.cut_frames.specs.Framed.{frame_at}
+use Rattle.cut_frames.specs.Shown.{IsShown}
+use Rattle.cut_frames.specs.Levels.{frames_of, IsLevelled, HasMoved}
+use Rattle.cut_frames.specs.Apart.{IsKept}
+use Rattle.cut_frames.proofs.PushLemmas.{ArePlacesPushed}
+use Rattle.cut_frames.proofs.advance.push_frame.Given as goal
+
+abbrev pub invariant-clauses : goal.invariant-clauses
+invariant-clauses g l = record {
+  framed : IsLevelled l.system l.frames;
+  moved : HasMoved l.system l.initial.frames l.frames l.i;
+  pushed : ArePlacesPushed l.system l.frames l.i l.k;
+  seen : All (IsShown l.system (frame_at (frames_of l.initial.frames) l.i) l.i) l.seen.items;
+  kept : IsKept l.system l.bad (frames_of l.frames) l.kept;
+}

@@ -1,0 +1,13 @@
+use Rattle.std.proofs.Common.{◌≡◌, ◌∷◌, [], List, true, subst, ap, ◌∙◌}
+use Rattle.sat_clauses.specs.Literal.{Literal, opposite}
+use Rattle.cut_frames.specs.Guarding.{HasPut}
+use Rattle.cut_frames.proofs.GuardedLaws.{plain_guard}
+use Rattle.cut_frames.proofs.HeldMore.{adds_bad}
+use Rattle.cut_frames.proofs.guarded.Guarded.add_bad.Goals as goal
+
+pub returns : goal.returns
+returns c =
+    let s = c.args.self.now in
+    let under : c.in_ok-under.under ≡ record { var = s.bad.var; negated = true } ∷ c.args.clause.now =
+    c.in_ok-under.ensures ∙ ap (λ (ls : List Literal). opposite s.bad ∷ ls) c.lits.ensures ∙ ap (λ (b : Literal). opposite b ∷ c.args.clause.now) (plain_guard s.bad c.requires.well.bad.positive) in
+    adds_bad s c.put.new.self c.args.clause.now c.requires.well c.requires.up_to (subst (λ (d : List Literal). HasPut s c.put.new.self (d ∷ [])) under c.in_ok-put.ensures)

@@ -1,0 +1,54 @@
+use Rattle.std.proofs.Common.{◌≡◌, ◌++◌, All, List, refl, sym, subst, arith}
+use Rattle.std.proofs.lemmas.Grind.{common_steps}
+use Rattle.sat_clauses.specs.Derivation.{IsUpTo}
+use Rattle.sat_clauses.specs.Hints.{HasNoOpposites}
+use Rattle.sat_clauses.specs.Literal.{Literal}
+use Rattle.sat_solver.specs.Kept.{IsAnswer, IsRefuted}
+use Rattle.sat_solver.specs.Search.{IsSolution}
+use Rattle.sat_solver.specs.declared.solve.Verdict.TheVariants.{Unsat}
+use Rattle.cut_frames.specs.declared.guarded.Guarded.{Guarded}
+use Rattle.cut_frames.specs.Guarding.{added_in, asked_guards, Tells}
+use Rattle.cut_frames.proofs.GuardedSteps.{asked_well}
+use Rattle.cut_frames.proofs.GuardedLaws.{asks}
+use Rattle.cut_frames.proofs.GuardedVerdicts.{tells_sat, tells_unsat, asked_up_to, asked_apart}
+use Rattle.cut_frames.proofs.guarded.Guarded.ask.Goals as goal
+
+pub ask-requires-clause-in_range : goal.ask-requires-clause-in_range
+ask-requires-clause-in_range g c =
+    let s = c.args.self.now in
+    let under : c.as_slice.result.now ≡ asked_guards s c.args.beside c.args.frame ++ c.args.assumptions.now = grind (arith, common_steps) in
+    subst (All (IsUpTo s.search.kept.vars)) (sym under) (asked_up_to s c.args.beside c.args.frame c.args.assumptions.now c.requires.well c.requires.frame c.requires.up_to)
+
+pub ask-requires-clause-apart : goal.ask-requires-clause-apart
+ask-requires-clause-apart g c =
+    let s = c.args.self.now in
+    let under : c.as_slice.result.now ≡ asked_guards s c.args.beside c.args.frame ++ c.args.assumptions.now = grind (arith, common_steps) in
+    subst HasNoOpposites (sym under) (asked_apart s c.args.beside c.args.frame c.args.assumptions.now c.requires.well c.requires.frame c.requires.up_to c.requires.apart)
+
+pub returns-in-Sat-clause-asked : goal.returns-in-Sat-clause-asked
+returns-in-Sat-clause-asked g c =
+    let s = c.args.self.now in
+    let t : Guarded = record { search = c.ask.new.self; vars = s.vars; places = s.places; step = s.step; bad = s.bad; frames = s.frames; past = s.past } in
+    asks s t (asked_well s t _ _ _ c.requires.well (record { places = refl; step = refl; bad = refl; frames = refl }) refl c.in_ok-values.ensures.vars c.in_ok-values.ensures.learned)
+
+pub returns-in-Sat-clause-verdict : goal.returns-in-Sat-clause-verdict
+returns-in-Sat-clause-verdict g c =
+    let s = c.args.self.now in
+    let under : c.as_slice.result.now ≡ asked_guards s c.args.beside c.args.frame ++ c.args.assumptions.now = grind (arith, common_steps) in
+    let answer = subst (IsAnswer s.search.cores s.search.kept.vars (added_in s) c.ask.new.self.kept.clauses c.as_slice.result.now) c.in-Sat.is c.in_ok-values.ensures.answer in
+    tells_sat s c.args.beside c.args.frame s.search.kept.vars c.args.assumptions.now c.in-Sat.values c.requires.well c.requires.frame (subst (λ (ls : List Literal). IsSolution s.search.kept.vars (added_in s) ls c.in-Sat.values) under answer)
+
+pub returns-clause-asked : goal.returns-clause-asked
+returns-clause-asked g c =
+    let s = c.args.self.now in
+    let t : Guarded = record { search = c.ask.new.self; vars = s.vars; places = s.places; step = s.step; bad = s.bad; frames = s.frames; past = s.past } in
+    asks s t (asked_well s t _ _ _ c.requires.well (record { places = refl; step = refl; bad = refl; frames = refl }) refl c.in_ok-values.ensures.vars c.in_ok-values.ensures.learned)
+
+pub returns-clause-verdict : goal.returns-clause-verdict
+returns-clause-verdict g c =
+    let s = c.args.self.now in
+    let under : c.as_slice.result.now ≡ asked_guards s c.args.beside c.args.frame ++ c.args.assumptions.now = grind (arith, common_steps) in
+    let answer = subst (IsAnswer s.search.cores s.search.kept.vars (added_in s) c.ask.new.self.kept.clauses c.as_slice.result.now) c.in-Unsat.is c.in_ok-values.ensures.answer in
+    subst (λ (core : List Literal). Tells s c.args.beside c.args.frame c.args.assumptions.now (Unsat core)) (sym c.in_ok-without_guards-in-Unsat.ensures)
+    (tells_unsat s s.search.cores c.args.beside c.args.frame c.ask.new.self.kept.clauses c.args.assumptions.now c.in-Unsat.core c.requires.well c.requires.frame c.requires.up_to
+    (subst (λ (ls : List Literal). IsRefuted s.search.cores (added_in s) c.ask.new.self.kept.clauses ls c.in-Unsat.core) under answer))

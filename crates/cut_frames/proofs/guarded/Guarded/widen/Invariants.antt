@@ -1,0 +1,5 @@
+use Rattle.cut_frames.specs.Guarding.{HasWidened}
+use Rattle.cut_frames.proofs.guarded.Guarded.widen.Given as goal
+
+abbrev pub invariant-loop : goal.invariant-loop
+invariant-loop g l = HasWidened l.initial.self l.self l.counter

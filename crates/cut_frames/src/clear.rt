@@ -1,0 +1,308 @@
+//! Clearing the last frame of bad states. A state that is bad, or from which a step leads to an obligation, is an obligation
+//! of its own in the frame one lower; one of the frame of number 0 is a first state and ends a path. Where no
+//! state leads to an obligation, a clause blocks it in the frames up to its own: of the literals of two cores, one of
+//! the first states and one of the steps, as few as are needed. A bad state is shrunk before it is an obligation. `clear_frames` is the
+//! main function.
+ghost use Rattle.std.specs.Prelude.{◌≡◌, ◌≤◌, ◌<◌, ◌+◌, ◌-◌, map, All, IfOk, OnOk, OnErr};
+ghost use Rattle.sat_clauses.specs.Literal.{opposite};
+ghost use Rattle.cut_frames.specs.Bits.{literals_from, moved_back};
+ghost use Rattle.cut_frames.specs.Condition.{IsFit, IsOverNow};
+ghost use Rattle.cut_frames.specs.Guarding.{HasAsked};
+ghost use Rattle.cut_frames.specs.Minimal.{IsPlain, FindsMinimal};
+ghost use Rattle.cut_frames.specs.Parts.{IsPart, IsOfFirst, IsAfter, AreAgreed, HoldsFrames};
+ghost use Rattle.cut_frames.specs.Framed.{AreStronger, InNumber};
+ghost use Rattle.cut_frames.specs.Levels.{frames_of, with_clause, IsLevelled};
+ghost use Rattle.cut_frames.specs.Looked.{Blocks, IsBadLook, IsStepLook, IsLook, IsCleared};
+ghost use Rattle.cut_frames.specs.Chain.{IsState, IsOverBits};
+ghost use Rattle.cut_frames.specs.Path.{AreOwed};
+ghost use Rattle.cut_frames.specs.Apart.{IsKept};
+
+use crate::bits::{State, broken_by, join, literals, read, state_moment, step_moment};
+use crate::fresh::freshen;
+use crate::guarded::{Beside, Guarded};
+use crate::levels::Levels;
+use crate::outline::Outline;
+use crate::shrink::shrink;
+use crate::smaller::{chosen, smaller};
+use crate::steps::StepList;
+use sat_adviser::Panel;
+use sat_clauses::System;
+use sat_clauses::assign::Assign;
+use sat_clauses::clause::{Clause, ClauseList};
+use sat_clauses::lit::Lit;
+use sat_solver::solve::Verdict;
+use base_values::OutOfMemory;
+
+/// What is found where the frames are looked at once.
+#[derive(Drop)]
+pub enum Look {
+    /// There is no obligation, and no bad state in the last frame.
+    Nothing,
+    /// The newest obligation is a first state.
+    IsFirst,
+    /// A bad state, or one from which a step leads to the newest obligation: an obligation more.
+    Deeper(Assign),
+    /// No state leads to the newest obligation: this clause blocks it.
+    Blocked(Clause),
+}
+
+/// The answer of `clear`.
+#[derive(Drop)]
+pub enum Cleared {
+    /// No state of the frontier's frame is bad.
+    Clear,
+    /// A path from a first state into a bad one, with at most as many steps as the frontier's number.
+    Path(StepList),
+}
+
+/// Looks for a bad state in the last frame, one that makes as few of the history literals true as any that make no other of them true.
+fn look_for_bad(
+    system: &System,
+    frames: &Levels,
+    bad: &ClauseList,
+    history: &[Lit],
+    kept: &mut Guarded,
+    panel: &mut Panel,
+) -> Result<Look, OutOfMemory>
+    requires fit { IsFit system.now }
+    requires framed { IsLevelled system.now frames.now }
+    requires history { IsOverBits system.now history.now }
+    requires positive { All IsPlain history.now }
+    requires kept { IsKept system.now bad.now (frames_of frames.now) kept.old }
+    ensures look { IfOk result (λ look. IsBadLook system.now bad.now (frames_of frames.now) look) }
+    ensures minimal { IfOk result (FindsMinimal system.now bad.now (frames_of frames.now) history.now) }
+    ensures kept { IfOk result (λ _. IsKept system.now bad.now (frames_of frames.now) kept.new) }
+{
+    match kept.ask(Beside::Bad, frames.last, &[], panel)? {
+        Verdict::Unsat(_core) => Ok(Look::Nothing),
+        Verdict::Sat(values) => {
+            let least = shrink(system, frames, bad, history, values, kept, panel)?;
+            let moment = state_moment(*frames.held.allocator(), system, &least)?;
+            Ok(Look::Deeper(moment))
+        }
+    }
+}
+
+/// A clause that blocks a state, of literals that every first state needs and of those that steps from the frame before need.
+fn blocking(
+    outline: &mut Outline,
+    system: &System,
+    frames: &Levels,
+    level: usize,
+    state: &State,
+    first: &Clause,
+    core: &Clause,
+    kept: &mut Guarded,
+    panel: &mut Panel,
+) -> Result<Clause, OutOfMemory>
+    requires fit { IsFit system.now }
+    requires framed { IsLevelled system.now frames.now }
+    requires agreed { AreAgreed system.now outline.old.agreed.items }
+    requires some { 0 < level }
+    requires level { level ≤ frames.now.last }
+    requires state { IsState system.now state.now }
+    requires first { IsPart first.now (map opposite (literals_from 2 state.now)) × IsOfFirst system.now first.now }
+    requires core { IsPart core.now (map opposite (literals_from (system.now.state_bits + 2) state.now)) }
+    requires after { IsAfter system.now (frames_of frames.now) level (map (moved_back system.now.state_bits) core.now) }
+    requires kept { HoldsFrames system.now (frames_of frames.now) kept.old }
+    ensures same { outline.new.agreed.items ≡ outline.old.agreed.items }
+    ensures blocks { IfOk result (Blocks system.now (frames_of frames.now) level state.now) }
+    ensures asked { IfOk result (λ _. HasAsked kept.old kept.new) }
+{
+    let alloc = *frames.held.allocator();
+    let bits = u64::from(system.state_bits);
+    let broken = broken_by(alloc, state.as_slice())?;
+    let none = Clause::from_lits(alloc, &[])?;
+    let after = join(alloc, bits, &none, core)?;
+    let clause = chosen(alloc, bits, &broken, first, &after)?;
+    let least = smaller(outline, system, frames, level, clause, kept, panel)?;
+    Ok(least)
+}
+
+/// Looks from a state of the frame of a number, which is no first state, for one before it.
+fn look_for_step(
+    outline: &mut Outline,
+    system: &System,
+    frames: &Levels,
+    level: usize,
+    state: &State,
+    first: &Clause,
+    kept: &mut Guarded,
+    panel: &mut Panel,
+) -> Result<Look, OutOfMemory>
+    requires fit { IsFit system.now }
+    requires framed { IsLevelled system.now frames.now }
+    requires agreed { AreAgreed system.now outline.old.agreed.items }
+    requires some { 0 < level }
+    requires level { level ≤ frames.now.last }
+    requires state { IsState system.now state.now }
+    requires first { IsPart first.now (map opposite (literals_from 2 state.now)) × IsOfFirst system.now first.now }
+    requires kept { HoldsFrames system.now (frames_of frames.now) kept.old }
+    ensures same { outline.new.agreed.items ≡ outline.old.agreed.items }
+    ensures look { IfOk result (λ look. IsStepLook system.now (frames_of frames.now) level state.now look) }
+    ensures asked { IfOk result (λ _. HasAsked kept.old kept.new) }
+{
+    let alloc = *frames.held.allocator();
+    let next = literals(alloc, u64::from(system.state_bits) + 2, state.as_slice())?;
+    match kept.ask(Beside::Step, level - 1, next.as_slice(), panel)? {
+        Verdict::Sat(values) => {
+            let moment = step_moment(alloc, system, &values)?;
+            Ok(Look::Deeper(moment))
+        }
+        Verdict::Unsat(core) => {
+            let clause = blocking(
+                outline, system, frames, level, state, first, &core, kept, panel,
+            )?;
+            Ok(Look::Blocked(clause))
+        }
+    }
+}
+
+/// Looks from a state of the frame of a number for one before it.
+fn look_before(
+    outline: &mut Outline,
+    system: &System,
+    frames: &Levels,
+    level: usize,
+    state: &State,
+    kept: &mut Guarded,
+    panel: &mut Panel,
+) -> Result<Look, OutOfMemory>
+    requires fit { IsFit system.now }
+    requires framed { IsLevelled system.now frames.now }
+    requires agreed { AreAgreed system.now outline.old.agreed.items }
+    requires level { level ≤ frames.now.last }
+    requires state { IsState system.now state.now }
+    requires inside { InNumber system.now (frames_of frames.now) level state.now }
+    requires kept { HoldsFrames system.now (frames_of frames.now) kept.old }
+    ensures same { outline.new.agreed.items ≡ outline.old.agreed.items }
+    ensures look { IfOk result (λ look. IsStepLook system.now (frames_of frames.now) level state.now look) }
+    ensures asked { IfOk result (λ _. HasAsked kept.old kept.new) }
+{
+    if level == 0 {
+        return Ok(Look::IsFirst);
+    }
+    match outline.core_against(system, state, kept, panel)? {
+        None => Ok(Look::IsFirst),
+        Some(first) => {
+            let look = look_for_step(outline, system, frames, level, state, &first, kept, panel)?;
+            Ok(look)
+        }
+    }
+}
+
+/// The number of the newest of so many obligations' frame.
+fn level_of(frames: &Levels, owed: usize) -> usize
+    requires some { 0 < owed }
+    requires fits { owed ≤ frames.now.last + 1 }
+    ensures { result ≡ frames.now.last + 1 - owed }
+{
+    frames.last - (owed - 1)
+}
+
+/// Looks at the newest obligation, or where there is none for a bad state.
+fn look_once(
+    outline: &mut Outline,
+    system: &System,
+    frames: &Levels,
+    bad: &ClauseList,
+    history: &[Lit],
+    owed: &[Assign],
+    kept: &mut Guarded,
+    panel: &mut Panel,
+) -> Result<Look, OutOfMemory>
+    requires fit { IsFit system.now }
+    requires framed { IsLevelled system.now frames.now }
+    requires agreed { AreAgreed system.now outline.old.agreed.items }
+    requires history { IsOverBits system.now history.now }
+    requires positive { All IsPlain history.now }
+    requires owed { AreOwed system.now bad.now (frames_of frames.now) owed.now }
+    requires kept { IsKept system.now bad.now (frames_of frames.now) kept.old }
+    ensures same { outline.new.agreed.items ≡ outline.old.agreed.items }
+    ensures look { IfOk result (λ look. IsLook system.now bad.now (frames_of frames.now) owed.now look) }
+    ensures kept { IfOk result (λ _. IsKept system.now bad.now (frames_of frames.now) kept.new) }
+{
+    if owed.is_empty() {
+        kept.shun(history);
+        let last = look_for_bad(system, frames, bad, history, kept, panel)?;
+        return Ok(last);
+    }
+    let level = level_of(frames, owed.len());
+    let bits = u64::from(system.state_bits);
+    let state = read(*frames.held.allocator(), 2, bits, &owed[owed.len() - 1])?;
+    let look = look_before(outline, system, frames, level, &state, kept, panel)?;
+    Ok(look)
+}
+
+/// Puts a clause into the frames up to a number, in the place of those that say no more, and into the search, where those stay.
+pub fn block(
+    system: &System,
+    frames: &mut Levels,
+    bad: &ClauseList,
+    level: usize,
+    clause: Clause,
+    kept: &mut Guarded,
+) -> Result<(), OutOfMemory>
+    requires some { 0 < level }
+    requires level { level ≤ frames.old.last }
+    requires clause { IsOverBits system.now clause }
+    requires kept { IsKept system.now bad.now (frames_of frames.old) kept.old }
+    requires framed { IsLevelled system.now frames.old }
+    ensures last { frames.new.last ≡ frames.old.last }
+    ensures ok { OnOk result (frames.new.held.items ≡ with_clause level clause frames.old.held.items) }
+    ensures err { OnErr result (frames.new.held.items ≡ frames.old.held.items) }
+    ensures kept { OnOk result (IsKept system.now bad.now (frames_of frames.new) kept.new) }
+{
+    kept.add(level, &clause)?;
+    frames.put(level, clause)?;
+    Ok(())
+}
+
+/// Returns a path from a first state into bad, or that no state of the last frame is bad.
+pub fn clear_frames(
+    outline: &mut Outline,
+    system: &System,
+    frames: &mut Levels,
+    bad: &ClauseList,
+    history: &[Lit],
+    kept: &mut Guarded,
+    panel: &mut Panel,
+) -> Result<Cleared, OutOfMemory>
+    requires fit { IsFit system.now }
+    requires framed { IsLevelled system.now frames.old }
+    requires agreed { AreAgreed system.now outline.old.agreed.items }
+    requires history { IsOverBits system.now history.now }
+    requires positive { All IsPlain history.now }
+    requires bad { All (All (IsOverNow system.now)) bad.now }
+    requires kept { IsKept system.now bad.now (frames_of frames.old) kept.old }
+    ensures framed { IsLevelled system.now frames.new }
+    ensures last { frames.new.last ≡ frames.old.last }
+    ensures stronger { AreStronger system.now (frames_of frames.old) (frames_of frames.new) }
+    ensures same { outline.new.agreed.items ≡ outline.old.agreed.items }
+    ensures cleared { IfOk result (λ answer. IsCleared system.now bad.now (frames_of frames.new) answer) }
+    ensures kept { IfOk result (λ _. IsKept system.now bad.now (frames_of frames.new) kept.new) }
+{
+    let mut owed = StepList::new(*frames.held.allocator());
+    'looks: loop {
+        freshen(system, frames, bad, kept, panel)?;
+        match look_once(
+            outline,
+            system,
+            frames,
+            bad,
+            history,
+            owed.as_slice(),
+            kept,
+            panel,
+        )? {
+            Look::Nothing => return Ok(Cleared::Clear),
+            Look::IsFirst => return Ok(Cleared::Path(owed.reversed())),
+            Look::Deeper(moment) => owed.push(moment)?,
+            Look::Blocked(clause) => {
+                let level = level_of(frames, owed.len());
+                block(system, frames, bad, level, clause, kept)?;
+                owed.pop();
+            }
+        }
+    }
+}

@@ -1,0 +1,6 @@
+-- the values so far
+use Rattle.std.proofs.Common.{◌≡◌, take}
+use Rattle.cut_search.proofs.show.cut_moment.Given as goal
+
+abbrev pub invariant-loop-i : goal.invariant-loop-i
+invariant-loop-i l = l.cut ≡ take l.i l.moment

@@ -1,0 +1,187 @@
+//! The branch of an effect: [`branch`] makes what the read value is assigned while the mode stands.
+//! The trees are those of `branch` in `specs/Templates.antt`.
+
+ghost use Rattle.std.specs.Prelude.{◌≡◌, IfOk, map, All};
+ghost use Rattle.smv_language.specs.ProgramTree.{declared_tree, range};
+ghost use Rattle.smv_language.specs.Tree.{binary as binary_of, choice as choice_of, not_of};
+ghost use Rattle.smv_language.specs.Written.{tree_of};
+ghost use Rattle.fault_instructions.specs.Instructions.{effect_tree, constant_value};
+ghost use Rattle.fault_instructions.specs.AddedNames.{own_name as own_name_of};
+ghost use Rattle.fault_instructions.specs.Numbers.{HasNegation, ValueHasNegation, MemberHasNegation, EffectHasNegations, TypeHasNegations};
+ghost use Rattle.fault_instructions.specs.Templates.{named as named_tree, number_tree, value_tree, domain_tree, clipped_tree, branch as branch_of};
+ghost use Rattle.smv_language.specs.Trace.{value_of_member};
+
+use crate::build::{binary, choice, named, not, number, set_of_two};
+use crate::names::own_name;
+use crate::{Constant, Effect};
+use std::alloc::Global;
+use smv_language::{Declared, Expr, ExprList, Member, Op};
+use base_values::{Dotted, Items, Name, OutOfMemory};
+
+/// What the read value of the variable is assigned while a mode of the effect stands: one value, or
+/// the set of those that a rule section then restricts. The variable is declared so in the program.
+pub fn branch(
+    alloc: Global,
+    e: &Effect,
+    target: &Name,
+    d: &Declared,
+) -> Result<Expr<Dotted>, OutOfMemory>
+    requires effect { EffectHasNegations (effect_tree e.now) }
+    requires declared { TypeHasNegations (declared_tree d.now) }
+    ensures { IfOk result (λ made. tree_of made ≡ branch_of (effect_tree e.now) (declared_tree d.now) target.now) }
+{
+    match e {
+        Effect::StuckAt(c) => constant(alloc, c),
+        Effect::Follows(value) => value.copy(alloc),
+        Effect::Inverted => inverted(alloc, target),
+        Effect::Offset(distance) => moved(alloc, target, *distance, d),
+        Effect::Random
+        | Effect::Erroneous
+        | Effect::Frozen
+        | Effect::StuckAtPick
+        | Effect::RampDown(_, _) => domain(alloc, d),
+    }
+}
+
+/// The own value of a variable.
+pub fn own_value(alloc: Global, variable: &Name) -> Result<Expr<Dotted>, OutOfMemory>
+    ensures { IfOk result (λ made. tree_of made ≡ named_tree (own_name_of variable.now)) }
+{
+    let name = own_name(alloc, variable)?;
+    named(alloc, name)
+}
+
+/// A name of the program.
+pub fn name_of(alloc: Global, name: &Name) -> Result<Expr<Dotted>, OutOfMemory>
+    ensures { IfOk result (λ made. tree_of made ≡ named_tree name.now) }
+{
+    let name = name.copy()?;
+    named(alloc, name)
+}
+
+/// The opposite of the own value.
+fn inverted(alloc: Global, target: &Name) -> Result<Expr<Dotted>, OutOfMemory>
+    ensures { IfOk result (λ made. tree_of made ≡ not_of (named_tree (own_name_of target.now))) }
+{
+    let own = own_value(alloc, target)?;
+    not(alloc, own)
+}
+
+/// The own value and the distance, clipped to the range.
+fn moved(
+    alloc: Global,
+    target: &Name,
+    distance: i64,
+    d: &Declared,
+) -> Result<Expr<Dotted>, OutOfMemory>
+    requires distance { HasNegation distance }
+    requires declared { TypeHasNegations (declared_tree d.now) }
+    ensures { IfOk result (λ made. tree_of made ≡ clipped_tree (declared_tree d.now)
+        (binary_of Op.Plus (named_tree (own_name_of target.now)) (number_tree distance))) }
+{
+    let own = own_value(alloc, target)?;
+    let distance = number(alloc, distance)?;
+    let sum = binary(alloc, Op::Plus, own, distance)?;
+    clipped(alloc, d, sum)
+}
+
+/// A constant, as an expression.
+fn constant(alloc: Global, c: &Constant) -> Result<Expr<Dotted>, OutOfMemory>
+    requires { ValueHasNegation (constant_value c.now) }
+    ensures { IfOk result (λ made. tree_of made ≡ value_tree (constant_value c.now)) }
+{
+    match c {
+        Constant::Truth(b) => Ok(Expr::Truth(*b)),
+        Constant::Number(n) => number(alloc, *n),
+        Constant::Symbol(x) => name_of(alloc, x),
+    }
+}
+
+/// A member of a type, as an expression.
+fn member(alloc: Global, member: &Member) -> Result<Expr<Dotted>, OutOfMemory>
+    requires { MemberHasNegation member.now }
+    ensures { IfOk result (λ made. tree_of made ≡ value_tree (value_of_member member.now)) }
+{
+    match member {
+        Member::Number(n) => number(alloc, *n),
+        Member::Symbol(x) => name_of(alloc, x),
+    }
+}
+
+/// The members of a type, as expressions.
+fn members(alloc: Global, members: &[Member]) -> Result<ExprList<Dotted>, OutOfMemory>
+    requires { All MemberHasNegation members.now }
+    ensures { IfOk result (λ made. map tree_of made ≡ map (λ m. value_tree (value_of_member m)) members.now) }
+{
+    let mut made = Items::new(alloc);
+    for one in members {
+        made.push(member(alloc, one)?)?;
+    }
+    Ok(made)
+}
+
+/// The set of the values of a type.
+#[tactic(auto, using(smv_language::proofs::WrittenLaws::tree_of_set))]
+fn domain(alloc: Global, d: &Declared) -> Result<Expr<Dotted>, OutOfMemory>
+    requires { TypeHasNegations (declared_tree d.now) }
+    ensures { IfOk result (λ made. tree_of made ≡ domain_tree (declared_tree d.now)) }
+{
+    match d {
+        Declared::Boolean => set_of_two(alloc, Expr::Truth(false), Expr::Truth(true)),
+        Declared::Range(lo, hi) => Ok(Expr::Span(*lo, *hi)),
+        Declared::Members(list) => Ok(Expr::SetOf(members(alloc, list.as_slice())?)),
+        Declared::Instance(_, _) => Ok(Expr::SetOf(Items::new(alloc))),
+    }
+}
+
+/// A comparison of an expression with a number.
+pub fn compared(
+    alloc: Global,
+    op: Op,
+    e: &Expr<Dotted>,
+    n: i64,
+) -> Result<Expr<Dotted>, OutOfMemory>
+    requires { HasNegation n }
+    ensures { IfOk result (λ made. tree_of made ≡ binary_of op (tree_of e.now) (number_tree n)) }
+{
+    let copy = e.copy(alloc)?;
+    let n = number(alloc, n)?;
+    binary(alloc, op, copy, n)
+}
+
+/// The number where the test is TRUE, else the expression.
+fn replaced(
+    alloc: Global,
+    test: Expr<Dotted>,
+    n: i64,
+    e: Expr<Dotted>,
+) -> Result<Expr<Dotted>, OutOfMemory>
+    requires { HasNegation n }
+    ensures { IfOk result (λ made. tree_of made ≡ choice_of (tree_of test) (number_tree n) (tree_of e)) }
+{
+    let n = number(alloc, n)?;
+    choice(alloc, test, n, e)
+}
+
+/// The number of the range that is nearest to that of the expression.
+fn clipped(alloc: Global, d: &Declared, e: Expr<Dotted>) -> Result<Expr<Dotted>, OutOfMemory>
+    requires { TypeHasNegations (declared_tree d.now) }
+    ensures { IfOk result (λ made. tree_of made ≡ clipped_tree (declared_tree d.now) (tree_of e)) }
+{
+    match d {
+        Declared::Range(lo, hi) => clipped_to(alloc, *lo, *hi, e),
+        Declared::Boolean | Declared::Members(_) | Declared::Instance(_, _) => Ok(e),
+    }
+}
+
+/// The number from `lo` to `hi` that is nearest to that of the expression.
+fn clipped_to(alloc: Global, lo: i64, hi: i64, e: Expr<Dotted>) -> Result<Expr<Dotted>, OutOfMemory>
+    requires lo { HasNegation lo }
+    requires hi { HasNegation hi }
+    ensures { IfOk result (λ made. tree_of made ≡ clipped_tree (range lo hi) (tree_of e)) }
+{
+    let above = compared(alloc, Op::Greater, &e, hi)?;
+    let below = compared(alloc, Op::Less, &e, lo)?;
+    let inner = replaced(alloc, below, lo, e)?;
+    replaced(alloc, above, hi, inner)
+}

@@ -1,0 +1,311 @@
+-- What is still expected of a symbol after a lexeme, with that lexeme before it, is what the symbol stands for.
+use Rattle.std.proofs.Common.{◌≡◌, inl, inr, ◌⊎◌, ℕ, Bool, true, false, List, [], ◌∷◌, ◌++◌, Option, Some, refl, sym, ◌∙◌, ap, subst, append_assoc, append-nil}
+use Rattle.std.specs.Prelude.{◌||◌, codes, if◌then◌else◌}
+use Rattle.smv_lexer.specs.declared.token.TokenKind.TheVariants as k
+use Rattle.smv_language.specs.ProgramTree.{Text}
+use Rattle.smv_language.specs.Lexemes.{Lexeme, word, num, sign}
+use Rattle.smv_language.specs.Spells.{plain_int, minus_int}
+use Rattle.smv_language.specs.SpellsProgram.{no_more, one_more}
+use Rattle.fault_instructions.specs.SpellsInstructions.{IsTokenText, number_text, word_text, sign_of, const_true, const_false, const_int, const_name, e_stuck, e_follows, e_inverted, e_random, e_erroneous, e_frozen, e_pick, e_offset, e_ramp, d_permanent, d_transient, a_guard, SpellsMark, no_mark, a_mark, a_mode, at_any, a_slice, an_extension, unnamed, named}
+use Rattle.smv_expression_reader.specs.Recognise.{role_of, is_whole}
+use Rattle.smv_expression_reader.specs.Recognise as machine
+use Rattle.smv_expression_reader.specs.Places.{is_word, text_in}
+use Rattle.smv_expression_reader.specs.Marks.{Mark, a_name, a_number, s_open_brace, s_close_brace, s_minus, mark_of}
+use Rattle.smv_expression_reader.proofs.Rest.{accepted_spelled}
+use Rattle.smv_expression_reader.proofs.Marks.{Marked, marked, word_there}
+use Rattle.fault_reader.specs.InstructionRead.{the_name, the_number, the_open, the_close, the_comma, the_colon, the_semicolon, Sym, is_single, IsMark, IsMode, spelled, expr, after_extensions, after_mark, after_in_mark, after_int, after_constant, is_plain, after_effect, next, where_so, instructions}
+use Rattle.fault_reader.specs.InstructionRead as s
+use Rattle.fault_reader.proofs.Through.{That, one, key, Means_of, Through, where_true, where_word, if_word, live_sound, that}
+use Rattle.smv_expression_reader.proofs.Meanings.{last, Leads}
+
+-- a lexeme that closes no mark is spelled by its text
+token_text : (t : Lexeme) → (mark_of t ≡ s_close_brace → ⊥) → IsTokenText t (text_in t)
+token_text (word x) h = word_text
+token_text (num n d) h = number_text
+token_text (sign s) h = sign_of (λ e. h (ap (λ z. mark_of (sign z)) e))
+
+-- a test of two words
+either_word : (t : Lexeme) (v w : List ℕ) → (is_word t v || is_word t w) ≡ true → (t ≡ word v) ⊎ (t ≡ word w)
+either_word t v w h = go (is_word t v) refl h
+  where
+    go : (b : Bool) → is_word t v ≡ b → (b || is_word t w) ≡ true → (t ≡ word v) ⊎ (t ≡ word w)
+    go true e h = inl (word_there t v e)
+    go false e h = inr (word_there t w h)
+
+sound_extensions : (t : Lexeme) (ts : List Lexeme) → Through (after_extensions t) ts → spelled s.extensions (t ∷ ts)
+unfolding That
+sound_extensions t ts h =
+    let w = where_word t (codes "EXTENSION") (s.keyword (codes "OF") ∷ s.keyword (codes "MODULE") ∷ s.single the_name ∷ s.slices ∷ s.extensions ∷ []) ts h in
+    let a = key (codes "OF") (s.keyword (codes "MODULE") ∷ s.single the_name ∷ s.slices ∷ s.extensions ∷ []) ts w.1 in
+    let b = key (codes "MODULE") (s.single the_name ∷ s.slices ∷ s.extensions ∷ []) a.0 a.2 in
+    let n = one the_name (s.slices ∷ s.extensions ∷ []) b.0 b.2 in
+    let m = n.means in
+    let more = last instructions s.extensions m.1 m.4 in
+    let name = n.that in
+    let e0 = w.0 in let e1 = a.1 in let e2 = b.1 in let e3 = n.whole in let e4 = name.1 in let e5 = m.2 in
+    let whole : word (codes "EXTENSION") ∷ word (codes "OF") ∷ word (codes "MODULE") ∷ word name.0 ∷ (m.0 ++ m.1) ≡ t ∷ ts = cc in
+    subst (spelled s.extensions) whole (_, one_more (an_extension name.2 m.3.1) more.1)
+
+sound_file : (t : Lexeme) (ts : List Lexeme) → Through (next s.file t) ts → spelled s.file (t ∷ ts)
+unfolding That Leads
+sound_file t ts h = go (if_word t (codes "FAULT") (Some (s.keyword (codes "EXTENSION") ∷ s.single the_name ∷ s.extensions ∷ [])) (after_extensions t) ts h)
+  where
+    go : ((t ≡ word (codes "FAULT")) × Means_of (s.keyword (codes "EXTENSION") ∷ s.single the_name ∷ s.extensions ∷ []) ts) ⊎ Through (after_extensions t) ts → spelled s.file (t ∷ ts)
+    go (inl w) =
+        let a = key (codes "EXTENSION") (s.single the_name ∷ s.extensions ∷ []) ts w.1 in
+        let n = one the_name (s.extensions ∷ []) a.0 a.2 in
+        let more = last instructions s.extensions n.rest n.means in
+        let name = n.that in
+        let e0 = w.0 in let e1 = a.1 in let e2 = n.whole in let e3 = name.1 in
+        let whole : word (codes "FAULT") ∷ word (codes "EXTENSION") ∷ word name.0 ∷ n.rest ≡ t ∷ ts = cc in
+        subst (spelled s.file) whole (_, named name.2 more.1)
+    go (inr w) = let more = sound_extensions t ts w in (_, unnamed more.1)
+
+sound_slices : (t : Lexeme) (ts : List Lexeme) → Through (next s.slices t) ts → spelled s.slices (t ∷ ts)
+unfolding That
+sound_slices t ts h =
+    let w = where_word t (codes "SLICE") (s.single the_name ∷ s.keyword (codes "AFFECTS") ∷ s.single the_name ∷ s.slice_start ∷ s.keyword (codes "WITH") ∷ s.mode ∷ s.modes ∷ s.slices ∷ []) ts h in
+    let n = one the_name (s.keyword (codes "AFFECTS") ∷ s.single the_name ∷ s.slice_start ∷ s.keyword (codes "WITH") ∷ s.mode ∷ s.modes ∷ s.slices ∷ []) ts w.1 in
+    let a = key (codes "AFFECTS") (s.single the_name ∷ s.slice_start ∷ s.keyword (codes "WITH") ∷ s.mode ∷ s.modes ∷ s.slices ∷ []) n.rest n.means in
+    let m = one the_name (s.slice_start ∷ s.keyword (codes "WITH") ∷ s.mode ∷ s.modes ∷ s.slices ∷ []) a.0 a.2 in
+    let st = m.means in
+    let b = key (codes "WITH") (s.mode ∷ s.modes ∷ s.slices ∷ []) st.1 st.4 in
+    let p = b.2 in
+    let q = p.4 in
+    let more = last instructions s.slices q.1 q.4 in
+    let x = n.that in let y = m.that in
+    let e0 = w.0 in let e1 = n.whole in let e2 = x.1 in let e3 = a.1 in let e4 = m.whole in let e5 = y.1 in let e6 = b.1 in let e7 = p.2 in let e8 = q.2 in let e9 = st.2 in
+    let assoc : (p.0 ++ q.0) ++ q.1 ≡ p.0 ++ (q.0 ++ q.1) = append_assoc p.0 q.0 q.1 in
+    let behind : (st.0 ++ word (codes "WITH") ∷ (p.0 ++ q.0)) ++ q.1 ≡ st.0 ++ word (codes "WITH") ∷ ((p.0 ++ q.0) ++ q.1) = append_assoc st.0 (word (codes "WITH") ∷ (p.0 ++ q.0)) q.1 in
+    let whole : word (codes "SLICE") ∷ word x.0 ∷ word (codes "AFFECTS") ∷ word y.0 ∷ ((st.0 ++ word (codes "WITH") ∷ (p.0 ++ q.0)) ++ q.1) ≡ t ∷ ts = cc in
+    subst (spelled s.slices) whole (_, one_more (a_slice x.2 y.2 st.3.1 (λ e. cc) (one_more p.3.1 q.3.1)) more.1)
+
+sound_slice_start : (t : Lexeme) (ts : List Lexeme) → Through (next s.slice_start t) ts → spelled s.slice_start (t ∷ ts)
+sound_slice_start t ts h =
+    let w = where_word t (codes "INITIALLY") (s.keyword (codes "ANY") ∷ []) ts h in
+    let a = key (codes "ANY") [] ts w.1 in
+    let e0 = w.0 in let e1 = a.1 in let e2 : a.0 ≡ [] = a.2 in
+    let whole : word (codes "INITIALLY") ∷ word (codes "ANY") ∷ [] ≡ t ∷ ts = cc in
+    subst (spelled s.slice_start) whole (_, at_any)
+
+sound_mode : (t : Lexeme) (ts : List Lexeme) → Through (next s.mode t) ts → spelled s.mode (t ∷ ts)
+sound_mode t ts h =
+    let w = where_word t (codes "MODE") (s.mode_rest ∷ []) ts h in
+    subst (λ z. IsMode (z ∷ ts)) (sym w.0) (last instructions s.mode_rest ts w.1)
+
+sound_modes : (t : Lexeme) (ts : List Lexeme) → Through (next s.modes t) ts → spelled s.modes (t ∷ ts)
+sound_modes t ts h =
+    let w = where_word t (codes "MODE") (s.mode_rest ∷ s.modes ∷ []) ts h in
+    let m = w.1 in
+    let more = last instructions s.modes m.1 m.4 in
+    let e0 = w.0 in let e1 = m.2 in
+    let whole : word (codes "MODE") ∷ (m.0 ++ m.1) ≡ t ∷ ts = cc in
+    subst (spelled s.modes) whole (_, one_more m.3.1 more.1)
+
+sound_mode_rest : (t : Lexeme) (ts : List Lexeme) → Through (next s.mode_rest t) ts → spelled s.mode_rest (t ∷ ts)
+unfolding That
+sound_mode_rest t ts h =
+    let w = where_true (is_single the_name (mark_of t)) (s.mark ∷ s.single the_colon ∷ s.dynamics ∷ s.effect ∷ s.guard ∷ s.single the_semicolon ∷ []) ts h in
+    let x : That the_name t = that the_name t w.0 in
+    let m = w.1 in
+    let c = one the_colon (s.dynamics ∷ s.effect ∷ s.guard ∷ s.single the_semicolon ∷ []) m.1 m.4 in
+    let d = c.means in
+    let e = d.4 in
+    let g = e.4 in
+    let z = one the_semicolon [] g.1 g.4 in
+    let e0 = x.1 in let e1 = m.2 in let e2 = c.whole in let e3 : c.lexeme ≡ sign k.Colon = c.that in let e4 = d.2 in let e5 = e.2 in let e6 = g.2 in let e7 = z.whole in
+    let e8 : z.lexeme ≡ sign k.Semicolon = z.that in let e9 : z.rest ≡ [] = z.means in
+    let whole : word (codes "MODE") ∷ word x.0 ∷ (m.0 ++ sign k.Colon ∷ (d.0 ++ (e.0 ++ (g.0 ++ sign k.Semicolon ∷ [])))) ≡ word (codes "MODE") ∷ t ∷ ts = cc in
+    subst IsMode whole (_, a_mode x.2 m.3.1 d.3.1 e.3.1 g.3.1)
+
+sound_mark : (c : Mark) (t : Lexeme) (ts : List Lexeme) → Marked c t → Through (after_mark c) ts → IsMark (t ∷ ts)
+unfolding Marked Leads
+sound_mark s_open_brace t ts m h = subst (λ z. IsMark (z ∷ ts)) (sym m) (last instructions s.in_mark ts h)
+sound_mark c t ts m h = absurd h
+
+-- a mark with one token more
+mark_more : (us : List Lexeme) (m : Option (List Text)) (t : Lexeme) (ts : List Lexeme) → SpellsMark us m → us ≡ sign k.OpenBrace ∷ ts → (mark_of t ≡ s_close_brace → ⊥) → IsMark (sign k.OpenBrace ∷ t ∷ ts)
+mark_more us m t ts no_mark e h = cc
+mark_more us m t ts (a_mark {ts = xs} {xs = names} many) e h =
+    let rest : xs ++ sign k.CloseBrace ∷ [] ≡ ts = cc in
+    (Some (text_in t ∷ names), subst (λ z. SpellsMark (sign k.OpenBrace ∷ t ∷ z) (Some (text_in t ∷ names))) rest (a_mark (one_more {ts = t ∷ []} (t, refl, token_text t h) many)))
+
+closing : (c : Mark) (t : Lexeme) (ts : List Lexeme) → mark_of t ≡ c → Marked c t → Through (after_in_mark c) ts → IsMark (sign k.OpenBrace ∷ t ∷ ts)
+unfolding Marked Leads
+closing s_close_brace t ts e m h =
+    let whole : sign k.OpenBrace ∷ sign k.CloseBrace ∷ [] ≡ sign k.OpenBrace ∷ t ∷ ts = cc in
+    subst IsMark whole (Some [], a_mark {ts = []} no_more)
+closing c t ts e m h = let d = last instructions s.in_mark ts h in mark_more (sign k.OpenBrace ∷ ts) d.0 t ts d.1 refl (λ f. cc)
+
+sound_dynamics : (t : Lexeme) (ts : List Lexeme) → Through (next s.dynamics t) ts → spelled s.dynamics (t ∷ ts)
+sound_dynamics t ts h =
+    let w = where_true (is_word t (codes "Permanent") || is_word t (codes "Transient")) [] ts h in
+    let end : ts ≡ [] = w.1 in
+    go (either_word t (codes "Permanent") (codes "Transient") w.0) end
+  where
+    go : (t ≡ word (codes "Permanent")) ⊎ (t ≡ word (codes "Transient")) → ts ≡ [] → spelled s.dynamics (t ∷ ts)
+    go (inl e) f = let whole : word (codes "Permanent") ∷ [] ≡ t ∷ ts = cc in subst (spelled s.dynamics) whole (_, d_permanent)
+    go (inr e) f = let whole : word (codes "Transient") ∷ [] ≡ t ∷ ts = cc in subst (spelled s.dynamics) whole (_, d_transient)
+
+sound_int : (c : Mark) (t : Lexeme) (ts : List Lexeme) → Marked c t → Through (after_int c) ts → spelled s.int (t ∷ ts)
+unfolding Marked Leads That
+sound_int a_number t ts m h = let e = m.2 in let whole : num m.0 m.1 ∷ [] ≡ t ∷ ts = cc in subst (spelled s.int) whole (_, plain_int)
+sound_int s_minus t ts m h =
+    let n = one the_number [] ts h in
+    let d = n.that in
+    let e0 = n.whole in let e1 = d.2 in let e2 : n.rest ≡ [] = n.means in
+    let whole : sign k.Minus ∷ num d.0 d.1 ∷ [] ≡ t ∷ ts = cc in
+    subst (spelled s.int) whole (_, minus_int)
+sound_int c t ts m h = absurd h
+
+sound_constant : (c : Mark) (t : Lexeme) (ts : List Lexeme) → Marked c t → Through (after_constant c) ts → spelled s.constant (t ∷ ts)
+unfolding Marked Leads
+sound_constant a_name t ts m h = let e = m.1 in let whole : word m.0 ∷ [] ≡ t ∷ ts = cc in subst (spelled s.constant) whole (_, const_name m.2)
+sound_constant c t ts m h = let n = sound_int c t ts m h in (_, const_int n.1)
+
+sound_first_constant : (t : Lexeme) (ts : List Lexeme) → Through (next s.constant t) ts → spelled s.constant (t ∷ ts)
+unfolding Leads
+sound_first_constant t ts h = go (is_word t (codes "TRUE") || is_word t (codes "FALSE")) refl h
+  where
+    truth_value : (t ≡ word (codes "TRUE")) ⊎ (t ≡ word (codes "FALSE")) → ts ≡ [] → spelled s.constant (t ∷ ts)
+    truth_value (inl e) f = let whole : word (codes "TRUE") ∷ [] ≡ t ∷ ts = cc in subst (spelled s.constant) whole (_, const_true)
+    truth_value (inr e) f = let whole : word (codes "FALSE") ∷ [] ≡ t ∷ ts = cc in subst (spelled s.constant) whole (_, const_false)
+
+    go : (b : Bool) → (is_word t (codes "TRUE") || is_word t (codes "FALSE")) ≡ b → Through (if b then Some [] else after_constant (mark_of t)) ts → spelled s.constant (t ∷ ts)
+    go true e h = truth_value (either_word t (codes "TRUE") (codes "FALSE") e) h
+    go false e h = sound_constant (mark_of t) t ts (marked t) h
+
+-- effects
+sound_stuck : (t : Lexeme) (ts : List Lexeme) → t ≡ word (codes "StuckAt") → Means_of (s.single the_open ∷ s.constant ∷ s.single the_close ∷ []) ts → spelled s.effect (t ∷ ts)
+unfolding That
+sound_stuck t ts e0 h =
+    let o = one the_open (s.constant ∷ s.single the_close ∷ []) ts h in
+    let m = o.means in
+    let c = one the_close [] m.1 m.4 in
+    let e1 = o.whole in let e2 : o.lexeme ≡ sign k.Open = o.that in let e3 = m.2 in let e4 = c.whole in let e5 : c.lexeme ≡ sign k.Close = c.that in let e6 : c.rest ≡ [] = c.means in
+    let whole : word (codes "StuckAt") ∷ sign k.Open ∷ (m.0 ++ sign k.Close ∷ []) ≡ t ∷ ts = cc in
+    subst (spelled s.effect) whole (_, e_stuck m.3.1)
+
+sound_follows : (t : Lexeme) (ts : List Lexeme) → t ≡ word (codes "Follows") → Means_of (s.single the_open ∷ expr ∷ s.single the_close ∷ []) ts → spelled s.effect (t ∷ ts)
+unfolding That
+sound_follows t ts e0 h =
+    let o = one the_open (expr ∷ s.single the_close ∷ []) ts h in
+    let m = o.means in
+    let c = one the_close [] m.1 m.4 in
+    let made = accepted_spelled m.0 m.3 in
+    let e1 = o.whole in let e2 : o.lexeme ≡ sign k.Open = o.that in let e3 = m.2 in let e4 = c.whole in let e5 : c.lexeme ≡ sign k.Close = c.that in let e6 : c.rest ≡ [] = c.means in
+    let whole : word (codes "Follows") ∷ sign k.Open ∷ (m.0 ++ sign k.Close ∷ []) ≡ t ∷ ts = cc in
+    subst (spelled s.effect) whole (_, e_follows made.1)
+
+sound_offset : (t : Lexeme) (ts : List Lexeme) → t ≡ word (codes "Offset") → Means_of (s.single the_open ∷ s.int ∷ s.single the_close ∷ []) ts → spelled s.effect (t ∷ ts)
+unfolding That
+sound_offset t ts e0 h =
+    let o = one the_open (s.int ∷ s.single the_close ∷ []) ts h in
+    let m = o.means in
+    let c = one the_close [] m.1 m.4 in
+    let e1 = o.whole in let e2 : o.lexeme ≡ sign k.Open = o.that in let e3 = m.2 in let e4 = c.whole in let e5 : c.lexeme ≡ sign k.Close = c.that in let e6 : c.rest ≡ [] = c.means in
+    let whole : word (codes "Offset") ∷ sign k.Open ∷ (m.0 ++ sign k.Close ∷ []) ≡ t ∷ ts = cc in
+    subst (spelled s.effect) whole (_, e_offset m.3.1)
+
+sound_ramp : (t : Lexeme) (ts : List Lexeme) → t ≡ word (codes "RampDown") → Means_of (s.single the_open ∷ s.int ∷ s.single the_comma ∷ s.int ∷ s.single the_close ∷ []) ts → spelled s.effect (t ∷ ts)
+unfolding That
+sound_ramp t ts e0 h =
+    let o = one the_open (s.int ∷ s.single the_comma ∷ s.int ∷ s.single the_close ∷ []) ts h in
+    let m = o.means in
+    let q = one the_comma (s.int ∷ s.single the_close ∷ []) m.1 m.4 in
+    let n = q.means in
+    let c = one the_close [] n.1 n.4 in
+    let e1 = o.whole in let e2 : o.lexeme ≡ sign k.Open = o.that in let e3 = m.2 in let e4 = q.whole in let e5 : q.lexeme ≡ sign k.Comma = q.that in
+    let e6 = n.2 in let e7 = c.whole in let e8 : c.lexeme ≡ sign k.Close = c.that in let e9 : c.rest ≡ [] = c.means in
+    let whole : word (codes "RampDown") ∷ sign k.Open ∷ (m.0 ++ sign k.Comma ∷ (n.0 ++ sign k.Close ∷ [])) ≡ t ∷ ts = cc in
+    subst (spelled s.effect) whole (_, e_ramp m.3.1 n.3.1)
+
+or_word : (t : Lexeme) (w : List ℕ) (b : Bool) → (is_word t w || b) ≡ true → (t ≡ word w) ⊎ (b ≡ true)
+or_word t w b h = go (is_word t w) refl h
+  where
+    go : (c : Bool) → is_word t w ≡ c → (c || b) ≡ true → (t ≡ word w) ⊎ (b ≡ true)
+    go true e h = inl (word_there t w e)
+    go false e h = inr h
+
+sound_plain : (t : Lexeme) (ts : List Lexeme) → Through (where_so (is_plain t) []) ts → spelled s.effect (t ∷ ts)
+sound_plain t ts h =
+    let w = where_true (is_plain t) [] ts h in
+    first (or_word t (codes "Inverted") (is_word t (codes "Random") || (is_word t (codes "Erroneous") || (is_word t (codes "Frozen") || is_word t (codes "StuckAtPick")))) w.0) w.1
+  where
+    fourth : (t ≡ word (codes "Frozen")) ⊎ (t ≡ word (codes "StuckAtPick")) → ts ≡ [] → spelled s.effect (t ∷ ts)
+    fourth (inl e) f = let whole : word (codes "Frozen") ∷ [] ≡ t ∷ ts = cc in subst (spelled s.effect) whole (_, e_frozen)
+    fourth (inr e) f = let whole : word (codes "StuckAtPick") ∷ [] ≡ t ∷ ts = cc in subst (spelled s.effect) whole (_, e_pick)
+
+    third : (t ≡ word (codes "Erroneous")) ⊎ ((is_word t (codes "Frozen") || is_word t (codes "StuckAtPick")) ≡ true) → ts ≡ [] → spelled s.effect (t ∷ ts)
+    third (inl e) f = let whole : word (codes "Erroneous") ∷ [] ≡ t ∷ ts = cc in subst (spelled s.effect) whole (_, e_erroneous)
+    third (inr e) f = fourth (either_word t (codes "Frozen") (codes "StuckAtPick") e) f
+
+    second : (t ≡ word (codes "Random")) ⊎ ((is_word t (codes "Erroneous") || (is_word t (codes "Frozen") || is_word t (codes "StuckAtPick"))) ≡ true) → ts ≡ [] → spelled s.effect (t ∷ ts)
+    second (inl e) f = let whole : word (codes "Random") ∷ [] ≡ t ∷ ts = cc in subst (spelled s.effect) whole (_, e_random)
+    second (inr e) f = third (or_word t (codes "Erroneous") (is_word t (codes "Frozen") || is_word t (codes "StuckAtPick")) e) f
+
+    first : (t ≡ word (codes "Inverted")) ⊎ ((is_word t (codes "Random") || (is_word t (codes "Erroneous") || (is_word t (codes "Frozen") || is_word t (codes "StuckAtPick")))) ≡ true) → ts ≡ [] → spelled s.effect (t ∷ ts)
+    first (inl e) f = let whole : word (codes "Inverted") ∷ [] ≡ t ∷ ts = cc in subst (spelled s.effect) whole (_, e_inverted)
+    first (inr e) f = second (or_word t (codes "Random") (is_word t (codes "Erroneous") || (is_word t (codes "Frozen") || is_word t (codes "StuckAtPick"))) e) f
+
+sound_ramp_or_plain : (t : Lexeme) (ts : List Lexeme) →
+    Through (if is_word t (codes "RampDown") then Some (s.single the_open ∷ s.int ∷ s.single the_comma ∷ s.int ∷ s.single the_close ∷ []) else where_so (is_plain t) []) ts → spelled s.effect (t ∷ ts)
+unfolding Leads
+sound_ramp_or_plain t ts h = go (if_word t (codes "RampDown") (Some (s.single the_open ∷ s.int ∷ s.single the_comma ∷ s.int ∷ s.single the_close ∷ [])) (where_so (is_plain t) []) ts h)
+  where
+    go : ((t ≡ word (codes "RampDown")) × Means_of (s.single the_open ∷ s.int ∷ s.single the_comma ∷ s.int ∷ s.single the_close ∷ []) ts) ⊎ Through (where_so (is_plain t) []) ts → spelled s.effect (t ∷ ts)
+    go (inl w) = sound_ramp t ts w.0 w.1
+    go (inr w) = sound_plain t ts w
+
+abbrev ramp_choice : Lexeme → Option (List Sym)
+ramp_choice t = if is_word t (codes "RampDown") then Some (s.single the_open ∷ s.int ∷ s.single the_comma ∷ s.int ∷ s.single the_close ∷ []) else where_so (is_plain t) []
+
+abbrev offset_choice : Lexeme → Option (List Sym)
+offset_choice t = if is_word t (codes "Offset") then Some (s.single the_open ∷ s.int ∷ s.single the_close ∷ []) else ramp_choice t
+
+abbrev follows_choice : Lexeme → Option (List Sym)
+follows_choice t = if is_word t (codes "Follows") then Some (s.single the_open ∷ expr ∷ s.single the_close ∷ []) else offset_choice t
+
+sound_effect : (t : Lexeme) (ts : List Lexeme) → Through (after_effect t) ts → spelled s.effect (t ∷ ts)
+unfolding Leads
+sound_effect t ts h = first (if_word t (codes "StuckAt") (Some (s.single the_open ∷ s.constant ∷ s.single the_close ∷ [])) (follows_choice t) ts h)
+  where
+    third : ((t ≡ word (codes "Offset")) × Means_of (s.single the_open ∷ s.int ∷ s.single the_close ∷ []) ts) ⊎ Through (ramp_choice t) ts → spelled s.effect (t ∷ ts)
+    third (inl w) = sound_offset t ts w.0 w.1
+    third (inr w) = sound_ramp_or_plain t ts w
+
+    second : ((t ≡ word (codes "Follows")) × Means_of (s.single the_open ∷ expr ∷ s.single the_close ∷ []) ts) ⊎ Through (offset_choice t) ts → spelled s.effect (t ∷ ts)
+    second (inl w) = sound_follows t ts w.0 w.1
+    second (inr w) = third (if_word t (codes "Offset") (Some (s.single the_open ∷ s.int ∷ s.single the_close ∷ [])) (ramp_choice t) ts w)
+
+    first : ((t ≡ word (codes "StuckAt")) × Means_of (s.single the_open ∷ s.constant ∷ s.single the_close ∷ []) ts) ⊎ Through (follows_choice t) ts → spelled s.effect (t ∷ ts)
+    first (inl w) = sound_stuck t ts w.0 w.1
+    first (inr w) = second (if_word t (codes "Follows") (Some (s.single the_open ∷ expr ∷ s.single the_close ∷ [])) (offset_choice t) ts w)
+
+sound_guard : (t : Lexeme) (ts : List Lexeme) → Through (next s.guard t) ts → spelled s.guard (t ∷ ts)
+sound_guard t ts h =
+    let w = where_word t (codes "WHEN") (expr ∷ []) ts h in
+    let made = accepted_spelled ts (last instructions expr ts w.1) in
+    subst (λ z. spelled s.guard (z ∷ ts)) (sym w.0) (_, a_guard made.1)
+
+-- every symbol
+pub sounds : (x : Sym) (t : Lexeme) (ts : List Lexeme) → Through (next x t) ts → spelled x (t ∷ ts)
+sounds (s.single w) t ts h = let both = where_true (is_single w (mark_of t)) [] ts h in (t, ap (λ z. t ∷ z) both.1, both.0)
+sounds (s.keyword w) t ts h = let both = where_word t w [] ts h in let e0 = both.0 in let e1 : ts ≡ [] = both.1 in cc
+sounds (s.formula st q) t ts h =
+    let parts = live_sound (machine.step st (role_of t)) [] ts h in
+    subst (λ z. is_whole (machine.run (machine.step st (role_of t)) z) ≡ true) (sym (parts.2 ∙ ap (λ z. parts.0 ++ z) parts.4 ∙ append-nil parts.0)) parts.3
+sounds s.file t ts h = sound_file t ts h
+sounds s.extensions t ts h = sound_extensions t ts h
+sounds s.slices t ts h = sound_slices t ts h
+sounds s.slice_start t ts h = sound_slice_start t ts h
+sounds s.mode t ts h = sound_mode t ts h
+sounds s.modes t ts h = sound_modes t ts h
+sounds s.mode_rest t ts h = sound_mode_rest t ts h
+sounds s.mark t ts h = sound_mark (mark_of t) t ts (marked t) h
+sounds s.in_mark t ts h = closing (mark_of t) t ts refl (marked t) h
+sounds s.dynamics t ts h = sound_dynamics t ts h
+sounds s.effect t ts h = sound_effect t ts h
+sounds s.constant t ts h = sound_first_constant t ts h
+sounds s.int t ts h = sound_int (mark_of t) t ts (marked t) h
+sounds s.guard t ts h = sound_guard t ts h

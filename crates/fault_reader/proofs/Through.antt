@@ -1,0 +1,120 @@
+-- What a list of expected symbols stands for.
+use Rattle.std.proofs.Common.{◌≡◌, inl, inr, ◌⊎◌, ℕ, Bool, true, false, List, [], ◌∷◌, ◌++◌, Option, refl, sym, ◌∙◌, ap}
+use Rattle.std.specs.Prelude.{if◌then◌else◌}
+use Rattle.smv_lexer.specs.declared.token.TokenKind.TheVariants as k
+use Rattle.smv_language.specs.Lexemes.{Lexeme, word, num, sign, is_reserved}
+use Rattle.smv_expression_reader.specs.Recognise.{State, stuck, is_whole}
+use Rattle.smv_expression_reader.specs.Recognise as machine
+use Rattle.smv_expression_reader.specs.Places.{is_word}
+use Rattle.smv_expression_reader.specs.Predict.{Means}
+use Rattle.smv_expression_reader.specs.Marks.{Mark, a_name, a_number, s_open, s_close, s_comma, s_semicolon, s_colon, mark_of}
+use Rattle.smv_expression_reader.proofs.Meanings.{Leads}
+use Rattle.smv_expression_reader.proofs.Accepted.{run_stuck}
+use Rattle.smv_expression_reader.proofs.Marks.{Marked, marked, mark_of_name, word_there}
+use Rattle.fault_reader.specs.InstructionRead.{Single, the_name, the_number, the_open, the_close, the_comma, the_colon, the_semicolon, Sym, is_single, spelled, live, where_so, instructions}
+use Rattle.fault_reader.specs.InstructionRead as s
+use Rattle.smv_language.proofs.ValueLaws.{same_text_refl as same_as_it}
+
+-- single lexemes
+unfoldable pub That : Single → Lexeme → Type 0
+That the_name t = (x : List ℕ) × (t ≡ word x) × (is_reserved x ≡ false)
+That the_number t = (n : ℕ) × (d : List ℕ) × (t ≡ num n d)
+That the_open t = t ≡ sign k.Open
+That the_close t = t ≡ sign k.Close
+That the_comma t = t ≡ sign k.Comma
+That the_colon t = t ≡ sign k.Colon
+That the_semicolon t = t ≡ sign k.Semicolon
+
+that_marked : (w : Single) (c : Mark) (t : Lexeme) → Marked c t → is_single w c ≡ true → That w t
+unfolding Marked That
+that_marked the_name a_name t m h = m
+that_marked the_number a_number t m h = m
+that_marked the_open s_open t m h = m
+that_marked the_close s_close t m h = m
+that_marked the_comma s_comma t m h = m
+that_marked the_colon s_colon t m h = m
+that_marked the_semicolon s_semicolon t m h = m
+that_marked w c t m h = cc
+
+pub that : (w : Single) (t : Lexeme) → is_single w (mark_of t) ≡ true → That w t
+that w t h = that_marked w (mark_of t) t (marked t) h
+
+pub is_that : (w : Single) (t : Lexeme) → That w t → is_single w (mark_of t) ≡ true
+unfolding That
+is_that the_name t m = ap (λ z. is_single the_name (mark_of z)) m.1 ∙ ap (is_single the_name) (mark_of_name m.0 m.2)
+is_that the_number t m = ap (λ z. is_single the_number (mark_of z)) m.2
+is_that the_open t m = ap (λ z. is_single the_open (mark_of z)) m
+is_that the_close t m = ap (λ z. is_single the_close (mark_of z)) m
+is_that the_comma t m = ap (λ z. is_single the_comma (mark_of z)) m
+is_that the_colon t m = ap (λ z. is_single the_colon (mark_of z)) m
+is_that the_semicolon t m = ap (λ z. is_single the_semicolon (mark_of z)) m
+
+pub is_the_word : (w : List ℕ) → is_word (word w) w ≡ true
+is_the_word w = same_as_it w
+
+-- what a list of symbols stands for
+abbrev pub Means_of : List Sym → List Lexeme → Type 0
+Means_of = Means Sym instructions
+
+pub record One (w : Single) (syms : List Sym) (ts : List Lexeme) : Type 0 where
+  pub lexeme : Lexeme
+  pub rest : List Lexeme
+  pub whole : ts ≡ lexeme ∷ rest
+  pub that : That w lexeme
+  pub means : Means_of syms rest
+
+pub one : (w : Single) (syms : List Sym) (ts : List Lexeme) → Means_of (s.single w ∷ syms) ts → One w syms ts
+one w syms ts m = record {
+  lexeme = m.3.0;
+  rest = m.1;
+  whole = m.2 ∙ ap (λ z. z ++ m.1) m.3.1;
+  that = that w m.3.0 m.3.2;
+  means = m.4;
+}
+
+pub as_one : (w : Single) (syms : List Sym) (t : Lexeme) (ts : List Lexeme) → That w t → Means_of syms ts → Means_of (s.single w ∷ syms) (t ∷ ts)
+as_one w syms t ts h m = (t ∷ [], ts, refl, (t, refl, is_that w t h), m)
+
+pub key : (w : List ℕ) (syms : List Sym) (ts : List Lexeme) → Means_of (s.keyword w ∷ syms) ts → (rest : List Lexeme) × (ts ≡ word w ∷ rest) × Means_of syms rest
+key w syms ts m = (m.1, m.2 ∙ ap (λ z. z ++ m.1) m.3, m.4)
+
+pub as_key : (w : List ℕ) (syms : List Sym) (rest : List Lexeme) → Means_of syms rest → Means_of (s.keyword w ∷ syms) (word w ∷ rest)
+as_key w syms rest m = (word w ∷ [], rest, refl, refl, m)
+
+pub as_other : (x : Sym) (syms : List Sym) (xs ys : List Lexeme) → spelled x xs → Means_of syms ys → Means_of (x ∷ syms) (xs ++ ys)
+as_other x syms xs ys d m = (xs, ys, refl, d, m)
+
+-- what a choice of symbols stands for
+abbrev pub Through : Option (List Sym) → List Lexeme → Type 0
+Through = Leads instructions
+
+pub where_true : (b : Bool) (syms : List Sym) (ts : List Lexeme) → Through (where_so b syms) ts → (b ≡ true) × Means_of syms ts
+unfolding Leads
+where_true true syms ts h = (refl, h)
+where_true false syms ts h = absurd h
+
+pub true_where : (b : Bool) (syms : List Sym) (ts : List Lexeme) → b ≡ true → Means_of syms ts → Through (where_so b syms) ts
+unfolding Leads
+true_where true syms ts e h = h
+true_where false syms ts e h = cc
+
+pub where_word : (t : Lexeme) (w : List ℕ) (syms : List Sym) (ts : List Lexeme) → Through (where_so (is_word t w) syms) ts → (t ≡ word w) × Means_of syms ts
+where_word t w syms ts h = let both = where_true (is_word t w) syms ts h in (word_there t w both.0, both.1)
+
+pub if_word : (t : Lexeme) (w : List ℕ) (a b : Option (List Sym)) (ts : List Lexeme) → Through (if is_word t w then a else b) ts → ((t ≡ word w) × Through a ts) ⊎ Through b ts
+if_word t w a b ts h = go (is_word t w) refl h
+  where
+    go : (c : Bool) → is_word t w ≡ c → Through (if c then a else b) ts → ((t ≡ word w) × Through a ts) ⊎ Through b ts
+    go true e h = inl (word_there t w e, h)
+    go false e h = inr h
+
+pub live_sound : (st : State) (rest : List Sym) (ts : List Lexeme) → Through (live st rest) ts →
+    (xs : List Lexeme) × (ys : List Lexeme) × (ts ≡ xs ++ ys) × (is_whole (machine.run st xs) ≡ true) × Means_of rest ys
+unfolding Leads
+live_sound stuck rest ts h = absurd h
+live_sound st rest ts h = h
+
+pub live_complete : (st : State) (rest : List Sym) (xs ys : List Lexeme) → is_whole (machine.run st xs) ≡ true → Means_of rest ys → Through (live st rest) (xs ++ ys)
+unfolding Leads
+live_complete stuck rest xs ys e m = let clash : false ≡ true = ap is_whole (sym (run_stuck xs)) ∙ e in cc
+live_complete st rest xs ys e m = (xs, ys, refl, e, m)

@@ -1,0 +1,9 @@
+use Rattle.std.proofs.Common.{◌≡◌, ◌-◌, map}
+use Rattle.std.specs.Prelude.{codes}
+use Rattle.fault_instructions.specs.Instructions.{slice_tree}
+use Rattle.smv_expression_reader.specs.Reads.{each_at, with_front, has_word}
+use Rattle.fault_reader.specs.Reads.{slices_at, slice_at}
+use Rattle.fault_reader.proofs.build.slices.Given as goal
+
+abbrev pub invariant-loop-round : goal.invariant-loop-round
+invariant-loop-round l = slices_at l.fn.cursor ≡ with_front (map slice_tree l.list) (each_at (has_word (codes "SLICE")) slice_at (l.most - l.round) l.cursor)

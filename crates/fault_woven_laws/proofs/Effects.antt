@@ -1,0 +1,212 @@
+-- What the templates of a slice are judged as, where its names have the kinds that they are to have.
+use Rattle.std.proofs.Common.{◌≡◌, Bool, true, false, [], ◌∷◌, Some, None, ℤ, ◌+ℤ◌, ◌-ℤ◌, refl, ap, ◌∙◌}
+use Rattle.std.specs.Prelude.{◌&&◌}
+use Rattle.smv_language.specs.declared.expr.Op.TheVariants as op
+use Rattle.smv_language.specs.Tree.{next_of, binary}
+use Rattle.smv_language.specs.Laws.{AllLeaves}
+use Rattle.smv_language.specs.ProgramTree.{Text, Path, Formula, DeclaredTree, boolean, range, members, instance, SectionTree, init, invar, trans}
+use Rattle.smv_language.specs.Values.{number, at_most, is_between}
+use Rattle.smv_language.specs.Trace.{Each, in_domain}
+use Rattle.smv_language.proofs.ValueLaws.{both_true}
+use Rattle.fault_instructions.specs.declared.instructions.Start.{Start}
+use Rattle.fault_instructions.specs.declared.instructions.Start.TheVariants.{Nominal, Any}
+use Rattle.fault_instructions.specs.Instructions.{EffectTree, stuck_at, follows, inverted, random, erroneous, frozen, stuck_at_pick, offset, ramp_down, ModeTree, SliceTree}
+use Rattle.fault_instructions.specs.AddedNames.{ModeState, own_name, mode_variable, mode_symbol}
+use Rattle.fault_instructions.specs.Types.{IsKnown}
+use Rattle.fault_instructions.specs.Templates.{named, number_tree, clipped_tree, branch, greater_tree, stands, stands_next, stays_tree, rules, first_rules}
+use Rattle.fault_weave.specs.Woven.{start_rules}
+use Rattle.fault_instructions.specs.declared.fault.EffectFault.{EffectFault}
+use Rattle.fault_instructions.specs.declared.fault.EffectFault.TheVariants.{Outside}
+use Rattle.fault_instructions.specs.Allowed.{is_small, offset_fits, ramp_fits, fault_unless, is_of_kind, fault_of}
+use Rattle.smv_type_laws.specs.Intervals.{Interval, just, sum_of, difference_of, fits}
+use Rattle.smv_type_laws.specs.Judged.{Class, truth_class, number_class, symbol_class, Kind, Judged, judged_number, judge}
+use Rattle.smv_type_laws.specs.Declared.{judged_declared, class_declared}
+use Rattle.fault_woven_laws.proofs.Rightly.{Rightly, not_right, connective_right, order_right, same_right, choice_right, choice_alone}
+use Rattle.fault_woven_laws.proofs.Numbers.{numbers_in, numbers_right, small_fits, between_fits, number_judged, sum_judged, difference_judged}
+use Rattle.fault_woven_laws.proofs.Domains.{range_kept, range_kind, MembersKnown, domain_right, value_right}
+use Rattle.fault_rules.proofs.KeptFacts.{constant_within}
+
+-- no fault
+pub unless_none : (b : Bool) (f : EffectFault) → fault_unless b f ≡ None → b ≡ true
+unless_none true f e = refl
+unless_none false f e = cc
+
+module _ (K : Path → Kind) (P : Path → Type 0) where
+  -- the names of a slice have the kinds that they are to have
+  pub record SliceKinds (s : SliceTree) (type : DeclaredTree) : Type 0 where
+    pub right : (judged_declared type).broken ≡ []
+    pub target : P (s.target ∷ []) → K (s.target ∷ []) ≡ (judged_declared type).kind
+    pub own : P (own_name s.target ∷ []) → K (own_name s.target ∷ []) ≡ (judged_declared type).kind
+    pub mode : P (mode_variable s.name ∷ []) → (K (mode_variable s.name ∷ [])).class ≡ symbol_class
+    pub symbols : (st : ModeState) → IsKnown s st → P (mode_symbol s.name st ∷ []) → (K (mode_symbol s.name st ∷ [])).class ≡ symbol_class
+    pub members : MembersKnown K P type
+
+  -- the expressions of a mode are judged, and its effect is allowed
+  pub record ModeKinds (type : DeclaredTree) (m : ModeTree) : Type 0 where
+    pub allowed : fault_of m.effect type ≡ None
+    pub followed : (e : Formula) → m.effect ≡ follows e → AllLeaves P e → Rightly (class_declared type) (judge K true e)
+    pub guard : (g : Formula) → m.guard ≡ Some g → AllLeaves P g → Rightly truth_class (judge K false g)
+
+  named_right : (sets : Bool) (c : Class) (x : Text) → (K (x ∷ [])).class ≡ c → Rightly c (judge K sets (named x))
+  named_right sets c x e = record { kept = refl; class = e }
+
+  module _ (s : SliceTree) (type : DeclaredTree) (kinds : SliceKinds s type) where
+    target_right : (sets : Bool) → P (s.target ∷ []) → Rightly (class_declared type) (judge K sets (named s.target))
+    target_right sets h = named_right sets (class_declared type) s.target (ap (λ (k : Kind). k.class) (kinds.target h))
+
+    pub own_right : (sets : Bool) → P (own_name s.target ∷ []) → Rightly (class_declared type) (judge K sets (named (own_name s.target)))
+    own_right sets h = named_right sets (class_declared type) (own_name s.target) (ap (λ (k : Kind). k.class) (kinds.own h))
+
+    pub symbol_right : (sets : Bool) (st : ModeState) → IsKnown s st → P (mode_symbol s.name st ∷ []) → Rightly symbol_class (judge K sets (named (mode_symbol s.name st)))
+    symbol_right sets st known h = named_right sets symbol_class (mode_symbol s.name st) (kinds.symbols st known h)
+
+    pub stands_right : (mode : Text) → IsKnown s (Some mode) → AllLeaves P (stands s.name mode) → Rightly truth_class (judge K false (stands s.name mode))
+    stands_right mode known h =
+        same_right symbol_class (judge K false (named (mode_variable s.name))) (judge K false (named (mode_symbol s.name (Some mode))))
+        (named_right false symbol_class (mode_variable s.name) (kinds.mode h.0)) (symbol_right false (Some mode) known h.1)
+
+    stands_next_right : (mode : Text) → IsKnown s (Some mode) → AllLeaves P (stands_next s.name mode) → Rightly truth_class (judge K false (stands_next s.name mode))
+    stands_next_right mode known h =
+        same_right symbol_class (judge K false (named (mode_variable s.name))) (judge K false (named (mode_symbol s.name (Some mode))))
+        (named_right false symbol_class (mode_variable s.name) (kinds.mode h.0)) (symbol_right false (Some mode) known h.1)
+
+    stays_right : AllLeaves P (stays_tree s.target) → Rightly truth_class (judge K false (stays_tree s.target))
+    stays_right h = same_right (class_declared type) (judge K false (named s.target)) (judge K false (named s.target)) (target_right false h.0) (target_right false h.1)
+
+  -- Of a range.
+  module _ (s : SliceTree) (lo hi : ℤ) (kinds : SliceKinds s (range lo hi)) where
+    ends : Interval
+    ends = record { lo = lo; hi = hi }
+
+    read_judged : P (s.target ∷ []) → judge K false (named s.target) ≡ numbers_in ends
+    unfolding ends
+    read_judged h = ap (λ (k : Kind). record { kind = k; is_set = false; broken = [] }) (kinds.target h ∙ range_kind lo hi kinds.right)
+
+    own_judged : P (own_name s.target ∷ []) → judge K false (named (own_name s.target)) ≡ numbers_in ends
+    unfolding ends
+    own_judged h = ap (λ (k : Kind). record { kind = k; is_set = false; broken = [] }) (kinds.own h ∙ range_kind lo hi kinds.right)
+
+    -- the own value and a distance, clipped
+    clipped_right : (d : ℤ) → offset_fits d lo hi ≡ true → AllLeaves P (clipped_tree (range lo hi) (binary op.Plus (named (own_name s.target)) (number_tree d))) →
+        Rightly number_class (judge K true (clipped_tree (range lo hi) (binary op.Plus (named (own_name s.target)) (number_tree d))))
+    unfolding ends
+    clipped_right d e h =
+        let parts = both_true (is_small d) (is_small (lo +ℤ d) && is_small (hi +ℤ d)) e in
+        let moved = both_true (is_small (lo +ℤ d)) (is_small (hi +ℤ d)) parts.1 in
+        let k = range_kept lo hi kinds.right in
+        let sum_fits : fits (sum_of ends (just d)) ≡ true = rw (small_fits (lo +ℤ d) moved.0, small_fits (hi +ℤ d) moved.1) refl in
+        let sum : judge K false (binary op.Plus (named (own_name s.target)) (number_tree d)) ≡ numbers_in (sum_of ends (just d)) =
+        (λ i. judged_number op.Plus (own_judged h.0.0.0 i) (number_judged K false d (small_fits d parts.0) i)) ∙ sum_judged ends (just d) sum_fits in
+        let moved_right : Rightly number_class (judge K true (binary op.Plus (named (own_name s.target)) (number_tree d))) = numbers_right _ (sum_of ends (just d)) sum in
+        let most : Rightly number_class (judge K true (number_tree hi)) = numbers_right _ (just hi) (number_judged K true hi k.fits_hi) in
+        let least : Rightly number_class (judge K true (number_tree lo)) = numbers_right _ (just lo) (number_judged K true lo k.fits_lo) in
+        let over = order_right (judge K false (binary op.Plus (named (own_name s.target)) (number_tree d))) (judge K false (number_tree hi)) (numbers_right _ (sum_of ends (just d)) sum) (numbers_right _ (just hi) (number_judged K false hi k.fits_hi)) in
+        let under = order_right (judge K false (binary op.Plus (named (own_name s.target)) (number_tree d))) (judge K false (number_tree lo)) (numbers_right _ (sum_of ends (just d)) sum) (numbers_right _ (just lo) (number_judged K false lo k.fits_lo)) in
+        choice_right number_class _ _ _ over most (choice_right number_class _ _ _ under least moved_right)
+
+    -- a value of the range less the step, and the floor
+    greater_right : (x : Text) → judge K false (named x) ≡ numbers_in ends → (d f : ℤ) → ramp_fits d f lo hi ≡ true →
+        Rightly number_class (judge K false (greater_tree (binary op.Minus (named x) (number_tree d)) f))
+    unfolding ends
+    greater_right x value d f e =
+        let parts = both_true (at_most _ d && is_small d) (is_between lo hi (number f) && (is_small (lo -ℤ d) && is_small (hi -ℤ d))) e in
+        let step = both_true (at_most _ d) (is_small d) parts.0 in
+        let rest = both_true (is_between lo hi (number f)) (is_small (lo -ℤ d) && is_small (hi -ℤ d)) parts.1 in
+        let moved = both_true (is_small (lo -ℤ d)) (is_small (hi -ℤ d)) rest.1 in
+        let k = range_kept lo hi kinds.right in
+        let difference_fits : fits (difference_of ends (just d)) ≡ true = rw (small_fits (lo -ℤ d) moved.0, small_fits (hi -ℤ d) moved.1) refl in
+        let difference : judge K false (binary op.Minus (named x) (number_tree d)) ≡ numbers_in (difference_of ends (just d)) =
+        (λ i. judged_number op.Minus (value i) (number_judged K false d (small_fits d step.1) i)) ∙ difference_judged ends (just d) difference_fits in
+        let floor = number_judged K false f (between_fits lo hi f k.fits_lo k.fits_hi rest.0) in
+        let left = numbers_right _ (difference_of ends (just d)) difference in
+        let right = numbers_right _ (just f) floor in
+        choice_alone number_class _ _ _ (order_right _ _ left right) left right (ap (λ (j : Judged). j.is_set) difference) (ap (λ (j : Judged). j.is_set) floor)
+
+  -- the branch of a mode has the class of the variable
+  pub branch_right : (e : EffectTree) (s : SliceTree) (type : DeclaredTree) → SliceKinds s type → fault_of e type ≡ None →
+      ((f : Formula) → e ≡ follows f → AllLeaves P f → Rightly (class_declared type) (judge K true f)) → AllLeaves P (branch e type s.target) → Rightly (class_declared type) (judge K true (branch e type s.target))
+  branch_right (stuck_at c) s type kinds a follow h = value_right K P true type c kinds.right kinds.members (constant_within (is_of_kind type c) (in_domain type c) a) h
+  branch_right (follows f) s type kinds a follow h = follow f refl h
+  branch_right inverted s boolean kinds a follow h = not_right (judge K false (named (own_name s.target))) (own_right s boolean kinds false h)
+  branch_right inverted s (range lo hi) kinds a follow h = cc
+  branch_right inverted s (members ms) kinds a follow h = cc
+  branch_right inverted s (instance n actuals) kinds a follow h = cc
+  branch_right random s type kinds a follow h = domain_right K P type kinds.right kinds.members h
+  branch_right erroneous s type kinds a follow h = domain_right K P type kinds.right kinds.members h
+  branch_right frozen s type kinds a follow h = domain_right K P type kinds.right kinds.members h
+  branch_right stuck_at_pick s type kinds a follow h = domain_right K P type kinds.right kinds.members h
+  branch_right (offset d) s boolean kinds a follow h = cc
+  branch_right (offset d) s (range lo hi) kinds a follow h = clipped_right s lo hi kinds d (unless_none (offset_fits d lo hi) Outside a) h
+  branch_right (offset d) s (members ms) kinds a follow h = cc
+  branch_right (offset d) s (instance n actuals) kinds a follow h = cc
+  branch_right (ramp_down d f) s type kinds a follow h = domain_right K P type kinds.right kinds.members h
+
+  -- a rule section is a condition that breaks no rule
+  abbrev pub RuleRight : SectionTree → Type 0
+  RuleRight (invar e) = AllLeaves P e → Rightly truth_class (judge K false e)
+  RuleRight (init e) = AllLeaves P e → Rightly truth_class (judge K false e)
+  RuleRight (trans e) = AllLeaves P e → Rightly truth_class (judge K false e)
+  RuleRight _ = ⊥
+
+  -- each rule section of a mode breaks no rule
+  pub rules_right : (e : EffectTree) (s : SliceTree) (type : DeclaredTree) (mode : Text) → SliceKinds s type → IsKnown s (Some mode) → fault_of e type ≡ None → Each RuleRight (rules e s.name mode s.target)
+  rules_right (stuck_at c) s type mode kinds known a = tt
+  rules_right (follows f) s type mode kinds known a = tt
+  rules_right inverted s type mode kinds known a = tt
+  rules_right random s type mode kinds known a = tt
+  rules_right erroneous s type mode kinds known a = (
+    λ h. connective_right (judge K false (stands s.name mode)) (judge K false (binary op.Differs (named s.target) (named (own_name s.target)))) (stands_right s type kinds mode known h.0)
+        (same_right (class_declared type) (judge K false (named s.target)) (judge K false (named (own_name s.target))) (target_right s type kinds false h.1.0) (own_right s type kinds false h.1.1)),
+    tt,
+  )
+  rules_right frozen s type mode kinds known a = (
+    λ h. connective_right (judge K false (stands_next s.name mode)) (judge K false (stays_tree s.target)) (stands_next_right s type kinds mode known h.0) (stays_right s type kinds h.1),
+    tt,
+  )
+  rules_right stuck_at_pick s type mode kinds known a = (
+    λ h. connective_right (judge K false (binary op.And (stands s.name mode) (stands_next s.name mode))) (judge K false (stays_tree s.target))
+        (connective_right (judge K false (stands s.name mode)) (judge K false (stands_next s.name mode)) (stands_right s type kinds mode known h.0.0) (stands_next_right s type kinds mode known h.0.1))
+        (stays_right s type kinds h.1),
+    tt,
+  )
+  rules_right (offset d) s type mode kinds known a = tt
+  rules_right (ramp_down d f) s boolean mode kinds known a = cc
+  rules_right (ramp_down d f) s (range lo hi) mode kinds known a = (
+    λ h. connective_right (judge K false (stands_next s.name mode)) (judge K false (binary op.Equal (next_of (named s.target)) (greater_tree (binary op.Minus (named s.target) (number_tree d)) f)))
+        (stands_next_right s (range lo hi) kinds mode known h.0)
+        (same_right number_class (judge K false (named s.target)) (judge K false (greater_tree (binary op.Minus (named s.target) (number_tree d)) f)) (target_right s (range lo hi) kinds false h.1.0)
+        (greater_right s lo hi kinds s.target (read_judged s lo hi kinds h.1.0) d f (unless_none (ramp_fits d f lo hi) Outside a))),
+    tt,
+  )
+  rules_right (ramp_down d f) s (members ms) mode kinds known a = cc
+  rules_right (ramp_down d f) s (instance n actuals) mode kinds known a = cc
+
+  -- and each first rule section
+  first_right : (e : EffectTree) (s : SliceTree) (type : DeclaredTree) (mode : Text) → SliceKinds s type → IsKnown s (Some mode) → fault_of e type ≡ None → Each RuleRight (first_rules e s.name mode s.target)
+  first_right (stuck_at c) s type mode kinds known a = tt
+  first_right (follows f) s type mode kinds known a = tt
+  first_right inverted s type mode kinds known a = tt
+  first_right random s type mode kinds known a = tt
+  first_right erroneous s type mode kinds known a = tt
+  first_right stuck_at_pick s type mode kinds known a = tt
+  first_right (offset d) s type mode kinds known a = tt
+  first_right frozen s type mode kinds known a = (
+    λ h. connective_right (judge K false (stands s.name mode)) (judge K false (binary op.Equal (named s.target) (named (own_name s.target)))) (stands_right s type kinds mode known h.0)
+        (same_right (class_declared type) (judge K false (named s.target)) (judge K false (named (own_name s.target))) (target_right s type kinds false h.1.0) (own_right s type kinds false h.1.1)),
+    tt,
+  )
+  first_right (ramp_down d f) s boolean mode kinds known a = cc
+  first_right (ramp_down d f) s (range lo hi) mode kinds known a = (
+    λ h. connective_right (judge K false (stands s.name mode)) (judge K false (binary op.Equal (named s.target) (greater_tree (binary op.Minus (named (own_name s.target)) (number_tree d)) f)))
+        (stands_right s (range lo hi) kinds mode known h.0)
+        (same_right number_class (judge K false (named s.target)) (judge K false (greater_tree (binary op.Minus (named (own_name s.target)) (number_tree d)) f)) (target_right s (range lo hi) kinds false h.1.0)
+        (greater_right s lo hi kinds (own_name s.target) (own_judged s lo hi kinds h.1.1.0.0.0) d f (unless_none (ramp_fits d f lo hi) Outside a))),
+    tt,
+  )
+  first_right (ramp_down d f) s (members ms) mode kinds known a = cc
+  first_right (ramp_down d f) s (instance n actuals) mode kinds known a = cc
+
+  pub start_right : (start : Start) (e : EffectTree) (s : SliceTree) (type : DeclaredTree) (mode : Text) → SliceKinds s type → IsKnown s (Some mode) → fault_of e type ≡ None →
+      Each RuleRight (start_rules start e s.name mode s.target)
+  start_right Nominal e s type mode kinds known a = tt
+  start_right Any e s type mode kinds known a = first_right e s type mode kinds known a

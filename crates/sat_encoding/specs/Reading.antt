@@ -1,0 +1,35 @@
+-- Which names an expression has, asked node by node.
+use Rattle.std.specs.Prelude.{Bool, false, ◌||◌}
+use Rattle.smv_language.specs.Tree.{Tree, Trees, Branches, truth, number, leaf, not_of, negate, next_of, binary, choice, case_of, set_of, span, no_tree, tree_then, no_branch, branch_then}
+use Rattle.smv_language.specs.Flat.{FlatLeaf}
+use Rattle.smv_language.specs.ModelTree.{variable_tree}
+use Rattle.std.specs.Prelude.{map}
+use Rattle.sat_encoding_laws.specs.Inputs.{names_input}
+use Rattle.sat_encoding.specs.declared.inputs.Reading.{Reading}
+
+-- some name of the tree passes the test
+abbrev mutual
+  pub tree_any : {L : Type 0} → (L → Bool) → Tree L → Bool
+  tree_any test (truth b) = false
+  tree_any test (number n) = false
+  tree_any test (leaf l) = test l
+  tree_any test (not_of a) = tree_any test a
+  tree_any test (negate a) = tree_any test a
+  tree_any test (next_of a) = tree_any test a
+  tree_any test (binary o a b) = tree_any test a || tree_any test b
+  tree_any test (choice c a b) = tree_any test c || (tree_any test a || tree_any test b)
+  tree_any test (case_of bs) = branches_any test bs
+  tree_any test (set_of ts) = trees_any test ts
+  tree_any test (span lo hi) = false
+
+  pub trees_any : {L : Type 0} → (L → Bool) → Trees L → Bool
+  trees_any test no_tree = false
+  trees_any test (tree_then t ts) = tree_any test t || trees_any test ts
+
+  pub branches_any : {L : Type 0} → (L → Bool) → Branches L → Bool
+  branches_any test no_branch = false
+  branches_any test (branch_then c a bs) = tree_any test c || (tree_any test a || branches_any test bs)
+
+-- the name is an input, or a definition that reads one
+abbrev pub names_read : Reading → FlatLeaf → Bool
+names_read r = names_input (map variable_tree r.variables.now) r.definitions.items

@@ -1,0 +1,49 @@
+-- Which variables the lists of states use.
+use Rattle.std.specs.Prelude.{◌≡◌, ◌⊎◌, ℕ, ◌+◌, ◌*◌, ◌<◌, ◌≤◌, ◌^◌, List, length, All}
+use Rattle.smv_language.specs.Tree.{Tree}
+use Rattle.smv_language.specs.Trace.{Each}
+use Rattle.smv_language.specs.Flat.{FlatLeaf, FlatModel}
+use Rattle.smv_type_laws.specs.Costs.{cost_of, model_cost, state_bits}
+use Rattle.sat_clauses.specs.Literal.{Literal}
+use Rattle.sat_clauses.specs.Models.{ClausesBelow}
+use Rattle.sat_encoding_laws.specs.Layout.{input_bits, gates_place}
+use Rattle.sat_encoding_laws.specs.Lists.{state_list, first_list, step_list, bad_list}
+use Rattle.sat_encoding_laws.specs.Encodable.{IsEncodable, IsFitTop, IsStateBoolean}
+
+-- the variable is the constant's, a bit of the state now, or one past those of the inputs
+abbrev pub IsOfState : FlatModel → ℕ → Type 0
+IsOfState m x = (x ≡ 1) ⊎ (((2 ≤ x) × (x < state_bits m + 2)) ⊎ (gates_place m ≤ x))
+
+-- the clauses use such variables alone
+abbrev pub UseStates : FlatModel → List (List Literal) → Type 0
+UseStates m clauses = All (All (λ l. IsOfState m l.var)) clauses
+
+-- The lists of first states, of states and of bad states use no bits of a next state, and none of the inputs.
+abbrev pub ListsUseStates : Type 0
+ListsUseStates =
+    (m : FlatModel) → IsEncodable m →
+    UseStates m (first_list m)
+    × UseStates m (state_list m)
+    × ((top : Tree FlatLeaf) (history : List ℕ) (sets : List (List ℕ)) (size : ℕ) → IsFitTop m top → Each (IsStateBoolean m) history → UseStates m (bad_list m top history sets size))
+
+-- below this number are the variables of a model's lists: 4,096 for each unit of its cost past those of its bits
+abbrev pub lists_room : FlatModel → ℕ
+lists_room m = gates_place m + 4096 * model_cost m
+
+-- and of its list of bad states: with those of the top event, and of the counters of history bits
+abbrev pub bad_room : FlatModel → Tree FlatLeaf → List ℕ → ℕ → ℕ
+bad_room m top history size = lists_room m + 1024 * cost_of top + (2 * (size + 1)) * length history
+
+-- The variables of the lists are few: where the inputs have at most 2 ^ 30 bits, and the top event, the faults and the
+-- size are within their limits, all are below 2 ^ 31.
+pub record AreSmallLists (m : FlatModel) : Type 0 where
+  pub first : ClausesBelow (lists_room m) (first_list m)
+  pub states : ClausesBelow (lists_room m) (state_list m)
+  pub steps : ClausesBelow (lists_room m) (step_list m)
+  pub bad : (top : Tree FlatLeaf) (history : List ℕ) (sets : List (List ℕ)) (size : ℕ) → IsFitTop m top → Each (IsStateBoolean m) history
+      → ClausesBelow (bad_room m top history size) (bad_list m top history sets size)
+  pub fits : input_bits m ≤ 2 ^ 30 → (top : Tree FlatLeaf) (history : List ℕ) (size : ℕ) → cost_of top ≤ 60000 → length history ≤ 256 → size ≤ 256 → bad_room m top history size < 2 ^ 31
+
+-- the lists of an encodable model are small
+abbrev pub ListsAreSmall : Type 0
+ListsAreSmall = (m : FlatModel) → IsEncodable m → AreSmallLists m

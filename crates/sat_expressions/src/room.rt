@@ -1,0 +1,45 @@
+//! Room for more gates. A circuit that would pass the highest variable, and a word that is wider than the
+//! arithmetic of words takes, are told as want of memory; no typed model within its limits comes to either.
+
+ghost use Rattle.std.specs.Prelude.{◌≤◌, ◌-◌, ◌^◌, length, IsOk, OnOk};
+
+use sat_circuits::gates::Gates;
+use sat_circuits::word::Word;
+use base_values::OutOfMemory;
+
+/// Any one operation still has its variables.
+pub fn check_room(g: &Gates) -> Result<(), OutOfMemory>
+    ensures room { OnOk result (g.now.free ≤ 2 ^ 31 - 20000) }
+    ensures fits { g.now.free ≤ 2 ^ 31 - 20000 → IsOk result }
+    ensures least { 2 ≤ g.now.free }
+{
+    if g.free() <= 2147463648 {
+        Ok(())
+    } else {
+        Err(OutOfMemory)
+    }
+}
+
+/// The word is no wider than arithmetic takes.
+pub fn check_narrow(w: &Word) -> Result<(), OutOfMemory>
+    ensures narrow { OnOk result (length w.now ≤ 34) }
+    ensures fits { length w.now ≤ 34 → IsOk result }
+{
+    if w.len() <= 34 {
+        Ok(())
+    } else {
+        Err(OutOfMemory)
+    }
+}
+
+/// Words of this width are no wider than arithmetic takes.
+pub fn check_width(width: u32) -> Result<(), OutOfMemory>
+    ensures narrow { OnOk result (width ≤ 34) }
+    ensures fits { width ≤ 34 → IsOk result }
+{
+    if width <= 34 {
+        Ok(())
+    } else {
+        Err(OutOfMemory)
+    }
+}

@@ -1,0 +1,33 @@
+-- Elimination of a variable: all resolvents on it stand in the place of the clauses that have it.
+use Rattle.std.specs.Prelude.{◌≡◌, if◌then◌else◌, List, [], ◌∷◌, ◌++◌, Contains, refl}
+use Rattle.std.specs.List.{flat_map}
+use Rattle.sat_clauses.specs.Literal.{Literal, plain, opposite}
+use Rattle.sat_simplify.specs.Resolution.{resolvent, is_tautology}
+
+-- the list of this clause, unless that is always true
+abbrev pub unless_tautology : List Literal → List (List Literal)
+unless_tautology c = if is_tautology c then [] else c ∷ []
+
+-- the resolvents of a clause with each of these that are no tautologies
+abbrev pub resolvents_with : Literal → List (List Literal) → List Literal → List (List Literal)
+resolvents_with l ds c = flat_map (λ d. unless_tautology (resolvent l c d)) ds
+
+-- all resolvents of the clauses of a literal with those of its opposite that are no tautologies
+abbrev pub resolvents : Literal → List (List Literal) → List (List Literal) → List (List Literal)
+resolvents l cs ds = flat_map (resolvents_with l ds) cs
+
+-- of 1 or 2, and 1 or 3, with -1 or -2: the one with 2 is a tautology
+example : resolvents (plain 1) ((plain 1 ∷ plain 2 ∷ []) ∷ (plain 1 ∷ plain 3 ∷ []) ∷ []) ((opposite (plain 1) ∷ opposite (plain 2) ∷ []) ∷ []) ≡ (plain 3 ∷ opposite (plain 2) ∷ []) ∷ []
+example = refl
+
+-- the list with all clauses of a variable, and the list after its elimination
+pub record IsElimination (l : Literal) (old new : List (List Literal)) : Type 0 where
+  pub with : List (List Literal)
+  pub against : List (List Literal)
+  pub rest : List (List Literal)
+  pub old_is : old ≡ rest ++ (with ++ against)
+  pub new_is : new ≡ rest ++ resolvents l with against
+  pub have : (c : List Literal) → Contains with c → Contains c l
+  pub have_opposite : (c : List Literal) → Contains against c → Contains c (opposite l)
+  pub rest_lacks : (c : List Literal) → Contains rest c → Contains c l → ⊥
+  pub rest_lacks_opposite : (c : List Literal) → Contains rest c → Contains c (opposite l) → ⊥

@@ -1,0 +1,9 @@
+use Rattle.std.proofs.Common.{◌≡◌, take}
+use Rattle.smv_expression_reader.specs.Lists.{expected_after, place_view, Fits}
+use Rattle.smv_expression_reader.proofs.list.read_list.Given as goal
+
+abbrev pub invariant-loop-i : goal.invariant-loop-i
+invariant-loop-i l = record {
+  path : expected_after (take l.i l.tokens) ≡ place_view l.place l.frames;
+  fits : Fits l.place l.frames;
+}

@@ -1,0 +1,11 @@
+-- That there is no module `main` is the first broken rule.
+use Rattle.std.proofs.Common.{rules, ◌≡◌, None, codes}
+use Rattle.smv_language.specs.ProgramTree.{program_tree}
+use Rattle.smv_scope.specs.SceneTree.{module_from}
+use Rattle.smv_flat.proofs.FlatFaults.{no_place, no_main_fault}
+use Rattle.smv_flat.proofs.flattening.Scope.of_program.Goals as goal
+
+pub returns-in-None-clause-fault : goal.returns-in-None-clause-fault
+returns-in-None-clause-fault c =
+    let none : module_from 0 (program_tree c.args.p.now) (codes "main") ≡ None = search rules in
+    no_main_fault (program_tree c.args.p.now) (no_place 0 (program_tree c.args.p.now) (codes "main") none)

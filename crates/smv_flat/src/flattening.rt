@@ -1,0 +1,335 @@
+//! The public calls: a program's flat model ([`flatten`]), and expressions at one of its instances ([`resolve_top`],
+//! [`resolve_at`], and [`Scope`] where many of them are read over one program).
+//!
+//! Each makes the tables of `smv_scope`, judges by `judge` or `values`, and builds by `build` or `resolve`. What breaks a
+//! rule of names is told as a [`FlatFault`]: its item is one of the program, or 0 for an expression that is none of its parts.
+
+ghost use Rattle.std.specs.Prelude.{◌≡◌, ◌∷◌, [], ◌↔◌, ◌&&◌, codes, not, true, false, None, IfOk, IfErr, OnOk, IsErrOf};
+ghost use Rattle.smv_language.specs.ProgramTree.{ProgramTree, program_tree};
+ghost use Rattle.smv_language.specs.Scope.{find_module};
+ghost use Rattle.smv_scope.specs.declared.fault.Rule.TheVariants.{NoMain, NoSuchName, NextHere, InputHere};
+ghost use Rattle.smv_flat.specs.Shape.{shape};
+ghost use Rattle.smv_scope.specs.Closed.{is_closed, bounds_of, IsClosedModel};
+ghost use Rattle.smv_language.specs.ModelTree.{model_tree};
+ghost use Rattle.smv_flat_laws.specs.FlatTrace.{NamesOwn};
+ghost use Rattle.smv_scope.specs.Faults.{first_of, IsFaultOf};
+ghost use Rattle.std.specs.Prelude.{Some};
+ghost use Rattle.smv_flat_laws.specs.Rules.{IsAccepted};
+ghost use Rattle.smv_flat_laws.specs.Model.{IsFlatOf};
+ghost use Rattle.smv_scope.specs.SceneTree.{module_from, IsScene, program_of};
+ghost use Rattle.smv_scope.specs.Closed.{AreVariables};
+ghost use Rattle.smv_scope.specs.Walked.{AreDeclared};
+ghost use Rattle.smv_scope.specs.NeedsTree.{AreNeeds};
+ghost use Rattle.smv_flat.specs.ScopeOf.{IsScopeOf, IsAnyScope};
+ghost use Rattle.smv_flat.specs.ResolvedAt.{ResolvesAt, HasNoNextAt, KeepsAt, TellsAt};
+ghost use Rattle.smv_language.specs.Flat.{FlatModel as ModelTree};
+ghost use Rattle.smv_flat_laws.specs.Looks.{ActualsMean};
+
+use crate::build::build;
+use crate::judge::judge;
+use crate::resolve::{Source, resolve};
+use crate::values::{Judged, judge_value};
+use std::alloc::Global;
+use smv_scope::bounds::Bounds;
+use smv_scope::fault::{FlatFault, Rule};
+use smv_scope::modules::{Modules, main_place};
+use smv_scope::names::Scene;
+use smv_scope::needs::Needs;
+use smv_scope::walk::Walk;
+use smv_language::model::{Flat, FlatModel, VariableList};
+use smv_language::{Expr, Program};
+use base_values::Dotted;
+
+/// The tables of a program, for expressions at its instances: each costs its own size alone.
+#[derive(Drop)]
+pub struct Scope<'a> {
+    scene: Scene<'a>,
+    needs: Needs,
+}
+
+impl<'a> Scope<'a> {
+    /// The scope of a program that keeps the rules of modules and of the walk.
+    pub fn of_program(alloc: Global, p: &'a Program) -> Result<Scope<'a>, FlatFault>
+        ensures scope { IfOk result (IsScopeOf (program_tree p.now)) }
+        ensures fault { IfErr result (IsFaultOf (program_tree p.now)) }
+    {
+        match main_place(p.modules.as_slice()) {
+            Some(main) => scope_from(alloc, p, main),
+            None => Err(FlatFault {
+                rule: Rule::NoMain,
+                item: 0,
+            }),
+        }
+    }
+
+    /// An expression as [`resolve_at`] resolves it.
+    pub fn resolve_at(
+        &self,
+        alloc: Global,
+        m: &FlatModel,
+        instance: u32,
+        inputs: bool,
+        e: &Expr<Dotted>,
+    ) -> Result<Expr<Flat>, FlatFault>
+        requires scope { IsAnyScope self.now }
+        ensures shape { IfOk result (λ made. shape made ≡ shape e.now) }
+        ensures closed { IfOk result (λ made. is_closed (bounds_of m.now) made ≡ true) }
+        ensures resolved { (p : ProgramTree) → IsScopeOf p self.now → ResolvesAt p (model_tree m.now) «instance» e.now result }
+        ensures no_next { (p : ProgramTree) → IsScopeOf p self.now → HasNoNextAt p (model_tree m.now) «instance» e.now result }
+        ensures kept { (p : ProgramTree) → IsScopeOf p self.now → KeepsAt p (model_tree m.now) «instance» inputs e.now result }
+        ensures fault { (p : ProgramTree) → IsScopeOf p self.now → TellsAt p (model_tree m.now) «instance» inputs e.now result }
+    {
+        resolve_value(
+            alloc,
+            &self.scene,
+            &self.needs,
+            m,
+            instance as usize,
+            inputs,
+            e,
+        )
+    }
+}
+
+/// The scope of a program whose module `main` stands at a place.
+#[tactic(auto, using(crate::proofs::FlatFaults::want_fault))]
+fn scope_from<'a>(alloc: Global, p: &'a Program, main: usize) -> Result<Scope<'a>, FlatFault>
+    requires main { module_from 0 (program_tree p.now) (codes "main") ≡ Some main }
+    ensures scope { IfOk result (IsScopeOf (program_tree p.now)) }
+    ensures fault { IfErr result (IsFaultOf (program_tree p.now)) }
+{
+    let (scene, _variables) = scene_of(alloc, p, main)?;
+    let needs = Needs::of_scene(alloc, &scene)?;
+    Ok(Scope { scene, needs })
+}
+
+/// The flat model of a program, or the first rule that it breaks.
+///
+/// The rules are tried in three groups. First those of modules and of their names, in written order; then
+/// those of instances and limits, along the walk over the instances; then all others, by instances, then
+/// items. At one item the rule with the lowest number is told.
+pub fn flatten(alloc: Global, p: &Program) -> Result<FlatModel, FlatFault>
+    ensures closed { IfOk result IsClosedModel }
+    ensures own { IfOk result (λ m. NamesOwn (model_tree m)) }
+    ensures accepted { IfOk result (λ m. IsAccepted (program_tree p.now)) }
+    ensures flat { IfOk result (λ m. IsFlatOf (program_tree p.now) (model_tree m)) }
+    ensures alone { IfOk result (λ m. (k : ModelTree) → IsFlatOf (program_tree p.now) k → k ≡ model_tree m) }
+    ensures meant { OnOk result (ActualsMean (program_tree p.now)) }
+    ensures fault { IfErr result (IsFaultOf (program_tree p.now)) }
+    ensures no_main { IsErrOf result (record { rule = NoMain; item = 0 }) ↔ (find_module (program_tree p.now) (codes "main") ≡ None) }
+{
+    match main_place(p.modules.as_slice()) {
+        Some(main) => flatten_from(alloc, p, main),
+        None => Err(FlatFault {
+            rule: Rule::NoMain,
+            item: 0,
+        }),
+    }
+}
+
+/// The flat model of a program whose module `main` stands at a place.
+fn flatten_from(alloc: Global, p: &Program, main: usize) -> Result<FlatModel, FlatFault>
+    requires main { module_from 0 (program_tree p.now) (codes "main") ≡ Some main }
+    ensures closed { IfOk result IsClosedModel }
+    ensures own { IfOk result (λ m. NamesOwn (model_tree m)) }
+    ensures accepted { IfOk result (λ m. IsAccepted (program_tree p.now)) }
+    ensures flat { IfOk result (λ m. IsFlatOf (program_tree p.now) (model_tree m)) }
+    ensures alone { IfOk result (λ m. (k : ModelTree) → IsFlatOf (program_tree p.now) k → k ≡ model_tree m) }
+    ensures meant { OnOk result (ActualsMean (program_tree p.now)) }
+    ensures fault { IfErr result (IsFaultOf (program_tree p.now)) }
+{
+    let (scene, variables) = scene_of(alloc, p, main)?;
+    model_of(alloc, &scene, variables)
+}
+
+/// The tables of a program whose module `main` stands at a place, and its variables.
+#[tactic(auto, using(crate::proofs::FlatFaults::want_fault))]
+fn scene_of<'a>(
+    alloc: Global,
+    p: &'a Program,
+    main: usize,
+) -> Result<(Scene<'a>, VariableList), FlatFault>
+    requires main { module_from 0 (program_tree p.now) (codes "main") ≡ Some main }
+    ensures scene { IfOk result (λ made. IsScene made.0) }
+    ensures program { IfOk result (λ made. program_of made.0 ≡ program_tree p.now) }
+    ensures variables { IfOk result (λ made. AreVariables made.1) }
+    ensures declared { IfOk result (λ made. AreDeclared (program_tree p.now) made.1) }
+    ensures fault { IfErr result (IsFaultOf (program_tree p.now)) }
+{
+    let modules = Modules::read(alloc, p, main)?;
+    let (spots, variables) = Walk::whole(alloc, &modules)?.into_parts();
+    let scene = Scene::of_instances(alloc, modules, spots)?;
+    Ok((scene, variables))
+}
+
+/// The flat model of a scene with these variables, if no rule of its items is broken.
+#[tactic(auto, using(crate::proofs::FlatFaults::want_fault))]
+fn model_of(
+    alloc: Global,
+    scene: &Scene<'_>,
+    variables: VariableList,
+) -> Result<FlatModel, FlatFault>
+    requires scene { IsScene scene.now }
+    requires variables { AreVariables variables }
+    requires declared { AreDeclared (program_of scene.now) variables }
+    ensures closed { IfOk result IsClosedModel }
+    ensures accepted { IfOk result (λ m. IsAccepted (program_of scene.now)) }
+    ensures flat { IfOk result (λ m. IsFlatOf (program_of scene.now) (model_tree m)) }
+    ensures alone { IfOk result (λ m. (k : ModelTree) → IsFlatOf (program_of scene.now) k → k ≡ model_tree m) }
+    ensures meant { OnOk result (ActualsMean (program_of scene.now)) }
+    ensures fault { IfErr result (IsFaultOf (program_of scene.now)) }
+{
+    let needs = Needs::of_scene(alloc, scene)?;
+    judge(alloc, scene, &needs)?;
+    build(alloc, scene, &needs, variables)
+}
+
+/// An expression at `main`, over the numbers of the program's flat model. It may have no `next` and read
+/// no input. The fault's item is 0.
+pub fn resolve_top(
+    alloc: Global,
+    p: &Program,
+    m: &FlatModel,
+    e: &Expr<Dotted>,
+) -> Result<Expr<Flat>, FlatFault>
+    ensures shape { IfOk result (λ made. shape made ≡ shape e.now) }
+    ensures closed { IfOk result (λ made. is_closed (bounds_of m.now) made ≡ true) }
+    ensures resolved { ResolvesAt (program_tree p.now) (model_tree m.now) 0 e.now result }
+    ensures no_next { HasNoNextAt (program_tree p.now) (model_tree m.now) 0 e.now result }
+    ensures kept { KeepsAt (program_tree p.now) (model_tree m.now) 0 false e.now result }
+    ensures fault { TellsAt (program_tree p.now) (model_tree m.now) 0 false e.now result }
+{
+    resolve_at(alloc, p, m, 0, false, e)
+}
+
+/// An expression as the value of a DEFINE of an instance, over the numbers of the program's flat model. It
+/// may have no `next`, and read inputs only where `inputs` says so. The fault's item is 0.
+pub fn resolve_at(
+    alloc: Global,
+    p: &Program,
+    m: &FlatModel,
+    instance: u32,
+    inputs: bool,
+    e: &Expr<Dotted>,
+) -> Result<Expr<Flat>, FlatFault>
+    ensures shape { IfOk result (λ made. shape made ≡ shape e.now) }
+    ensures closed { IfOk result (λ made. is_closed (bounds_of m.now) made ≡ true) }
+    ensures resolved { ResolvesAt (program_tree p.now) (model_tree m.now) «instance» e.now result }
+    ensures no_next { HasNoNextAt (program_tree p.now) (model_tree m.now) «instance» e.now result }
+    ensures kept { KeepsAt (program_tree p.now) (model_tree m.now) «instance» inputs e.now result }
+    ensures fault { TellsAt (program_tree p.now) (model_tree m.now) «instance» inputs e.now result }
+{
+    match main_place(p.modules.as_slice()) {
+        Some(main) => resolve_from(alloc, p, main, m, instance as usize, inputs, e),
+        None => Err(FlatFault {
+            rule: Rule::NoMain,
+            item: 0,
+        }),
+    }
+}
+
+/// An expression of a program whose module `main` stands at a place.
+fn resolve_from(
+    alloc: Global,
+    p: &Program,
+    main: usize,
+    m: &FlatModel,
+    spot: usize,
+    inputs: bool,
+    e: &Expr<Dotted>,
+) -> Result<Expr<Flat>, FlatFault>
+    requires main { module_from 0 (program_tree p.now) (codes "main") ≡ Some main }
+    ensures shape { IfOk result (λ made. shape made ≡ shape e.now) }
+    ensures closed { IfOk result (λ made. is_closed (bounds_of m.now) made ≡ true) }
+    ensures resolved { ResolvesAt (program_tree p.now) (model_tree m.now) spot e.now result }
+    ensures no_next { HasNoNextAt (program_tree p.now) (model_tree m.now) spot e.now result }
+    ensures kept { KeepsAt (program_tree p.now) (model_tree m.now) spot inputs e.now result }
+    ensures fault { TellsAt (program_tree p.now) (model_tree m.now) spot inputs e.now result }
+{
+    let (scene, _variables) = scene_of(alloc, p, main)?;
+    resolve_in(alloc, &scene, m, spot, inputs, e)
+}
+
+/// An expression by the tables of a program.
+fn resolve_in(
+    alloc: Global,
+    scene: &Scene<'_>,
+    m: &FlatModel,
+    spot: usize,
+    inputs: bool,
+    e: &Expr<Dotted>,
+) -> Result<Expr<Flat>, FlatFault>
+    requires scene { IsScene scene.now }
+    ensures shape { IfOk result (λ made. shape made ≡ shape e.now) }
+    ensures closed { IfOk result (λ made. is_closed (bounds_of m.now) made ≡ true) }
+    ensures resolved { ResolvesAt (program_of scene.now) (model_tree m.now) spot e.now result }
+    ensures no_next { HasNoNextAt (program_of scene.now) (model_tree m.now) spot e.now result }
+    ensures kept { KeepsAt (program_of scene.now) (model_tree m.now) spot inputs e.now result }
+    ensures fault { TellsAt (program_of scene.now) (model_tree m.now) spot inputs e.now result }
+{
+    let needs = Needs::of_scene(alloc, scene)?;
+    resolve_value(alloc, scene, &needs, m, spot, inputs, e)
+}
+
+/// An expression that is judged first.
+fn resolve_value(
+    alloc: Global,
+    scene: &Scene<'_>,
+    needs: &Needs,
+    m: &FlatModel,
+    spot: usize,
+    inputs: bool,
+    e: &Expr<Dotted>,
+) -> Result<Expr<Flat>, FlatFault>
+    requires scene { IsScene scene.now }
+    requires needs { AreNeeds (program_of scene.now) needs.now }
+    ensures shape { IfOk result (λ made. shape made ≡ shape e.now) }
+    ensures closed { IfOk result (λ made. is_closed (bounds_of m.now) made ≡ true) }
+    ensures resolved { ResolvesAt (program_of scene.now) (model_tree m.now) spot e.now result }
+    ensures no_next { HasNoNextAt (program_of scene.now) (model_tree m.now) spot e.now result }
+    ensures kept { KeepsAt (program_of scene.now) (model_tree m.now) spot inputs e.now result }
+    ensures fault { TellsAt (program_of scene.now) (model_tree m.now) spot inputs e.now result }
+{
+    let judged = judge_value(alloc, scene, needs, spot, e)?;
+    match rule_at(judged, inputs) {
+        Some(rule) => Err(FlatFault { rule, item: 0 }),
+        None => resolve(alloc, scene, needs, source_at(m, spot), e),
+    }
+}
+
+/// The place of an expression that is no part of the program.
+fn source_at(m: &FlatModel, spot: usize) -> Source
+    ensures { result ≡ record { spot = spot; item = 0; bounds = bounds_of m.now } }
+{
+    Source {
+        spot,
+        item: 0,
+        bounds: all_of(m),
+    }
+}
+
+/// How many things an expression of a model can name.
+fn all_of(m: &FlatModel) -> Bounds
+    ensures { result ≡ bounds_of m.now }
+{
+    Bounds {
+        variables: m.variables.len(),
+        symbols: m.symbols.len(),
+        definitions: m.definitions.len(),
+    }
+}
+
+/// The first rule that an expression breaks as the value of a DEFINE.
+fn rule_at(judged: Judged, inputs: bool) -> Option<Rule>
+    ensures { result ≡ first_of ((judged.no_value, NoSuchName) ∷ (judged.next, NextHere) ∷ (judged.input && not inputs, InputHere) ∷ []) }
+{
+    if judged.no_value {
+        Some(Rule::NoSuchName)
+    } else if judged.next {
+        Some(Rule::NextHere)
+    } else if judged.input && !inputs {
+        Some(Rule::InputHere)
+    } else {
+        None
+    }
+}

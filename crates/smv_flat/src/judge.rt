@@ -1,0 +1,456 @@
+//! The rules of names, targets and moments, tried by instances, then items, then numbers. [`judge`] is the main
+//! function; each kind of item has a function `judge_..` that asks `values` what may be wrong, and one `rule_of_..`
+//! that tells which rule that breaks first where the expression stands.
+//!
+//! Whether a target is assigned twice is known from the assignments before: for each target of an instance [`Times`] has
+//! the moments of which they speak.
+
+ghost use Rattle.std.specs.Prelude.{◌≡◌, ◌∷◌, [], if◌then◌else◌, IfOk, IfErr, OnOk};
+ghost use Rattle.std.specs.Prelude.{Some};
+ghost use Rattle.smv_language.specs.ProgramTree.{Text, assignment_tree, decl_tree, declared_tree, define_tree};
+ghost use Rattle.smv_language.specs.Texts.{same_text};
+ghost use Rattle.smv_language.specs.Scope.{Role as RoleOf};
+ghost use Rattle.smv_language.specs.Trace.{Each};
+ghost use Rattle.smv_language.specs.Written.{tree_of};
+ghost use Rattle.smv_flat_laws.specs.Items.{a_declaration, a_definition, an_assignment, an_init, an_invar, a_trans};
+ghost use Rattle.smv_scope.specs.ItemTree.{item_tree};
+ghost use Rattle.smv_flat.specs.Assigned.{value_rule, assignment_rule, IsItemTold, IsPlaceTold, IsTargetTold, may_assign, local_meant, is_met, times_of, with_moment};
+ghost use Rattle.smv_flat_laws.specs.Rules.{IsKept, use_sites};
+ghost use Rattle.smv_scope.specs.SceneTree.{IsScene, program_of};
+ghost use Rattle.smv_scope.specs.NeedsTree.{AreNeeds};
+ghost use Rattle.smv_flat.specs.Verdicts.{IsToldOf, IsToldHere, IsInstanceTold, AreActuals, instance_in};
+ghost use Rattle.smv_scope.specs.Faults.{first_of, IsFaultOf};
+ghost use Rattle.smv_scope.specs.declared.fault.Rule.TheVariants.{NoSuchName, DefineLoop, NextHere, InputHere};
+
+use crate::values::{Judged, JudgedActual, is_on_meaning_circle, judge_actuals, judge_value};
+use indexmap::IndexMap;
+use std::alloc::Global;
+use smv_scope::fault::{FlatFault, Rule};
+use smv_scope::items::Item;
+use smv_scope::modules::Local;
+use smv_scope::names::Scene;
+use smv_scope::needs::Needs;
+use smv_scope::walk::Meaning;
+use smv_language::model::Role;
+use smv_language::{Assignment, Decl, Declared, Define, Expr, Moment};
+use base_values::{Dotted, Name, OutOfMemory};
+
+/// The moments of which the assignments so far speak, for one target.
+#[derive(Clone, Copy)]
+struct Times {
+    always: bool,
+    first: bool,
+    after: bool,
+}
+
+/// The first fault of the items of all instances, or Ok where there is none.
+pub(crate) fn judge(alloc: Global, scene: &Scene<'_>, needs: &Needs) -> Result<(), FlatFault>
+    requires scene { IsScene scene.now }
+    requires needs { AreNeeds (program_of scene.now) needs.now }
+    ensures kept { IfOk result (λ _. Each (IsKept (program_of scene.now)) (use_sites (program_of scene.now))) }
+    ensures fault { IfErr result (IsFaultOf (program_of scene.now)) }
+{
+    for spot in 0..scene.spots.len() {
+        match judge_instance(alloc, scene, needs, spot) {
+            Ok(None) => {}
+            Ok(Some(fault)) => return Err(fault),
+            Err(OutOfMemory) => {
+                return Err(FlatFault {
+                    rule: Rule::OutOfMemory,
+                    item: 0,
+                });
+            }
+        }
+    }
+    Ok(())
+}
+
+/// The first fault of the items of an instance.
+fn judge_instance(
+    alloc: Global,
+    scene: &Scene<'_>,
+    needs: &Needs,
+    spot: usize,
+) -> Result<Option<FlatFault>, OutOfMemory>
+    requires scene { IsScene scene.now }
+    requires needs { AreNeeds (program_of scene.now) needs.now }
+    ensures { IfOk result (IsInstanceTold (program_of scene.now) spot) }
+{
+    let mut assigned = IndexMap::new(alloc);
+    for place in 0..scene.item_count(spot) {
+        let fault = judge_place(alloc, scene, needs, spot, place, &mut assigned)?;
+        if let Some(fault) = fault {
+            return Ok(Some(fault));
+        }
+    }
+    Ok(None)
+}
+
+/// The fault of the item at a place of an instance, after the assignments that stand in `assigned`.
+fn judge_place<'a>(
+    alloc: Global,
+    scene: &Scene<'a>,
+    needs: &Needs,
+    spot: usize,
+    place: usize,
+    assigned: &mut IndexMap<&'a [u8], Times>,
+) -> Result<Option<FlatFault>, OutOfMemory>
+    requires scene { IsScene scene.now }
+    requires needs { AreNeeds (program_of scene.now) needs.now }
+    ensures { IfOk result (IsPlaceTold (program_of scene.now) spot place assigned.old.entries assigned.new.entries) }
+{
+    let Some((item, number)) = scene.item_at(spot, place) else {
+        return Ok(None);
+    };
+    let Some(rule) = judge_item(alloc, scene, needs, spot, place, item, assigned)? else {
+        return Ok(None);
+    };
+    Ok(Some(FlatFault { rule, item: number }))
+}
+
+/// The first rule that an item breaks at an instance.
+fn judge_item<'a>(
+    alloc: Global,
+    scene: &Scene<'_>,
+    needs: &Needs,
+    spot: usize,
+    place: usize,
+    item: Item<'a>,
+    assigned: &mut IndexMap<&'a [u8], Times>,
+) -> Result<Option<Rule>, OutOfMemory>
+    requires scene { IsScene scene.now }
+    requires needs { AreNeeds (program_of scene.now) needs.now }
+    ensures { IfOk result (IsItemTold (program_of scene.now) spot place assigned.old.entries assigned.new.entries (item_tree item.entry)) }
+{
+    match item {
+        Item::Declared(_, decl) => judge_declaration(alloc, scene, needs, spot, place, decl),
+        Item::Defined(define) => judge_definition(alloc, scene, needs, spot, place, define),
+        Item::Assigned(assignment) => {
+            judge_assignment(alloc, scene, needs, spot, place, assignment, assigned)
+        }
+        Item::Constants(_) => Ok(None),
+        Item::Init(e) => judge_moment(alloc, scene, needs, spot, e),
+        Item::Invar(e) => judge_moment(alloc, scene, needs, spot, e),
+        Item::Trans(e) => judge_step(alloc, scene, needs, spot, e),
+    }
+}
+
+/// The first rule that the declaration of an instance breaks by its actuals; that of a variable breaks none.
+fn judge_declaration(
+    alloc: Global,
+    scene: &Scene<'_>,
+    needs: &Needs,
+    spot: usize,
+    place: usize,
+    decl: &Decl,
+) -> Result<Option<Rule>, OutOfMemory>
+    requires scene { IsScene scene.now }
+    requires needs { AreNeeds (program_of scene.now) needs.now }
+    ensures { IfOk result (λ o. (role : RoleOf) → IsToldHere (program_of scene.now) spot place (a_declaration role (decl_tree decl.now)) o) }
+{
+    let Some(actuals) = actuals_of(&decl.what) else {
+        return Ok(None);
+    };
+    let Some(inner) = instance_in(scene.own(spot, place)) else {
+        return Ok(None);
+    };
+    let judged = judge_actuals(alloc, scene, needs, spot, inner, actuals)?;
+    Ok(rule_of_actuals(judged))
+}
+
+/// The actuals of the declaration of an instance.
+fn actuals_of<'a>(what: &'a Declared) -> Option<&'a [Expr<Dotted>]>
+    ensures { AreActuals (declared_tree what.now) result }
+{
+    match what {
+        Declared::Instance(_, actuals) => Some(actuals.as_slice()),
+        Declared::Boolean | Declared::Range(_, _) | Declared::Members(_) => None,
+    }
+}
+
+/// The number of an instance that is meant.
+fn instance_in(meaning: Meaning) -> Option<usize>
+    ensures { result ≡ instance_in meaning }
+{
+    match meaning {
+        Meaning::Instance(inner) => Some(inner),
+        _ => None,
+    }
+}
+
+/// The first rule that a define breaks at an instance.
+fn judge_definition(
+    alloc: Global,
+    scene: &Scene<'_>,
+    needs: &Needs,
+    spot: usize,
+    place: usize,
+    define: &Define,
+) -> Result<Option<Rule>, OutOfMemory>
+    requires scene { IsScene scene.now }
+    requires needs { AreNeeds (program_of scene.now) needs.now }
+    ensures { IfOk result (IsToldHere (program_of scene.now) spot place (a_definition (define_tree define.now))) }
+{
+    let judged = judge_value(alloc, scene, needs, spot, &define.value)?;
+    let circle = is_on_meaning_circle(needs, scene.own(spot, place));
+    Ok(rule_of_definition(judged, circle))
+}
+
+/// The first rule that an expression of one moment breaks at an instance.
+fn judge_moment(
+    alloc: Global,
+    scene: &Scene<'_>,
+    needs: &Needs,
+    spot: usize,
+    e: &Expr<Dotted>,
+) -> Result<Option<Rule>, OutOfMemory>
+    requires scene { IsScene scene.now }
+    requires needs { AreNeeds (program_of scene.now) needs.now }
+    ensures first { IfOk result (IsToldOf (program_of scene.now) spot (an_init (tree_of e.now))) }
+    ensures each { IfOk result (IsToldOf (program_of scene.now) spot (an_invar (tree_of e.now))) }
+{
+    let judged = judge_value(alloc, scene, needs, spot, e)?;
+    Ok(rule_of_now(judged))
+}
+
+/// The first rule that an expression of a moment and the next one breaks at an instance.
+fn judge_step(
+    alloc: Global,
+    scene: &Scene<'_>,
+    needs: &Needs,
+    spot: usize,
+    e: &Expr<Dotted>,
+) -> Result<Option<Rule>, OutOfMemory>
+    requires scene { IsScene scene.now }
+    requires needs { AreNeeds (program_of scene.now) needs.now }
+    ensures { IfOk result (IsToldOf (program_of scene.now) spot (a_trans (tree_of e.now))) }
+{
+    let judged = judge_value(alloc, scene, needs, spot, e)?;
+    Ok(rule_of_step(judged))
+}
+
+/// The first rule that the value of a define breaks.
+fn rule_of_definition(value: Judged, on_circle: bool) -> Option<Rule>
+    ensures { result ≡ first_of ((value.no_value, NoSuchName) ∷ (on_circle, DefineLoop) ∷ (value.next, NextHere) ∷ []) }
+{
+    if value.no_value {
+        Some(Rule::NoSuchName)
+    } else if on_circle {
+        Some(Rule::DefineLoop)
+    } else if value.next {
+        Some(Rule::NextHere)
+    } else {
+        None
+    }
+}
+
+/// The first rule that the actuals of an instance break.
+fn rule_of_actuals(actuals: JudgedActual) -> Option<Rule>
+    ensures { result ≡ first_of ((actuals.no_value, NoSuchName) ∷ (actuals.circle, DefineLoop) ∷ (actuals.next, NextHere) ∷ []) }
+{
+    if actuals.no_value {
+        Some(Rule::NoSuchName)
+    } else if actuals.circle {
+        Some(Rule::DefineLoop)
+    } else if actuals.next {
+        Some(Rule::NextHere)
+    } else {
+        None
+    }
+}
+
+/// The first rule that a value breaks which speaks of one moment alone.
+fn rule_of_now(now: Judged) -> Option<Rule>
+    ensures { result ≡ first_of ((now.no_value, NoSuchName) ∷ (now.next, NextHere) ∷ (now.input, InputHere) ∷ []) }
+{
+    if now.no_value {
+        Some(Rule::NoSuchName)
+    } else if now.next {
+        Some(Rule::NextHere)
+    } else if now.input {
+        Some(Rule::InputHere)
+    } else {
+        None
+    }
+}
+
+/// The first rule that a value breaks which speaks of a moment and the one after it.
+fn rule_of_step(step: Judged) -> Option<Rule>
+    ensures { result ≡ first_of ((step.no_value, NoSuchName) ∷ (step.nested_next, NextHere) ∷ (step.next_input, InputHere) ∷ []) }
+{
+    if step.no_value {
+        Some(Rule::NoSuchName)
+    } else if step.nested_next {
+        Some(Rule::NextHere)
+    } else if step.next_input {
+        Some(Rule::InputHere)
+    } else {
+        None
+    }
+}
+
+/// The first rule that the value of an assignment breaks, by the moment of which it speaks.
+fn rule_of_value(when: Moment, value: Judged) -> Option<Rule>
+    ensures { result ≡ value_rule when value }
+{
+    match when {
+        Moment::Always | Moment::First => rule_of_now(value),
+        Moment::After => rule_of_step(value),
+    }
+}
+
+/// The first rule that an assignment breaks whose names and target are lawful; `met` says that an earlier
+/// one speaks of the same time.
+fn rule_of_assignment(met: bool, when: Moment, value: Judged) -> Option<Rule>
+    ensures { result ≡ assignment_rule met when value }
+{
+    if met {
+        Some(Rule::DoubleAssign)
+    } else {
+        rule_of_value(when, value)
+    }
+}
+
+/// The first rule that an assignment breaks at an instance, after those that stand in `assigned`.
+fn judge_assignment<'a>(
+    alloc: Global,
+    scene: &Scene<'_>,
+    needs: &Needs,
+    spot: usize,
+    place: usize,
+    assignment: &'a Assignment,
+    assigned: &mut IndexMap<&'a [u8], Times>,
+) -> Result<Option<Rule>, OutOfMemory>
+    requires scene { IsScene scene.now }
+    requires needs { AreNeeds (program_of scene.now) needs.now }
+    ensures { IfOk result (IsItemTold (program_of scene.now) spot place assigned.old.entries assigned.new.entries (an_assignment (assignment_tree assignment.now))) }
+{
+    let judged = judge_value(alloc, scene, needs, spot, &assignment.value)?;
+    if judged.no_value {
+        return Ok(Some(Rule::NoSuchName));
+    }
+    let Some(target) = target_of(scene, spot, assignment) else {
+        return Ok(Some(Rule::NotATarget));
+    };
+    let met = note_assigned(assigned, target, assignment.when)?;
+    Ok(rule_of_assignment(met, assignment.when, judged))
+}
+
+/// The target of an assignment, if it is a variable that may be assigned so.
+fn target_of<'a>(scene: &Scene<'_>, spot: usize, assignment: &'a Assignment) -> Option<&'a Name>
+    ensures { IsTargetTold scene.now spot assignment.now.target assignment.now.when result }
+{
+    let [target] = assignment.target.parts() else {
+        return None;
+    };
+    if is_target(local_meaning(scene, spot, target), assignment.when) {
+        Some(target)
+    } else {
+        None
+    }
+}
+
+/// Whether a variable may be assigned: a state variable always, a frozen one at the first moment.
+fn is_target(meaning: Meaning, when: Moment) -> bool
+    ensures { result ≡ may_assign meaning when }
+{
+    match meaning {
+        Meaning::Variable { role, .. } => match role {
+            Role::State => true,
+            Role::Frozen => match when {
+                Moment::First => true,
+                Moment::Always | Moment::After => false,
+            },
+            Role::Input => false,
+        },
+        _ => false,
+    }
+}
+
+/// Notes an assignment. The answer says whether an earlier one speaks of the same time.
+fn note_assigned<'a>(
+    assigned: &mut IndexMap<&'a [u8], Times>,
+    target: &'a Name,
+    when: Moment,
+) -> Result<bool, OutOfMemory>
+    ensures met { IfOk result (λ met. met ≡ is_met (times_of assigned.old.entries target.now) when) }
+    ensures noted { OnOk result ((x : Text) → times_of assigned.new.entries x
+        ≡ (if same_text target.now x then with_moment (times_of assigned.old.entries target.now) when else times_of assigned.old.entries x)) }
+{
+    let times = times_at(assigned, target.text());
+    note_times(assigned, target.text(), times.with(when))?;
+    Ok(times.is_met(when))
+}
+
+/// The moments of which the assignments of a target speak.
+fn times_at(assigned: &IndexMap<&[u8], Times>, target: &[u8]) -> Times
+    ensures { result ≡ times_of assigned.now.entries target.now }
+{
+    match assigned.get(target) {
+        Some(times) => *times,
+        None => Times {
+            always: false,
+            first: false,
+            after: false,
+        },
+    }
+}
+
+/// Notes the moments of which the assignments of a target speak.
+fn note_times<'a>(
+    assigned: &mut IndexMap<&'a [u8], Times>,
+    target: &'a [u8],
+    times: Times,
+) -> Result<(), OutOfMemory>
+    ensures { OnOk result ((x : Text) → times_of assigned.new.entries x
+        ≡ (if same_text target.now x then times else times_of assigned.old.entries x)) }
+{
+    assigned.insert(target, times)?;
+    Ok(())
+}
+
+impl Times {
+    /// With one moment more.
+    fn with(self, when: Moment) -> Times
+        ensures { result ≡ with_moment self when }
+    {
+        match when {
+            Moment::Always => Times {
+                always: true,
+                first: self.first,
+                after: self.after,
+            },
+            Moment::First => Times {
+                always: self.always,
+                first: true,
+                after: self.after,
+            },
+            Moment::After => Times {
+                always: self.always,
+                first: self.first,
+                after: true,
+            },
+        }
+    }
+
+    /// Whether an assignment of this moment speaks of the same time as one of those.
+    fn is_met(self, when: Moment) -> bool
+        ensures { result ≡ is_met self when }
+    {
+        match when {
+            Moment::Always => self.always || self.first || self.after,
+            Moment::First => self.always || self.first,
+            Moment::After => self.always || self.after,
+        }
+    }
+}
+
+/// What a name of an instance's own module declares or defines there; a formal is nothing of its own.
+fn local_meaning(scene: &Scene<'_>, spot: usize, name: &Name) -> Meaning
+    ensures { result ≡ local_meant scene.now spot name.now }
+{
+    match scene.local(spot, name) {
+        Some(Local::Item(place)) => scene.own(spot, place),
+        _ => Meaning::Nothing,
+    }
+}

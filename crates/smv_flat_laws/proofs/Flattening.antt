@@ -1,0 +1,17 @@
+-- The model of an accepted program holds what the program's conditions hold.
+use Rattle.std.proofs.Common.{◌≡◌, Some}
+use Rattle.std.specs.Prelude.{codes}
+use Rattle.smv_language.specs.ProgramTree.{ModuleTree, ProgramTree}
+use Rattle.smv_language.specs.Scope.{find_module}
+use Rattle.smv_language.specs.Flat.{FlatModel}
+use Rattle.smv_flat_laws.specs.Rules.{IsWalkable, IsAccepted}
+use Rattle.smv_flat_laws.specs.Model.{IsFlatOf, IsFlattened}
+use Rattle.smv_flat_laws.proofs.Sections.{flattened}
+use Rattle.smv_flat_laws.proofs.Places.{are_instances}
+use Rattle.smv_flat_laws.proofs.Walkable.{accepted_walkable, main_is_there}
+
+pub flattening : (p : ProgramTree) (m : FlatModel) → IsAccepted p → IsFlatOf p m → IsFlattened p m
+flattening p m accepted is =
+    let walkable : IsWalkable p = accepted_walkable p accepted in
+    let main : (k : ModuleTree) × (find_module p (codes "main") ≡ Some k) = main_is_there p walkable in
+    flattened p (are_instances p walkable main.0 main.1) m is

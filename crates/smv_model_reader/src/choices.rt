@@ -1,0 +1,380 @@
+// What comes of a part of a program with a token, which the token's mark alone decides.
+//
+// Each function answers whether the part goes on with the mark, and then puts what is still expected of it before
+// the other parts. One function stands for one part, as one case of `after` in `specs/ProgramRead.antt`.
+ghost use Rattle.std.specs.Prelude.{◌≡◌, IfOk};
+ghost use Rattle.smv_model_reader.specs.ProgramRead as read;
+ghost use Rattle.smv_expression_reader.specs.MarkView.{mark_view};
+ghost use Rattle.smv_model_reader.specs.Symbols.{symbol_view, choice, Chosen};
+
+use crate::symbols::{Symbol, Symbols};
+use smv_expression_reader::mark::Mark;
+use base_values::OutOfMemory;
+
+// Parts that are one token: whether the mark is that of the token.
+
+fn is_name(mark: Mark) -> bool
+    ensures { result ≡ read.is_single read.the_name (mark_view mark) }
+{
+    match mark {
+        Mark::Name => true,
+        _ => false,
+    }
+}
+
+fn is_number(mark: Mark) -> bool
+    ensures { result ≡ read.is_single read.the_number (mark_view mark) }
+{
+    match mark {
+        Mark::Number => true,
+        _ => false,
+    }
+}
+
+fn is_colon(mark: Mark) -> bool
+    ensures { result ≡ read.is_single read.the_colon (mark_view mark) }
+{
+    match mark {
+        Mark::Colon => true,
+        _ => false,
+    }
+}
+
+fn is_becomes(mark: Mark) -> bool
+    ensures { result ≡ read.is_single read.the_becomes (mark_view mark) }
+{
+    match mark {
+        Mark::Becomes => true,
+        _ => false,
+    }
+}
+
+fn is_semicolon(mark: Mark) -> bool
+    ensures { result ≡ read.is_single read.the_semicolon (mark_view mark) }
+{
+    match mark {
+        Mark::Semicolon => true,
+        _ => false,
+    }
+}
+
+fn is_open(mark: Mark) -> bool
+    ensures { result ≡ read.is_single read.the_open (mark_view mark) }
+{
+    match mark {
+        Mark::Open => true,
+        _ => false,
+    }
+}
+
+fn is_close(mark: Mark) -> bool
+    ensures { result ≡ read.is_single read.the_close (mark_view mark) }
+{
+    match mark {
+        Mark::Close => true,
+        _ => false,
+    }
+}
+
+fn is_dots(mark: Mark) -> bool
+    ensures { result ≡ read.is_single read.the_dots (mark_view mark) }
+{
+    match mark {
+        Mark::Dots => true,
+        _ => false,
+    }
+}
+
+/// Modules: one with its name, formals and sections, and more modules.
+fn after_modules(symbols: &mut Symbols, mark: Mark) -> Result<bool, OutOfMemory>
+    ensures { IfOk result (λ on. Chosen on (read.after read.modules (mark_view mark)) symbols.old symbols.new) }
+{
+    match mark {
+        Mark::Module => symbols.expect(&[
+            Symbol::Name,
+            Symbol::Formals,
+            Symbol::Sections,
+            Symbol::Modules,
+        ]),
+        _ => Ok(false),
+    }
+}
+
+/// The formals of a module, where a parenthesis opens them.
+fn after_formals(symbols: &mut Symbols, mark: Mark) -> Result<bool, OutOfMemory>
+    ensures { IfOk result (λ on. Chosen on (read.after read.formals (mark_view mark)) symbols.old symbols.new) }
+{
+    match mark {
+        Mark::Open => symbols.expect(&[Symbol::FirstFormal]),
+        _ => Ok(false),
+    }
+}
+
+/// The first formal, or the parenthesis that closes none.
+fn after_first_formal(symbols: &mut Symbols, mark: Mark) -> Result<bool, OutOfMemory>
+    ensures { IfOk result (λ on. Chosen on (read.after read.first_formal (mark_view mark)) symbols.old symbols.new) }
+{
+    match mark {
+        Mark::Close => Ok(true),
+        Mark::Name => symbols.expect(&[Symbol::MoreFormals]),
+        _ => Ok(false),
+    }
+}
+
+/// Behind a formal: a comma and one more, or the parenthesis that closes them.
+fn after_more_formals(symbols: &mut Symbols, mark: Mark) -> Result<bool, OutOfMemory>
+    ensures { IfOk result (λ on. Chosen on (read.after read.more_formals (mark_view mark)) symbols.old symbols.new) }
+{
+    match mark {
+        Mark::Close => Ok(true),
+        Mark::Comma => symbols.expect(&[Symbol::Name, Symbol::MoreFormals]),
+        _ => Ok(false),
+    }
+}
+
+/// A section by its word, and more sections.
+fn after_section(symbols: &mut Symbols, mark: Mark) -> Result<bool, OutOfMemory>
+    ensures { IfOk result (λ on. Chosen on (read.after_section (mark_view mark)) symbols.old symbols.new) }
+{
+    match mark {
+        Mark::Var => symbols.expect(&[Symbol::Decls, Symbol::Sections]),
+        Mark::Ivar => symbols.expect(&[Symbol::TypeDecls, Symbol::Sections]),
+        Mark::Frozen => symbols.expect(&[Symbol::TypeDecls, Symbol::Sections]),
+        Mark::Define => symbols.expect(&[Symbol::Defines, Symbol::Sections]),
+        Mark::Constants => symbols.expect(&[Symbol::Name, Symbol::MoreConstants, Symbol::Sections]),
+        Mark::Assign => symbols.expect(&[Symbol::Assigns, Symbol::Sections]),
+        Mark::Init => symbols.expect(&[Symbol::Formula, Symbol::LastSemicolon, Symbol::Sections]),
+        Mark::Invar => symbols.expect(&[Symbol::Formula, Symbol::LastSemicolon, Symbol::Sections]),
+        Mark::Trans => symbols.expect(&[Symbol::Formula, Symbol::LastSemicolon, Symbol::Sections]),
+        Mark::Skipped => symbols.expect(&[Symbol::Skip, Symbol::Sections]),
+        _ => Ok(false),
+    }
+}
+
+/// A declaration of a variable or an instance, and more of them.
+fn after_decls(symbols: &mut Symbols, mark: Mark) -> Result<bool, OutOfMemory>
+    ensures { IfOk result (λ on. Chosen on (read.after read.decls (mark_view mark)) symbols.old symbols.new) }
+{
+    match mark {
+        Mark::Name => symbols.expect(&[
+            Symbol::Colon,
+            Symbol::Declared,
+            Symbol::Semicolon,
+            Symbol::Decls,
+        ]),
+        _ => Ok(false),
+    }
+}
+
+/// A declaration of a variable, and more of them.
+fn after_type_decls(symbols: &mut Symbols, mark: Mark) -> Result<bool, OutOfMemory>
+    ensures { IfOk result (λ on. Chosen on (read.after read.type_decls (mark_view mark)) symbols.old symbols.new) }
+{
+    match mark {
+        Mark::Name => symbols.expect(&[
+            Symbol::Colon,
+            Symbol::Type,
+            Symbol::Semicolon,
+            Symbol::TypeDecls,
+        ]),
+        _ => Ok(false),
+    }
+}
+
+/// A type: `boolean`, a range, or members in braces.
+fn after_type(symbols: &mut Symbols, mark: Mark) -> Result<bool, OutOfMemory>
+    ensures { IfOk result (λ on. Chosen on (read.after_type (mark_view mark)) symbols.old symbols.new) }
+{
+    match mark {
+        Mark::Boolean => Ok(true),
+        Mark::Number => symbols.expect(&[Symbol::Dots, Symbol::Int]),
+        Mark::Minus => symbols.expect(&[Symbol::Number, Symbol::Dots, Symbol::Int]),
+        Mark::OpenBrace => symbols.expect(&[Symbol::Member, Symbol::MoreMembers]),
+        _ => Ok(false),
+    }
+}
+
+/// A module with its actuals, or a type.
+fn after_declared(symbols: &mut Symbols, mark: Mark) -> Result<bool, OutOfMemory>
+    ensures { IfOk result (λ on. Chosen on (read.after_declared (mark_view mark)) symbols.old symbols.new) }
+{
+    match mark {
+        Mark::Name => symbols.expect(&[Symbol::Actuals]),
+        _ => after_type(symbols, mark),
+    }
+}
+
+/// The actuals of an instance, where a parenthesis opens them.
+fn after_actuals(symbols: &mut Symbols, mark: Mark) -> Result<bool, OutOfMemory>
+    ensures { IfOk result (λ on. Chosen on (read.after read.actuals (mark_view mark)) symbols.old symbols.new) }
+{
+    match mark {
+        Mark::Open => symbols.expect(&[Symbol::FirstActual]),
+        _ => Ok(false),
+    }
+}
+
+/// Behind an actual: a comma and one more, or the parenthesis that closes them.
+fn after_more_actuals(symbols: &mut Symbols, mark: Mark) -> Result<bool, OutOfMemory>
+    ensures { IfOk result (λ on. Chosen on (read.after read.more_actuals (mark_view mark)) symbols.old symbols.new) }
+{
+    match mark {
+        Mark::Close => Ok(true),
+        Mark::Comma => symbols.expect(&[Symbol::Formula, Symbol::MoreActuals]),
+        _ => Ok(false),
+    }
+}
+
+/// A number, with a minus or without.
+fn after_int(symbols: &mut Symbols, mark: Mark) -> Result<bool, OutOfMemory>
+    ensures { IfOk result (λ on. Chosen on (read.after read.int (mark_view mark)) symbols.old symbols.new) }
+{
+    match mark {
+        Mark::Number => Ok(true),
+        Mark::Minus => symbols.expect(&[Symbol::Number]),
+        _ => Ok(false),
+    }
+}
+
+/// A member of a type: a symbol or a number.
+fn after_member(symbols: &mut Symbols, mark: Mark) -> Result<bool, OutOfMemory>
+    ensures { IfOk result (λ on. Chosen on (read.after read.member (mark_view mark)) symbols.old symbols.new) }
+{
+    match mark {
+        Mark::Name => Ok(true),
+        Mark::Number => Ok(true),
+        Mark::Minus => symbols.expect(&[Symbol::Number]),
+        _ => Ok(false),
+    }
+}
+
+/// Behind a member: a comma and one more, or the brace that closes them.
+fn after_more_members(symbols: &mut Symbols, mark: Mark) -> Result<bool, OutOfMemory>
+    ensures { IfOk result (λ on. Chosen on (read.after read.more_members (mark_view mark)) symbols.old symbols.new) }
+{
+    match mark {
+        Mark::CloseBrace => Ok(true),
+        Mark::Comma => symbols.expect(&[Symbol::Member, Symbol::MoreMembers]),
+        _ => Ok(false),
+    }
+}
+
+/// A define, and more of them.
+fn after_defines(symbols: &mut Symbols, mark: Mark) -> Result<bool, OutOfMemory>
+    ensures { IfOk result (λ on. Chosen on (read.after read.defines (mark_view mark)) symbols.old symbols.new) }
+{
+    match mark {
+        Mark::Name => symbols.expect(&[
+            Symbol::Becomes,
+            Symbol::Formula,
+            Symbol::Semicolon,
+            Symbol::Defines,
+        ]),
+        _ => Ok(false),
+    }
+}
+
+/// Behind a constant: a comma and one more, or the semicolon that ends them.
+fn after_more_constants(symbols: &mut Symbols, mark: Mark) -> Result<bool, OutOfMemory>
+    ensures { IfOk result (λ on. Chosen on (read.after read.more_constants (mark_view mark)) symbols.old symbols.new) }
+{
+    match mark {
+        Mark::Semicolon => Ok(true),
+        Mark::Comma => symbols.expect(&[Symbol::Name, Symbol::MoreConstants]),
+        _ => Ok(false),
+    }
+}
+
+/// An assignment, for all moments, the first or the next ones, and more of them.
+fn after_assigns(symbols: &mut Symbols, mark: Mark) -> Result<bool, OutOfMemory>
+    ensures { IfOk result (λ on. Chosen on (read.after read.assigns (mark_view mark)) symbols.old symbols.new) }
+{
+    match mark {
+        Mark::Name => symbols.expect(&[
+            Symbol::MoreDots,
+            Symbol::Becomes,
+            Symbol::Formula,
+            Symbol::Semicolon,
+            Symbol::Assigns,
+        ]),
+        Mark::First => symbols.expect(&[
+            Symbol::Open,
+            Symbol::Name,
+            Symbol::MoreDots,
+            Symbol::Close,
+            Symbol::Becomes,
+            Symbol::Formula,
+            Symbol::Semicolon,
+            Symbol::Assigns,
+        ]),
+        Mark::After => symbols.expect(&[
+            Symbol::Open,
+            Symbol::Name,
+            Symbol::MoreDots,
+            Symbol::Close,
+            Symbol::Becomes,
+            Symbol::Formula,
+            Symbol::Semicolon,
+            Symbol::Assigns,
+        ]),
+        _ => Ok(false),
+    }
+}
+
+/// Behind a name: a dot and one more.
+fn after_more_dots(symbols: &mut Symbols, mark: Mark) -> Result<bool, OutOfMemory>
+    ensures { IfOk result (λ on. Chosen on (read.after read.more_dots (mark_view mark)) symbols.old symbols.new) }
+{
+    match mark {
+        Mark::Dot => symbols.expect(&[Symbol::Name, Symbol::MoreDots]),
+        _ => Ok(false),
+    }
+}
+
+/// The semicolon of a formula, which may be left out.
+fn after_last_semicolon(symbols: &mut Symbols, mark: Mark) -> Result<bool, OutOfMemory>
+    ensures { IfOk result (λ on. Chosen on (read.after read.last_semicolon (mark_view mark)) symbols.old symbols.new) }
+{
+    match mark {
+        Mark::Semicolon => Ok(true),
+        _ => Ok(false),
+    }
+}
+
+/// Whether a part goes on with a token of this mark, and then what is still expected of it. An expression, the first
+/// actual and what is passed over hang on more than the mark.
+#[tactic(auto, using(crate::proofs::ProgramStops::alone_chosen))]
+pub fn after(symbols: &mut Symbols, symbol: Symbol, mark: Mark) -> Result<bool, OutOfMemory>
+    ensures { IfOk result (λ on. Chosen on (choice (symbol_view symbol) (mark_view mark)) symbols.old symbols.new) }
+{
+    match symbol {
+        Symbol::Name => Ok(is_name(mark)),
+        Symbol::Number => Ok(is_number(mark)),
+        Symbol::Colon => Ok(is_colon(mark)),
+        Symbol::Becomes => Ok(is_becomes(mark)),
+        Symbol::Semicolon => Ok(is_semicolon(mark)),
+        Symbol::Open => Ok(is_open(mark)),
+        Symbol::Close => Ok(is_close(mark)),
+        Symbol::Dots => Ok(is_dots(mark)),
+        Symbol::Modules => after_modules(symbols, mark),
+        Symbol::Formals => after_formals(symbols, mark),
+        Symbol::FirstFormal => after_first_formal(symbols, mark),
+        Symbol::MoreFormals => after_more_formals(symbols, mark),
+        Symbol::Sections => after_section(symbols, mark),
+        Symbol::Decls => after_decls(symbols, mark),
+        Symbol::TypeDecls => after_type_decls(symbols, mark),
+        Symbol::Declared => after_declared(symbols, mark),
+        Symbol::Type => after_type(symbols, mark),
+        Symbol::Actuals => after_actuals(symbols, mark),
+        Symbol::MoreActuals => after_more_actuals(symbols, mark),
+        Symbol::Int => after_int(symbols, mark),
+        Symbol::Member => after_member(symbols, mark),
+        Symbol::MoreMembers => after_more_members(symbols, mark),
+        Symbol::Defines => after_defines(symbols, mark),
+        Symbol::MoreConstants => after_more_constants(symbols, mark),
+        Symbol::Assigns => after_assigns(symbols, mark),
+        Symbol::MoreDots => after_more_dots(symbols, mark),
+        Symbol::LastSemicolon => after_last_semicolon(symbols, mark),
+        Symbol::Formula | Symbol::FirstActual | Symbol::Skip => Ok(false),
+    }
+}

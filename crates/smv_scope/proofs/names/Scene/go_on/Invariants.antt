@@ -1,0 +1,12 @@
+-- The look-up has gone on, and has fewer parts left.
+use Rattle.std.proofs.Common.{length}
+use Rattle.smv_scope.specs.SceneTree.{program_of}
+use Rattle.smv_scope.specs.Known.{rows}
+use Rattle.smv_scope.specs.Waiting.{GoesOn}
+use Rattle.smv_scope.proofs.names.Scene.go_on.Given as goal
+
+abbrev pub decreases-parts : goal.decreases-parts
+decreases-parts l = length l.at.rest.now
+
+abbrev pub invariant-parts : goal.invariant-parts
+invariant-parts l = GoesOn (program_of l.self) (rows l.self) l.frame l.at

@@ -1,0 +1,6 @@
+use Rattle.std.proofs.Common.{arith}
+use Rattle.std.proofs.lemmas.Int.{ints, clamps}
+use Rattle.smv_types.proofs.interval.Interval.hull.Goals as goal
+
+pub invariant_of-result : goal.invariant_of-result
+invariant_of-result c = (omega (arith, ints, clamps), omega (arith, ints, clamps), omega (arith, ints, clamps))

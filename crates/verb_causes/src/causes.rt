@@ -1,0 +1,314 @@
+//! Common causes: their minimal cut sets, and certificates of them.
+//!
+//! The main functions are [`find_causes`] and [`check_causes`], one for each verb. What both load stands in `staged`.
+ghost use Rattle.std.specs.Prelude.{◌≡◌, ◌<◌, ◌≤◌, ◌^◌, ℕ, length, map, IfOk, OnOk, IfSome, IsErrOf};
+ghost use Rattle.base_files.specs.Desk.{Rose};
+ghost use Rattle.smv_language.specs.ModelTree.{flat_tree};
+ghost use Rattle.cert_text.specs.Seen.{seen};
+ghost use Rattle.cert_check.specs.Fit.{IsCheckable};
+ghost use Rattle.cut_search.specs.declared.answer.End.TheVariants as ends;
+ghost use Rattle.cut_text_laws.specs.Analysis.{told_ending};
+ghost use Rattle.smv_language.specs.Told.{told_trace};
+ghost use Rattle.cut_model_search.specs.Found.{IsCertificateFor};
+ghost use Rattle.cut_model_search.specs.Searches.{IsSearched, HasCertificate};
+ghost use Rattle.verb_loading.specs.declared.status.Refusal.{Refusal};
+ghost use Rattle.verb_loading.specs.declared.input.Stop.TheVariants as stop;
+ghost use Rattle.verb_loading.specs.Statuses.{ended_with, IsBoundedAt, IsFinished};
+ghost use Rattle.verb_causes.specs.Causes.{staged_in, events_in, IsStagedEvent, CertifiesStaged, AcceptsStaged, AcceptsCauses, HasCheckedCauses, LeavesCheck, IsCausesFinding, FindsCauses, HasFoundCauses, LeavesCauses};
+ghost use Rattle.verb_causes.specs.Refusals.{RefusesStaged, BreaksLine, RefusesJudged, RefusesCauseCheck};
+
+use crate::staged::{StagedEvent, discard, load_staged};
+use std::alloc::Global;
+use sat_adviser::Panel;
+use cut_model_search::{analyse, certify, told};
+use cert_text::{Certificate, write};
+use cert_file::certificate::{accepted_report, line_stop, load_certificate};
+use cert_file::conclusion::{Conclusion, conclude};
+use cert_check::{Judged, check};
+use cut_search::answer::{Analysis, End};
+use base_files::{Desk, say_whole};
+use verb_loading::input::Stop;
+use verb_loading::status::{Status, ended_as};
+use cut_report::print_analysis;
+use smv_scope::items::number_of;
+use base_values::{ByteList, OutOfMemory};
+use verb_command_line::{CheckCauses, FindCauses};
+
+/// A search gives each symbol a number below this. A model of three files within their limits has far fewer.
+const MOST_SYMBOLS: usize = 2_147_483_648;
+
+/// Searches for the minimal cut sets of faults and common causes, writes a certificate of a complete answer, and says the
+/// report.
+pub fn find_causes<D: Desk>(
+    alloc: Global,
+    desk: &mut D,
+    asked: &FindCauses,
+    panel: &mut Panel,
+) -> Result<Status, Stop>
+    requires { asked.now.depth ≤ 1000000000 }
+    ensures ok { IfOk result (λ s. IfSome (D.files desk.old) (λ files.
+        HasFoundCauses files asked.now.model.now asked.now.faults.now asked.now.causes.now asked.now.top.now asked.now.cert.now asked.now.depth s
+        (D.files desk.old) (D.files desk.new) (D.said desk.old) (D.said desk.new))) }
+    ensures finished { IfOk result IsFinished }
+    ensures depth { IfOk result (IsBoundedAt asked.now.depth) }
+    ensures refused { (r : Refusal) → IsErrOf result (stop.Refused r) →
+        IfSome (D.files desk.old) (λ files. RefusesStaged files asked.now.model.now asked.now.faults.now asked.now.causes.now asked.now.top.now r) }
+    ensures untouched { (r : Refusal) → IsErrOf result (stop.Refused r) →
+        (D.files desk.new ≡ D.files desk.old) × (D.said desk.new ≡ D.said desk.old) }
+    ensures left { LeavesCauses asked.now.model.now asked.now.faults.now asked.now.causes.now asked.now.top.now asked.now.cert.now asked.now.depth
+        (D.files desk.old) (D.files desk.new) (D.said desk.old) (D.said desk.new) }
+    ensures failed { IsErrOf result stop.Desk → Rose (D.faults desk.old) (D.faults desk.new) }
+    ensures later { D.faults desk.old ≤ D.faults desk.new }
+    ensures quiet { D.quiet desk.old → D.quiet desk.new × (D.faults desk.new ≡ D.faults desk.old) }
+{
+    let found = prepare_causes(alloc, desk, asked, panel)?;
+    conclude(desk, asked.cert, &found)?;
+    Ok(ended_as(found.ending))
+}
+
+/// Judges a certificate of faults and common causes, and says that it is accepted.
+pub fn check_causes<D: Desk>(
+    alloc: Global,
+    desk: &mut D,
+    asked: &CheckCauses,
+) -> Result<Status, Stop>
+    ensures ok { IfOk result (λ s. IfSome (D.files desk.old) (λ files.
+        HasCheckedCauses files asked.now.model.now asked.now.faults.now asked.now.causes.now asked.now.top.now asked.now.cert.now
+        (D.said desk.old) (D.said desk.new))) }
+    ensures ends { IfOk result (λ s. s ≡ Status.Done) }
+    ensures finished { IfOk result IsFinished }
+    ensures refused { (r : Refusal) → IsErrOf result (stop.Refused r) →
+        IfSome (D.files desk.old) (λ files. RefusesCauseCheck files asked.now.model.now asked.now.faults.now asked.now.causes.now asked.now.top.now asked.now.cert.now r) }
+    ensures untouched { (r : Refusal) → IsErrOf result (stop.Refused r) →
+        (D.files desk.new ≡ D.files desk.old) × (D.said desk.new ≡ D.said desk.old) }
+    ensures left { LeavesCheck asked.now.model.now asked.now.faults.now asked.now.causes.now asked.now.top.now asked.now.cert.now
+        (D.files desk.old) (D.said desk.old) (D.said desk.new) }
+    ensures failed { IsErrOf result stop.Desk → Rose (D.faults desk.old) (D.faults desk.new) }
+    ensures files { D.files desk.new ≡ D.files desk.old }
+    ensures later { D.faults desk.old ≤ D.faults desk.new }
+    ensures quiet { D.quiet desk.old → D.quiet desk.new × (D.faults desk.new ≡ D.faults desk.old) }
+{
+    let report = prepare_check(alloc, desk, asked)?;
+    say_whole(desk, report.as_slice())?;
+    Ok(Status::Done)
+}
+
+/// Reads the three files and the top event, searches, and makes what is to be written and said.
+fn prepare_causes<D: Desk>(
+    alloc: Global,
+    desk: &mut D,
+    asked: &FindCauses,
+    panel: &mut Panel,
+) -> Result<Conclusion, Stop>
+    ensures ok { IfOk result (λ found. IfSome (D.files desk.old) (λ files.
+        FindsCauses files asked.now.model.now asked.now.faults.now asked.now.causes.now asked.now.top.now asked.now.depth found)) }
+    ensures depth { IfOk result (λ found. IsBoundedAt asked.now.depth (ended_with (told_ending found.ending))) }
+    ensures refused { (r : Refusal) → IsErrOf result (stop.Refused r) →
+        IfSome (D.files desk.old) (λ files. RefusesStaged files asked.now.model.now asked.now.faults.now asked.now.causes.now asked.now.top.now r) }
+    ensures failed { IsErrOf result stop.Desk → Rose (D.faults desk.old) (D.faults desk.new) }
+    ensures files { D.files desk.new ≡ D.files desk.old }
+    ensures said { D.said desk.new ≡ D.said desk.old }
+    ensures later { D.faults desk.old ≤ D.faults desk.new }
+    ensures quiet { D.quiet desk.old → D.quiet desk.new × (D.faults desk.new ≡ D.faults desk.old) }
+{
+    let staged = load_staged(
+        alloc,
+        desk,
+        asked.model,
+        asked.faults,
+        asked.causes,
+        asked.top,
+    )?;
+    let found = search(alloc, &staged, asked.depth, panel);
+    discard(staged);
+    match found {
+        Ok(found) => Ok(found),
+        Err(OutOfMemory) => Err(Stop::Memory),
+    }
+}
+
+/// Reads the four files and the top event, and makes what is to be said of the certificate.
+fn prepare_check<D: Desk>(
+    alloc: Global,
+    desk: &mut D,
+    asked: &CheckCauses,
+) -> Result<ByteList, Stop>
+    ensures ok { IfOk result (λ report. IfSome (D.files desk.old) (λ files.
+        AcceptsCauses files asked.now.model.now asked.now.faults.now asked.now.causes.now asked.now.top.now asked.now.cert.now report)) }
+    ensures refused { (r : Refusal) → IsErrOf result (stop.Refused r) →
+        IfSome (D.files desk.old) (λ files. RefusesCauseCheck files asked.now.model.now asked.now.faults.now asked.now.causes.now asked.now.top.now asked.now.cert.now r) }
+    ensures failed { IsErrOf result stop.Desk → Rose (D.faults desk.old) (D.faults desk.new) }
+    ensures files { D.files desk.new ≡ D.files desk.old }
+    ensures said { D.said desk.new ≡ D.said desk.old }
+    ensures later { D.faults desk.old ≤ D.faults desk.new }
+    ensures quiet { D.quiet desk.old → D.quiet desk.new × (D.faults desk.new ≡ D.faults desk.old) }
+{
+    let staged = load_staged(
+        alloc,
+        desk,
+        asked.model,
+        asked.faults,
+        asked.causes,
+        asked.top,
+    )?;
+    let report = judge_file(alloc, desk, &staged, asked.cert);
+    discard(staged);
+    report
+}
+
+/// Judges the certificate of a file over the staged model, and makes what is to be said of it.
+fn judge_file<D: Desk>(
+    alloc: Global,
+    desk: &mut D,
+    staged: &StagedEvent,
+    name: &str,
+) -> Result<ByteList, Stop>
+    requires { IsStagedEvent staged.now }
+    ensures ok { IfOk result (λ report. IfSome (D.files desk.old) (λ files. AcceptsStaged files staged.now name.now report)) }
+    ensures refused { (r : Refusal) → IsErrOf result (stop.Refused r) →
+        IfSome (D.files desk.old) (λ files. RefusesJudged files (staged_in staged.now) (events_in staged.now) (flat_tree staged.now.loaded.top) name.now r) }
+    ensures failed { IsErrOf result stop.Desk → Rose (D.faults desk.old) (D.faults desk.new) }
+    ensures files { D.files desk.new ≡ D.files desk.old }
+    ensures said { D.said desk.new ≡ D.said desk.old }
+    ensures later { D.faults desk.old ≤ D.faults desk.new }
+    ensures quiet { D.quiet desk.old → D.quiet desk.new × (D.faults desk.new ≡ D.faults desk.old) }
+{
+    let certificate = load_certificate(alloc, desk, name)?;
+    judge(alloc, staged, &certificate)?;
+    let report = accepted_report(alloc, certificate.size, staged.events.len())?;
+    Ok(report)
+}
+
+/// Refuses a certificate that breaks a rule. More symbols than numbers of them are want of memory.
+fn judge(alloc: Global, staged: &StagedEvent, certificate: &Certificate) -> Result<(), Stop>
+    requires event { IsStagedEvent staged.now }
+    requires checkable { IsCheckable (seen certificate.now) }
+    ensures ok { OnOk result (CertifiesStaged staged.now (seen certificate.now)) }
+    ensures refused { (r : Refusal) → IsErrOf result (stop.Refused r) →
+        BreaksLine (staged_in staged.now) (events_in staged.now) (flat_tree staged.now.loaded.top) (seen certificate.now) r }
+    ensures desk { IsErrOf result stop.Desk → ⊥ }
+{
+    if staged.typed.model().symbols.len() >= MOST_SYMBOLS {
+        return Err(Stop::Memory);
+    }
+    let judged = check(
+        alloc,
+        &staged.full,
+        &staged.typed,
+        &staged.events,
+        &staged.loaded.top,
+        certificate,
+    )?;
+    match judged {
+        Judged::Yes => Ok(()),
+        Judged::No(line, rule) => Err(line_stop(line, rule)),
+    }
+}
+
+/// Searches for the minimal cut sets of the top event among the events, and makes what is to be written and said.
+fn search(
+    alloc: Global,
+    staged: &StagedEvent,
+    depth: u32,
+    panel: &mut Panel,
+) -> Result<Conclusion, OutOfMemory>
+    requires { IsStagedEvent staged.now }
+    ensures { IfOk result (IsCausesFinding staged.now depth) }
+{
+    let a = analysed(alloc, staged, depth, panel)?;
+    let cert = certificate(alloc, staged, depth, &a, panel)?;
+    let ending = told(&a.end);
+    let report = print_analysis(
+        alloc,
+        &staged.typed,
+        &staged.events,
+        &a.sets,
+        &a.traces,
+        a.first,
+        staged.full.bits(),
+        a.size,
+        ending,
+    )?;
+    Ok(Conclusion {
+        cert,
+        report,
+        ending,
+    })
+}
+
+/// The analysis of the staged model, with as many events in a set as there are. More symbols than numbers of them are want
+/// of memory.
+fn analysed(
+    alloc: Global,
+    staged: &StagedEvent,
+    depth: u32,
+    panel: &mut Panel,
+) -> Result<Analysis, OutOfMemory>
+    requires { IsStagedEvent staged.now }
+    ensures few { OnOk result (length staged.now.typed.model.symbols < 2 ^ 31) }
+    ensures searched { IfOk result (IsSearched (staged_in staged.now) (events_in staged.now)
+        (flat_tree staged.now.loaded.top) depth (length (events_in staged.now))) }
+{
+    if staged.typed.model().symbols.len() >= MOST_SYMBOLS {
+        return Err(OutOfMemory);
+    }
+    let size = number_of(staged.events.len())?;
+    analyse(
+        alloc,
+        &staged.typed,
+        &staged.full,
+        &staged.events,
+        &staged.loaded.top,
+        depth,
+        size,
+        panel,
+    )
+}
+
+/// The text of a certificate, where the analysis is complete.
+fn certificate(
+    alloc: Global,
+    staged: &StagedEvent,
+    depth: u32,
+    a: &Analysis,
+    panel: &mut Panel,
+) -> Result<Option<ByteList>, OutOfMemory>
+    requires staged { IsStagedEvent staged.now }
+    requires searched { IsSearched (staged_in staged.now) (events_in staged.now) (flat_tree staged.now.loaded.top) depth a.now.size a.now }
+    ensures { IfOk result (HasCertificate (staged_in staged.now) (events_in staged.now)
+        (flat_tree staged.now.loaded.top) staged.now.typed.model.symbols a.now a.now.end) }
+{
+    match &a.end {
+        End::Complete(_clauses) => {
+            let text = certificate_text(alloc, staged, depth, a, panel)?;
+            Ok(Some(text))
+        }
+        End::Bounded(_steps) => Ok(None),
+    }
+}
+
+/// The text of a certificate of a complete analysis.
+fn certificate_text(
+    alloc: Global,
+    staged: &StagedEvent,
+    depth: u32,
+    a: &Analysis,
+    panel: &mut Panel,
+) -> Result<ByteList, OutOfMemory>
+    requires staged { IsStagedEvent staged.now }
+    requires searched { IsSearched (staged_in staged.now) (events_in staged.now) (flat_tree staged.now.loaded.top) depth a.now.size a.now }
+    requires complete { (k : ℕ) → a.now.end ≡ ends.Bounded k → ⊥ }
+    ensures { IfOk result (IsCertificateFor (staged_in staged.now) (events_in staged.now)
+        (flat_tree staged.now.loaded.top) a.now.size a.now.sets (map (told_trace staged.now.typed.model.symbols) a.now.traces)) }
+{
+    let certificate = certify(
+        alloc,
+        &staged.full,
+        &staged.typed,
+        &staged.events,
+        &staged.loaded.top,
+        a,
+        panel,
+    )?;
+    write(alloc, &certificate)
+}

@@ -1,0 +1,278 @@
+//! A model, its extension with common causes, and a top event, as the work on them has them in memory.
+//!
+//! The main function is [`load_staged`]: the model and the instructions are read first, then the causes, and the top event last.
+ghost use Rattle.std.specs.Prelude.{◌≡◌, ◌≤◌, List, ℕ, length, map, IfOk, IfErr, IfSome, IsErrOf};
+ghost use Rattle.base_files.specs.Desk.{Rose};
+ghost use Rattle.fault_staging.specs.CauseOf.{cause_of};
+ghost use Rattle.verb_loading.specs.Cases.{HoldsCase};
+ghost use Rattle.verb_loading.specs.Tasks.{HasAtMost};
+ghost use Rattle.verb_loading.specs.Wrongs.{IfRefused};
+ghost use Rattle.verb_loading.specs.LoadedEvents.{case_in};
+ghost use Rattle.verb_loading.specs.Models.{IsLawful};
+ghost use Rattle.verb_loading.specs.Loaded.{case_of, IsLoaded, IsTopIn};
+ghost use Rattle.smv_language.specs.ProgramTree.{Text, program_tree};
+ghost use Rattle.smv_language.specs.ModelTree.{model_tree, flat_tree};
+ghost use Rattle.fault_causes_reader.specs.Broken.{rule_of};
+ghost use Rattle.verb_loading.specs.declared.status.Refusal.{Refusal};
+ghost use Rattle.verb_loading.specs.declared.status.Refusal.TheVariants as refusal;
+ghost use Rattle.verb_loading.specs.declared.status.InputFault.{InputFault};
+ghost use Rattle.verb_loading.specs.declared.input.Stop.TheVariants as stop;
+ghost use Rattle.verb_causes.specs.Causes.{stop_at_causes, flat_in, modes_in, faults_in, extension_in, IsSomeCase, AreCausesOf, HoldsCauses, HasCauses, IsStagedCase, IsStagedEvent};
+ghost use Rattle.verb_causes.specs.Refusals.{cause_number, stop_of_causes, IsRefusedCausesFile, BreaksStaged, RefusesBytes, RefusesCauses, RefusesStaged};
+
+use std::alloc::Global;
+use fault_causes_reader::{CauseFault, CauseRule, read_causes};
+use base_files::{Desk, DeskFault, read_whole};
+use smv_flat::with_history;
+use verb_loading::event::LoadedEvent;
+use verb_loading::input::Stop;
+use verb_loading::loaded::{LoadedCase, load_case, typed_whole};
+use verb_loading::model::{LoadedModel, load_model};
+use verb_loading::status::{InputFault, Part, Refusal};
+use verb_loading::top::load_top;
+use verb_loading::wrong::Wrong;
+use fault_staging::{CauseList, with_causes};
+use smv_language::Expr;
+use smv_language::model::{FaultList, Flat};
+use smv_types::Typed;
+
+/// The limit of a causes file, in bytes.
+const LIMIT: u64 = 1_048_576;
+
+/// An extension with common causes, and a top event over it.
+#[derive(Drop)]
+pub struct StagedEvent<'a> {
+    pub loaded: LoadedEvent,
+    pub word: &'a str,
+    pub causes: CauseList,
+    /// The staged model.
+    pub typed: Typed,
+    /// The staged model with a history bit for each event.
+    pub full: Typed,
+    /// The events: the faults that begin by themselves, and then the causes.
+    pub events: FaultList,
+}
+
+/// An extension with common causes: these, the staged model without and with a history bit for each event, and the
+/// events.
+#[derive(Drop)]
+pub struct StagedCase {
+    pub causes: CauseList,
+    pub typed: Typed,
+    pub full: Typed,
+    pub events: FaultList,
+}
+
+/// An extension with common causes, and a top event over the extension.
+#[derive(Drop)]
+struct StagedTop {
+    staged: StagedCase,
+    top: Expr<Flat>,
+}
+
+/// The model, the instructions and the causes of three files, with the top event that a word spells.
+pub(crate) fn load_staged<'a, D: Desk>(
+    alloc: Global,
+    desk: &mut D,
+    model: &str,
+    faults: &str,
+    causes: &str,
+    word: &'a str,
+) -> Result<StagedEvent<'a>, Stop>
+    ensures case { IfOk result (λ l. IfSome (D.files desk.old) (λ files. HoldsCase files model.now faults.now (case_in l.loaded))) }
+    ensures causes { IfOk result (λ l. IfSome (D.files desk.old) (λ files. HasCauses files causes.now (case_in l.loaded) (map cause_of l.causes))) }
+    ensures asked { IfOk result (λ l. l.word.now ≡ word.now) }
+    ensures staged { IfOk result IsStagedEvent }
+    ensures refused { (r : Refusal) → IsErrOf result (stop.Refused r) →
+        IfSome (D.files desk.old) (λ files. RefusesStaged files model.now faults.now causes.now word.now r) }
+    ensures failed { IsErrOf result stop.Desk → Rose (D.faults desk.old) (D.faults desk.new) }
+    ensures files { D.files desk.new ≡ D.files desk.old }
+    ensures said { D.said desk.new ≡ D.said desk.old }
+    ensures later { D.faults desk.old ≤ D.faults desk.new }
+    ensures quiet { D.quiet desk.old → D.quiet desk.new × (D.faults desk.new ≡ D.faults desk.old) }
+{
+    let model = load_model(alloc, desk, model)?;
+    let case = load_case(alloc, desk, faults, &model)?;
+    let found = load_causes_and_top(alloc, desk, causes, word, &model, &case)?;
+    let StagedTop { staged, top } = found;
+    let StagedCase {
+        causes,
+        typed,
+        full,
+        events,
+    } = staged;
+    Ok(StagedEvent {
+        loaded: LoadedEvent { model, case, top },
+        word,
+        causes,
+        typed,
+        full,
+        events,
+    })
+}
+
+/// Lets go of what was loaded.
+pub(crate) fn discard(_staged: StagedEvent<'_>) {}
+
+/// The extension with the causes of a file, and the top event that a word spells over it.
+fn load_causes_and_top<D: Desk>(
+    alloc: Global,
+    desk: &mut D,
+    name: &str,
+    word: &str,
+    model: &LoadedModel,
+    case: &LoadedCase,
+) -> Result<StagedTop, Stop>
+    requires lawful { IsLawful (program_tree model.now.program) (model_tree model.now.typed.model) }
+    requires loaded { IsLoaded (program_tree model.now.program) case.now }
+    ensures causes { IfOk result (λ l. IfSome (D.files desk.old) (λ files.
+        HoldsCauses files name.now (faults_in case.now) (extension_in case.now) (map cause_of l.staged.causes))) }
+    ensures staged { IfOk result (λ l. IsStagedCase case.now l.staged) }
+    ensures top { IfOk result (λ l. IsTopIn (case_of (program_tree model.now.program) case.now) word.now (flat_tree l.top)) }
+    ensures refused { (r : Refusal) → IsErrOf result (stop.Refused r) → (of_model : Text) → (of_faults : Text) →
+        IfSome (D.files desk.old) (λ files. HoldsCase files of_model of_faults (case_of (program_tree model.now.program) case.now)) →
+        IfSome (D.files desk.old) (λ files. RefusesStaged files of_model of_faults name.now word.now r) }
+    ensures failed { IsErrOf result stop.Desk → Rose (D.faults desk.old) (D.faults desk.new) }
+    ensures files { D.files desk.new ≡ D.files desk.old }
+    ensures said { D.said desk.new ≡ D.said desk.old }
+    ensures later { D.faults desk.old ≤ D.faults desk.new }
+    ensures quiet { D.quiet desk.old → D.quiet desk.new × (D.faults desk.new ≡ D.faults desk.old) }
+{
+    let staged = load_causes(alloc, desk, name, case)?;
+    match load_top(alloc, word, model, case) {
+        Ok(top) => Ok(StagedTop { staged, top }),
+        Err(stop) => {
+            discard_case(staged);
+            Err(stop)
+        }
+    }
+}
+
+/// Lets go of an extension with common causes.
+fn discard_case(_staged: StagedCase) {}
+
+/// The extension with the causes of a file.
+fn load_causes<D: Desk>(
+    alloc: Global,
+    desk: &mut D,
+    name: &str,
+    case: &LoadedCase,
+) -> Result<StagedCase, Stop>
+    requires { IsSomeCase case.now }
+    ensures ok { IfOk result (λ l. IfSome (D.files desk.old) (λ files.
+        HoldsCauses files name.now (faults_in case.now) (extension_in case.now) (map cause_of l.causes))) }
+    ensures staged { IfOk result (IsStagedCase case.now) }
+    ensures refused { (r : Refusal) → IsErrOf result (stop.Refused r) →
+        IfSome (D.files desk.old) (λ files. RefusesCauses files name.now (faults_in case.now) (extension_in case.now) (flat_in case.now) (modes_in case.now) r) }
+    ensures failed { IsErrOf result stop.Desk → Rose (D.faults desk.old) (D.faults desk.new) }
+    ensures files { D.files desk.new ≡ D.files desk.old }
+    ensures said { D.said desk.new ≡ D.said desk.old }
+    ensures later { D.faults desk.old ≤ D.faults desk.new }
+    ensures quiet { D.quiet desk.old → D.quiet desk.new × (D.faults desk.new ≡ D.faults desk.old) }
+{
+    let bytes = read_causes_file(alloc, desk, name)?;
+    let causes = causes_of(alloc, &bytes, case)?;
+    match staged_of(alloc, case, causes) {
+        Ok(staged) => Ok(staged),
+        Err(wrong) => Err(causes_stop(wrong)),
+    }
+}
+
+/// The bytes of a causes file.
+fn read_causes_file<D: Desk>(alloc: Global, desk: &mut D, name: &str) -> Result<Vec<u8>, Stop>
+    ensures bytes { IfOk result (λ bytes. IfSome (D.files desk.old) (λ files. HasAtMost 1048576 files name.now bytes.items)) }
+    ensures short { IfOk result (λ bytes. length bytes.items ≤ 1048576) }
+    ensures refused { (r : Refusal) → IsErrOf result (stop.Refused r) →
+        (told : InputFault) × (r ≡ refusal.Causes told) × IfSome (D.files desk.old) (λ files. IsRefusedCausesFile files name.now told) }
+    ensures failed { IsErrOf result stop.Desk → Rose (D.faults desk.old) (D.faults desk.new) }
+    ensures files { D.files desk.new ≡ D.files desk.old }
+    ensures said { D.said desk.new ≡ D.said desk.old }
+    ensures later { D.faults desk.old ≤ D.faults desk.new }
+    ensures quiet { D.quiet desk.old → D.quiet desk.new × (D.faults desk.new ≡ D.faults desk.old) }
+{
+    match read_whole(alloc, desk, name, LIMIT) {
+        Ok(bytes) => Ok(bytes),
+        Err(DeskFault::Absent) => Err(refused(Part::Absent, 1, 0)),
+        Err(DeskFault::TooLong) => Err(refused(Part::Length, 1, LIMIT)),
+        Err(DeskFault::Failed) => Err(Stop::Desk),
+        Err(DeskFault::OutOfMemory) => Err(Stop::Memory),
+    }
+}
+
+/// The causes that the bytes spell for the extension.
+fn causes_of(alloc: Global, bytes: &[u8], case: &LoadedCase) -> Result<CauseList, Stop>
+    requires case { IsSomeCase case.now }
+    requires short { length bytes.now ≤ 1048576 }
+    ensures read { IfOk result (λ causes. AreCausesOf case.now bytes.now (map cause_of causes)) }
+    ensures refused { (r : Refusal) → IsErrOf result (stop.Refused r) →
+        RefusesBytes (faults_in case.now) (extension_in case.now) (flat_in case.now) (modes_in case.now) bytes.now r }
+    ensures desk { IsErrOf result stop.Desk → ⊥ }
+{
+    let limited = &case.limited;
+    match read_causes(alloc, bytes, &limited.faults, &limited.woven.program) {
+        Ok(causes) => Ok(causes),
+        Err(fault) => Err(fault_stop(fault)),
+    }
+}
+
+/// The extension with causes, where it passes no limit.
+fn staged_of(alloc: Global, case: &LoadedCase, causes: CauseList) -> Result<StagedCase, Wrong>
+    requires case { IsSomeCase case.now }
+    requires causes { (bytes : List ℕ) × AreCausesOf case.now bytes (map cause_of causes) }
+    ensures staged { IfOk result (IsStagedCase case.now) }
+    ensures kept { IfOk result (λ l. l.causes ≡ causes) }
+    ensures wrong { IfErr result (IfRefused (BreaksStaged (flat_in case.now) (modes_in case.now) (map cause_of causes))) }
+{
+    let limited = &case.limited;
+    let staged = with_causes(alloc, limited.typed.model(), &limited.faults, &causes)?;
+    let whole = with_history(alloc, &staged.model, &staged.events)?;
+    let full = typed_whole(alloc, whole)?;
+    let typed = typed_whole(alloc, staged.model)?;
+    Ok(StagedCase {
+        causes,
+        typed,
+        full,
+        events: staged.events,
+    })
+}
+
+/// The end of the work where bytes are no causes.
+fn fault_stop(fault: CauseFault) -> Stop
+    ensures { result ≡ stop_of_causes fault }
+{
+    match fault {
+        CauseFault::Parse(fault) => causes_stop(Wrong::from(fault)),
+        CauseFault::Broken(rule, number) => {
+            refused(Part::Cause, number_of(rule), u64::from(number))
+        }
+        CauseFault::OutOfMemory => Stop::Memory,
+    }
+}
+
+/// The number of a rule of causes.
+fn number_of(rule: CauseRule) -> u32
+    ensures { result ≡ cause_number (rule_of rule) }
+{
+    rule as u32
+}
+
+/// The end of the work where this is wrong with the causes.
+fn causes_stop(wrong: Wrong) -> Stop
+    ensures { result ≡ stop_at_causes wrong }
+{
+    match wrong {
+        Wrong::Refused(fault) => refused(fault.part, fault.number, fault.place),
+        Wrong::Memory => Stop::Memory,
+    }
+}
+
+/// The end of the work where a rule of the causes is broken.
+fn refused(part: Part, number: u32, place: u64) -> Stop
+    ensures { result ≡ stop.Refused (refusal.Causes (record { part = part; number = number; place = place })) }
+{
+    Stop::Refused(Refusal::Causes(InputFault {
+        part,
+        number,
+        place,
+    }))
+}

@@ -1,0 +1,181 @@
+// The verbs and their options.
+ghost use Rattle.std.specs.Prelude.{◌≡◌, map};
+ghost use Rattle.verb_command_line.specs.Table.{options_of};
+ghost use Rattle.verb_command_line.specs.Reading.{verb_in};
+ghost use Rattle.verb_command_line.specs.Seen.{viewed};
+
+use crate::choice::{Choice, Kind};
+
+/// What is to be done.
+#[derive(Clone, Copy, Debug, PartialEq, Eq)]
+pub enum Verb {
+    Extend,
+    Replay,
+    Analyse,
+    Check,
+    Fmea,
+    Make,
+    Causes,
+    CheckCauses,
+    Orders,
+    CheckOrders,
+    Odds,
+}
+
+const MODEL: Choice = Choice {
+    name: "--model",
+    kind: Kind::File,
+    required: true,
+};
+
+const FAULTS: Choice = Choice {
+    name: "--faults",
+    kind: Kind::File,
+    required: true,
+};
+
+const EXTENDED: Choice = Choice {
+    name: "--extended",
+    kind: Kind::File,
+    required: true,
+};
+
+const TRACE: Choice = Choice {
+    name: "--trace",
+    kind: Kind::File,
+    required: true,
+};
+
+const TOP: Choice = Choice {
+    name: "--top",
+    kind: Kind::Event,
+    required: true,
+};
+
+const TOPS: Choice = Choice {
+    name: "--tops",
+    kind: Kind::File,
+    required: true,
+};
+
+const CERT: Choice = Choice {
+    name: "--cert",
+    kind: Kind::File,
+    required: true,
+};
+
+const DEPTH: Choice = Choice {
+    name: "--depth",
+    kind: Kind::Number {
+        least: 0,
+        most: 1_000_000_000,
+    },
+    required: true,
+};
+
+const NUMBER: Choice = Choice {
+    name: "--number",
+    kind: Kind::Number {
+        least: 0,
+        most: 1_000_000_000,
+    },
+    required: true,
+};
+
+const STAGES: Choice = Choice {
+    name: "--stages",
+    kind: Kind::Number { least: 1, most: 64 },
+    required: true,
+};
+
+const ROW_SIZE: Choice = Choice {
+    name: "--size",
+    kind: Kind::Number { least: 0, most: 2 },
+    required: true,
+};
+
+const SIZE: Choice = Choice {
+    name: "--size",
+    kind: Kind::Number {
+        least: 0,
+        most: 256,
+    },
+    required: false,
+};
+
+const CAUSES: Choice = Choice {
+    name: "--causes",
+    kind: Kind::File,
+    required: true,
+};
+
+const SET: Choice = Choice {
+    name: "--set",
+    kind: Kind::Set,
+    required: true,
+};
+
+const FIRST: Choice = Choice {
+    name: "--first",
+    kind: Kind::Number {
+        least: 1,
+        most: 256,
+    },
+    required: true,
+};
+
+const SECOND: Choice = Choice {
+    name: "--second",
+    kind: Kind::Number {
+        least: 1,
+        most: 256,
+    },
+    required: true,
+};
+
+const CLAIM: Choice = Choice {
+    name: "--claim",
+    kind: Kind::Claim,
+    required: true,
+};
+
+impl Verb {
+    /// The verb of this name.
+    pub(crate) fn named(name: &str) -> Option<Verb>
+        ensures { result ≡ verb_in name.now }
+    {
+        match name {
+            "extend" => Some(Verb::Extend),
+            "replay" => Some(Verb::Replay),
+            "analyse" => Some(Verb::Analyse),
+            "check" => Some(Verb::Check),
+            "fmea" => Some(Verb::Fmea),
+            "make" => Some(Verb::Make),
+            "causes" => Some(Verb::Causes),
+            "check-causes" => Some(Verb::CheckCauses),
+            "orders" => Some(Verb::Orders),
+            "check-orders" => Some(Verb::CheckOrders),
+            "odds" => Some(Verb::Odds),
+            _ => None,
+        }
+    }
+
+    /// Its options, in the order in which a missing one is told.
+    pub(crate) fn options(self) -> &'static [Choice]
+        ensures { map viewed result.now ≡ options_of self }
+    {
+        match self {
+            Verb::Extend => &[MODEL, FAULTS, EXTENDED],
+            Verb::Replay => &[MODEL, FAULTS, TRACE, TOP],
+            Verb::Analyse => &[MODEL, FAULTS, TOP, DEPTH, EXTENDED, CERT, SIZE],
+            Verb::Check => &[MODEL, FAULTS, TOP, CERT],
+            Verb::Fmea => &[MODEL, FAULTS, TOPS, ROW_SIZE, DEPTH],
+            Verb::Make => &[NUMBER, STAGES, DEPTH, MODEL, FAULTS],
+            Verb::Causes => &[MODEL, FAULTS, CAUSES, TOP, DEPTH, CERT],
+            Verb::CheckCauses => &[MODEL, FAULTS, CAUSES, TOP, CERT],
+            Verb::Orders => &[MODEL, FAULTS, TOP, SET, FIRST, SECOND, DEPTH, CERT],
+            Verb::CheckOrders => &[MODEL, FAULTS, TOP, SET, FIRST, SECOND, CLAIM, CERT],
+            Verb::Odds => &[MODEL, FAULTS, TOP, DEPTH],
+        }
+    }
+}

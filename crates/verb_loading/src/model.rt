@@ -1,0 +1,64 @@
+// A model file as a program, and that as a flat model with its kinds ([`load_model`]). The first reader or layer that
+// refuses it is told.
+
+ghost use Rattle.std.specs.Prelude.{◌≡◌, ◌≤◌, length, IfOk, IfErr, IfSome, IsErrOf};
+ghost use Rattle.base_files.specs.Desk.{Rose};
+ghost use Rattle.smv_language.specs.ProgramTree.{program_tree};
+ghost use Rattle.smv_language.specs.ModelTree.{model_tree};
+ghost use Rattle.fault_extend.specs.InstanceLaws.{HasInstancesInVar};
+ghost use Rattle.verb_loading.specs.Wrongs.{IfRefused};
+ghost use Rattle.verb_loading.specs.Models.{IsModelText, IsLawful, IsSpelled, IsWrongModel};
+ghost use Rattle.verb_loading.specs.Inputs.{RefusesModel, HoldsModel};
+ghost use Rattle.verb_loading.specs.declared.status.Refusal.{Refusal};
+ghost use Rattle.verb_loading.specs.declared.input.Stop.TheVariants as stop;
+
+use crate::input::{Input, Stop, read_input};
+use crate::wrong::Wrong;
+use std::alloc::Global;
+use base_files::Desk;
+use smv_flat::flatten;
+use smv_model_reader::program;
+use smv_language::Program;
+use smv_types::{Typed, check_model};
+
+/// A model that is taken: its program, and the flat model of that with its kinds.
+#[derive(Drop)]
+pub struct LoadedModel {
+    pub program: Program,
+    pub typed: Typed,
+}
+
+/// The model of a file.
+pub fn load_model<D: Desk>(alloc: Global, desk: &mut D, name: &str) -> Result<LoadedModel, Stop>
+    ensures ok { IfOk result (λ l. IfSome (D.files desk.old) (λ files. HoldsModel files name.now (program_tree l.program))) }
+    ensures lawful { IfOk result (λ l. IsLawful (program_tree l.program) (model_tree l.typed.model)) }
+    ensures in_var { IfOk result (λ l. HasInstancesInVar (program_tree l.program)) }
+    ensures spelled { IfOk result (λ l. IsSpelled (program_tree l.program)) }
+    ensures refused { (r : Refusal) → IsErrOf result (stop.Refused r) → IfSome (D.files desk.old) (λ files. RefusesModel files name.now r) }
+    ensures failed { IsErrOf result stop.Desk → Rose (D.faults desk.old) (D.faults desk.new) }
+    ensures files { D.files desk.new ≡ D.files desk.old }
+    ensures said { D.said desk.new ≡ D.said desk.old }
+    ensures later { D.faults desk.old ≤ D.faults desk.new }
+    ensures quiet { D.quiet desk.old → D.quiet desk.new × (D.faults desk.new ≡ D.faults desk.old) }
+{
+    let bytes = read_input(alloc, desk, Input::Model, name)?;
+    match model_of(alloc, &bytes) {
+        Ok(model) => Ok(model),
+        Err(wrong) => Err(Input::Model.stop(wrong)),
+    }
+}
+
+/// The model that the bytes spell.
+pub fn model_of(alloc: Global, bytes: &[u8]) -> Result<LoadedModel, Wrong>
+    requires { length bytes.now ≤ 1048576 }
+    ensures ok { IfOk result (λ l. IsModelText bytes.now (program_tree l.program)) }
+    ensures lawful { IfOk result (λ l. IsLawful (program_tree l.program) (model_tree l.typed.model)) }
+    ensures in_var { IfOk result (λ l. HasInstancesInVar (program_tree l.program)) }
+    ensures spelled { IfOk result (λ l. IsSpelled (program_tree l.program)) }
+    ensures wrong { IfErr result (IfRefused (IsWrongModel bytes.now)) }
+{
+    let program = program(alloc, bytes)?;
+    let flat = flatten(alloc, &program)?;
+    let typed = check_model(alloc, flat)?;
+    Ok(LoadedModel { program, typed })
+}

@@ -1,0 +1,132 @@
+// The word of a top event, judged on the model and read over its extension ([`load_top`]). What is wrong with it is told
+// over the model that the user wrote; over the extension it then breaks no rule.
+
+ghost use Rattle.std.specs.Prelude.{◌≡◌, [], false, IfOk, OnOk, IfErr, IsErrOf};
+ghost use Rattle.smv_language.specs.ProgramTree.{program_tree};
+ghost use Rattle.smv_language.specs.Written.{tree_of};
+ghost use Rattle.smv_language.specs.ModelTree.{model_tree, flat_tree};
+ghost use Rattle.smv_flat_laws.specs.Model.{IsFlatOf};
+ghost use Rattle.smv_flat_laws.specs.ResolvedAt.{IsResolvedAt};
+ghost use Rattle.smv_flat_laws.specs.Rules.{IsAccepted};
+ghost use Rattle.verb_loading.specs.Wrongs.{IfRefused};
+ghost use Rattle.verb_loading.specs.Models.{IsLawful};
+ghost use Rattle.verb_loading.specs.Cases.{IsTop, IsWrongTop, IsWrongWord};
+ghost use Rattle.verb_loading.specs.Loaded.{case_of, IsLoaded, IsTopIn, IsTopText, IsWrongTopText};
+ghost use Rattle.verb_loading.specs.declared.status.Refusal.{Refusal};
+ghost use Rattle.verb_loading.specs.declared.status.InputFault.{InputFault};
+ghost use Rattle.verb_loading.specs.declared.status.Refusal.TheVariants as refusal;
+ghost use Rattle.verb_loading.specs.declared.input.Stop.TheVariants as stop;
+ghost use Rattle.verb_loading.specs.Tops.{stop_at_top};
+ghost use Rattle.smv_flat_laws.specs.ValueRules.{KeepsValue};
+
+use crate::input::Stop;
+use crate::loaded::LoadedCase;
+use crate::model::LoadedModel;
+use crate::status::{InputFault, Part, Refusal};
+use crate::wrong::Wrong;
+use std::alloc::Global;
+use smv_expression_reader::expression;
+use smv_flat::resolve_top;
+use smv_language::model::{Flat, FlatModel};
+use smv_language::{Expr, Program};
+use smv_types::check_top;
+use base_values::Dotted;
+
+/// The limit of the text of a top event, in bytes.
+const TOP_LIMIT: usize = 65_536;
+
+/// The top event that a word spells, over the flat model of the extension.
+pub fn load_top(
+    alloc: Global,
+    word: &str,
+    model: &LoadedModel,
+    case: &LoadedCase,
+) -> Result<Expr<Flat>, Stop>
+    requires lawful { IsLawful (program_tree model.now.program) (model_tree model.now.typed.model) }
+    requires loaded { IsLoaded (program_tree model.now.program) case.now }
+    ensures ok { IfOk result (λ tree. IsTopIn (case_of (program_tree model.now.program) case.now) word.now (flat_tree tree)) }
+    ensures refused { (r : Refusal) → IsErrOf result (stop.Refused r) →
+        (fault : InputFault) × (r ≡ refusal.Top fault) × IsWrongWord (program_tree model.now.program) word.now fault }
+    ensures desk { IsErrOf result stop.Desk → ⊥ }
+{
+    match top_of(alloc, word.as_bytes(), model, case) {
+        Ok(top) => Ok(top),
+        Err(wrong) => Err(top_stop(wrong)),
+    }
+}
+
+/// The end of the work where this is wrong with the top event.
+pub fn top_stop(wrong: Wrong) -> Stop
+    ensures { result ≡ stop_at_top wrong }
+{
+    match wrong {
+        Wrong::Refused(fault) => Stop::Refused(Refusal::Top(fault)),
+        Wrong::Memory => Stop::Memory,
+    }
+}
+
+/// The top event that the bytes spell, over the flat model of the extension.
+fn top_of(
+    alloc: Global,
+    bytes: &[u8],
+    model: &LoadedModel,
+    case: &LoadedCase,
+) -> Result<Expr<Flat>, Wrong>
+    requires lawful { IsLawful (program_tree model.now.program) (model_tree model.now.typed.model) }
+    requires loaded { IsLoaded (program_tree model.now.program) case.now }
+    ensures ok { IfOk result (λ tree. IsTopIn (case_of (program_tree model.now.program) case.now) bytes.now (flat_tree tree)) }
+    ensures wrong { IfErr result (IfRefused (IsWrongWord (program_tree model.now.program) bytes.now)) }
+{
+    let written = written_top(alloc, bytes)?;
+    judge_top(alloc, model, &written)?;
+    over_extension(
+        alloc,
+        &case.limited.woven.program,
+        case.limited.typed.model(),
+        &written,
+    )
+}
+
+/// The expression that the bytes spell, where they are not too many.
+fn written_top(alloc: Global, bytes: &[u8]) -> Result<Expr<Dotted>, Wrong>
+    ensures ok { IfOk result (λ e. IsTopText bytes.now (tree_of e)) }
+    ensures wrong { IfErr result (IfRefused (IsWrongTopText bytes.now)) }
+{
+    if bytes.len() > TOP_LIMIT {
+        return Err(Wrong::Refused(InputFault {
+            part: Part::Length,
+            number: 1,
+            place: TOP_LIMIT as u64,
+        }));
+    }
+    let written = expression(alloc, bytes)?;
+    Ok(written)
+}
+
+/// Refuses an expression that is no top event of the model.
+pub fn judge_top(alloc: Global, model: &LoadedModel, top: &Expr<Dotted>) -> Result<(), Wrong>
+    requires lawful { IsLawful (program_tree model.now.program) (model_tree model.now.typed.model) }
+    ensures ok { OnOk result (IsTop (program_tree model.now.program) (tree_of top.now)) }
+    ensures wrong { IfErr result (IfRefused (IsWrongTop (program_tree model.now.program) (tree_of top.now) 0)) }
+{
+    let flat = resolve_top(alloc, &model.program, model.typed.model(), top)?;
+    check_top(&model.typed, &flat)?;
+    Ok(())
+}
+
+/// A top event that breaks no rule of names over a program, over its flat model.
+pub fn over_extension(
+    alloc: Global,
+    program: &Program,
+    flat: &FlatModel,
+    top: &Expr<Dotted>,
+) -> Result<Expr<Flat>, Wrong>
+    requires accepted { IsAccepted (program_tree program.now) }
+    requires flat { IsFlatOf (program_tree program.now) (model_tree flat.now) }
+    requires names { KeepsValue (program_tree program.now) [] false (tree_of top.now) }
+    ensures ok { IfOk result (λ made. IsResolvedAt (program_tree program.now) (model_tree flat.now) [] (tree_of top.now) (flat_tree made)) }
+    ensures wrong { IfErr result (IfRefused (λ fault. ⊥)) }
+{
+    let made = resolve_top(alloc, program, flat, top)?;
+    Ok(made)
+}

@@ -1,0 +1,277 @@
+//! Orders of two faults of a set: what is found, written and said.
+//!
+//! The main function is [`find_orders`]: a first search looks for a trace that reaches the top event with exactly the set, and a second
+//! for one that speaks against the order that the first shows.
+ghost use Rattle.std.specs.Prelude.{◌≡◌, ◌≤◌, ◌⊎◌, ℕ, Some, None, IfOk, IfSome, IsErrOf, length};
+ghost use Rattle.base_files.specs.Desk.{Rose};
+ghost use Rattle.smv_language.specs.ModelTree.{flat_tree};
+ghost use Rattle.cut_search.specs.declared.answer.End.TheVariants as ends;
+ghost use Rattle.cut_text_laws.specs.Analysis.{told_ending};
+ghost use Rattle.verb_loading.specs.LoadedEvents.{case_in};
+ghost use Rattle.verb_command_line.specs.Sets.{numbers_of};
+ghost use Rattle.verb_loading.specs.declared.status.Refusal.{Refusal};
+ghost use Rattle.verb_loading.specs.declared.input.Stop.TheVariants as stop;
+ghost use Rattle.verb_loading.specs.Statuses.{ended_with, IsBoundedAt, IsFinished};
+ghost use Rattle.verb_orders.specs.Pairs.{IsAskedPair, RefusesPair, IsStagedCase};
+ghost use Rattle.verb_orders.specs.Orders.{CertifiesClaim, HasOrder, OrdersInPart};
+ghost use Rattle.verb_orders.specs.Claimed.{IsSearchOf, IsTraceAgainst, IsToldBy, HasClaimCertificate, IsConclusion, ConcludesFrom, relation_in};
+
+use crate::pair::{PairWords, StagedCase, discard_case, load_pair};
+use crate::searched::{Searched, discard_search, search};
+use crate::verdict::{cut, relation_of, report_claim, report_either};
+use std::alloc::Global;
+use sat_adviser::Panel;
+use cut_model_search::{certify, told};
+use cert_text::write;
+use cert_file::conclusion::{Conclusion, conclude};
+use cut_search::answer::End;
+use base_files::Desk;
+use verb_loading::input::Stop;
+use verb_loading::status::{Status, ended_as};
+use fault_orders::Relation;
+use base_values::{ByteList, Ending, MomentList, OutOfMemory, TraceList};
+use verb_command_line::FindOrders;
+
+/// Searches for the order of the two faults, writes a certificate of a complete answer, and says the line of the pair.
+pub fn find_orders<D: Desk>(
+    alloc: Global,
+    desk: &mut D,
+    asked: &FindOrders,
+    panel: &mut Panel,
+) -> Result<Status, Stop>
+    ensures ok { IfOk result (λ s. IsAskedPair asked.now.set.now asked.now.first asked.now.second → IfSome (D.files desk.old) (λ files.
+        HasOrder files asked.now.model.now asked.now.faults.now asked.now.top.now
+        (numbers_of asked.now.set.now) asked.now.first asked.now.second asked.now.depth asked.now.cert.now
+        s (D.files desk.old) (D.files desk.new) (D.said desk.old) (D.said desk.new))) }
+    ensures finished { IfOk result IsFinished }
+    ensures depth { IfOk result (IsBoundedAt asked.now.depth) }
+    ensures refused { (r : Refusal) → IsErrOf result (stop.Refused r) →
+        IsAskedPair asked.now.set.now asked.now.first asked.now.second → IfSome (D.files desk.old) (λ files.
+        RefusesPair files asked.now.model.now asked.now.faults.now asked.now.top.now (numbers_of asked.now.set.now) asked.now.first asked.now.second r) }
+    ensures untouched { (r : Refusal) → IsErrOf result (stop.Refused r) →
+        (D.files desk.new ≡ D.files desk.old) × (D.said desk.new ≡ D.said desk.old) }
+    ensures failed { IsErrOf result stop.Desk → Rose (D.faults desk.old) (D.faults desk.new) }
+    ensures later { D.faults desk.old ≤ D.faults desk.new }
+    ensures quiet { D.quiet desk.old → D.quiet desk.new × (D.faults desk.new ≡ D.faults desk.old) }
+    // However it ends, nothing was done, or a part of that stands: a prefix of what would be written and said.
+    ensures left { ((D.files desk.new ≡ D.files desk.old) × (D.said desk.new ≡ D.said desk.old))
+        ⊎ (IsAskedPair asked.now.set.now asked.now.first asked.now.second → IfSome (D.files desk.old) (λ files.
+        OrdersInPart files asked.now.model.now asked.now.faults.now asked.now.top.now
+        (numbers_of asked.now.set.now) asked.now.first asked.now.second asked.now.depth asked.now.cert.now
+        (D.files desk.old) (D.files desk.new) (D.said desk.old) (D.said desk.new))) }
+{
+    let found = prepare(alloc, desk, asked, panel)?;
+    conclude(desk, asked.cert, &found)?;
+    Ok(ended_as(found.ending))
+}
+
+/// Reads the model and the instructions, and searches for the order of the two faults. Nothing is written or said.
+fn prepare<D: Desk>(
+    alloc: Global,
+    desk: &mut D,
+    asked: &FindOrders,
+    panel: &mut Panel,
+) -> Result<Conclusion, Stop>
+    ensures ok { IfOk result (λ k. IsAskedPair asked.now.set.now asked.now.first asked.now.second → IfSome (D.files desk.old) (λ files.
+        ConcludesFrom files asked.now.model.now asked.now.faults.now asked.now.top.now
+        (numbers_of asked.now.set.now) asked.now.first asked.now.second asked.now.depth k)) }
+    ensures depth { IfOk result (λ k. IsBoundedAt asked.now.depth (ended_with (told_ending k.ending))) }
+    ensures refused { (r : Refusal) → IsErrOf result (stop.Refused r) →
+        IsAskedPair asked.now.set.now asked.now.first asked.now.second → IfSome (D.files desk.old) (λ files.
+        RefusesPair files asked.now.model.now asked.now.faults.now asked.now.top.now (numbers_of asked.now.set.now) asked.now.first asked.now.second r) }
+    ensures failed { IsErrOf result stop.Desk → Rose (D.faults desk.old) (D.faults desk.new) }
+    ensures files { D.files desk.new ≡ D.files desk.old }
+    ensures said { D.said desk.new ≡ D.said desk.old }
+    ensures later { D.faults desk.old ≤ D.faults desk.new }
+    ensures quiet { D.quiet desk.old → D.quiet desk.new × (D.faults desk.new ≡ D.faults desk.old) }
+{
+    let words = PairWords {
+        model: asked.model,
+        faults: asked.faults,
+        top: asked.top,
+        set: asked.set,
+        first: asked.first,
+        second: asked.second,
+    };
+    let staged = load_pair(alloc, desk, &words)?;
+    let found = answer(alloc, &staged, asked.depth, panel);
+    discard_case(staged);
+    Ok(found?)
+}
+
+/// The order of the two faults: a first search looks for any trace that reaches the event with exactly the set.
+fn answer(
+    alloc: Global,
+    staged: &StagedCase,
+    depth: u32,
+    panel: &mut Panel,
+) -> Result<Conclusion, OutOfMemory>
+    requires { IsStagedCase staged.now }
+    ensures { IfOk result (IsConclusion staged.now depth) }
+{
+    let some = search(alloc, staged, None, depth, panel)?;
+    let found = answer_from(alloc, staged, depth, &some, panel);
+    discard_search(some);
+    found
+}
+
+/// The order of the two faults, by what the first search came to. Where no trace reaches the event with exactly the set there is
+/// none.
+fn answer_from(
+    alloc: Global,
+    staged: &StagedCase,
+    depth: u32,
+    some: &Searched,
+    panel: &mut Panel,
+) -> Result<Conclusion, OutOfMemory>
+    requires staged { IsStagedCase staged.now }
+    requires searched { IsSearchOf staged.now None depth some.now }
+    ensures { IfOk result (IsConclusion staged.now depth) }
+{
+    let traces: &TraceList = &some.analysis.traces;
+    if traces.is_empty() {
+        return concluded(alloc, staged, None, depth, some, panel);
+    }
+    answer_of(alloc, staged, depth, traces.at(0), panel)
+}
+
+/// The order of the two faults, of which a trace shows one: a second search looks for another trace that speaks against that.
+fn answer_of(
+    alloc: Global,
+    staged: &StagedCase,
+    depth: u32,
+    trace: &MomentList,
+    panel: &mut Panel,
+) -> Result<Conclusion, OutOfMemory>
+    requires staged { IsStagedCase staged.now }
+    requires trace { IsTraceAgainst staged.now None trace.now }
+    ensures { IfOk result (IsConclusion staged.now depth) }
+{
+    let relation = relation_of(trace);
+    let other = search(alloc, staged, Some(relation), depth, panel)?;
+    let found = answer_against(alloc, staged, depth, trace, &other, panel);
+    discard_search(other);
+    found
+}
+
+/// The order of the two faults, by what the second search came to: the one that the trace shows, unless another trace speaks
+/// against that.
+fn answer_against(
+    alloc: Global,
+    staged: &StagedCase,
+    depth: u32,
+    trace: &MomentList,
+    other: &Searched,
+    panel: &mut Panel,
+) -> Result<Conclusion, OutOfMemory>
+    requires staged { IsStagedCase staged.now }
+    requires trace { IsTraceAgainst staged.now None trace.now }
+    requires searched { IsSearchOf staged.now (Some (relation_in trace.now)) depth other.now }
+    ensures { IfOk result (IsConclusion staged.now depth) }
+{
+    let traces: &TraceList = &other.analysis.traces;
+    if traces.is_empty() {
+        let relation = relation_of(trace);
+        return concluded(alloc, staged, Some(relation), depth, other, panel);
+    }
+    differing(alloc, staged, trace, traces.at(0))
+}
+
+/// The answer of a search that found no trace.
+fn concluded(
+    alloc: Global,
+    staged: &StagedCase,
+    claim: Option<Relation>,
+    depth: u32,
+    searched: &Searched,
+    panel: &mut Panel,
+) -> Result<Conclusion, OutOfMemory>
+    requires staged { IsStagedCase staged.now }
+    requires searched { IsSearchOf staged.now claim depth searched.now }
+    requires none { length searched.now.analysis.traces ≡ 0 }
+    requires told { IsToldBy staged.now claim }
+    ensures { IfOk result (IsConclusion staged.now depth) }
+{
+    let cert = certificate(alloc, staged, claim, depth, searched, panel)?;
+    let ending = told(&searched.analysis.end);
+    let report = report_claim(alloc, staged, claim, ending, staged.typed.bits())?;
+    Ok(Conclusion {
+        cert,
+        report,
+        ending,
+    })
+}
+
+/// The answer of two traces that differ, which has no certificate.
+fn differing(
+    alloc: Global,
+    staged: &StagedCase,
+    one: &MomentList,
+    other: &MomentList,
+) -> Result<Conclusion, OutOfMemory>
+    requires staged { IsStagedCase staged.now }
+    requires one { IsTraceAgainst staged.now None one.now }
+    requires other { IsTraceAgainst staged.now (Some (relation_in one.now)) other.now }
+    ensures { IfOk result (λ k. (depth : ℕ) → IsConclusion staged.now depth k) }
+{
+    let variables = staged.loaded.case.limited.typed.model().variables.len();
+    let one = cut(alloc, one, variables)?;
+    let other = cut(alloc, other, variables)?;
+    let report = report_either(alloc, staged, &one, &other)?;
+    Ok(Conclusion {
+        cert: None,
+        report,
+        ending: Ending::Complete,
+    })
+}
+
+/// The text of a certificate, where the search is complete.
+fn certificate(
+    alloc: Global,
+    staged: &StagedCase,
+    claim: Option<Relation>,
+    depth: u32,
+    searched: &Searched,
+    panel: &mut Panel,
+) -> Result<Option<ByteList>, OutOfMemory>
+    requires staged { IsStagedCase staged.now }
+    requires searched { IsSearchOf staged.now claim depth searched.now }
+    requires none { length searched.now.analysis.traces ≡ 0 }
+    ensures { IfOk result (HasClaimCertificate staged.now claim searched.now.analysis.end) }
+{
+    match &searched.analysis.end {
+        End::Complete(_clauses) => {
+            let text = certificate_text(alloc, staged, claim, depth, searched, panel)?;
+            Ok(Some(text))
+        }
+        End::Bounded(_steps) => Ok(None),
+    }
+}
+
+/// The text of a certificate of a complete search that found no trace.
+fn certificate_text(
+    alloc: Global,
+    staged: &StagedCase,
+    claim: Option<Relation>,
+    depth: u32,
+    searched: &Searched,
+    panel: &mut Panel,
+) -> Result<ByteList, OutOfMemory>
+    requires staged { IsStagedCase staged.now }
+    requires searched { IsSearchOf staged.now claim depth searched.now }
+    requires none { length searched.now.analysis.traces ≡ 0 }
+    requires complete { (k : ℕ) → searched.now.analysis.end ≡ ends.Bounded k → ⊥ }
+    ensures { IfOk result (CertifiesClaim (case_in staged.now.loaded) staged.now.set.items staged.now.asked.first staged.now.asked.second
+        (flat_tree staged.now.loaded.top) claim) }
+{
+    let certificate = certify(
+        alloc,
+        &staged.typed,
+        &staged.typed,
+        &staged.none,
+        &searched.top,
+        &searched.analysis,
+        panel,
+    )?;
+    write(alloc, &certificate)
+}

@@ -1,0 +1,114 @@
+//! The search of a staged model for a trace that speaks against a claim.
+//!
+//! The main function is [`search`].
+ghost use Rattle.std.specs.Prelude.{◌≡◌, [], IsTrue, IfOk};
+ghost use Rattle.smv_language.specs.ModelTree.{model_tree, flat_tree};
+ghost use Rattle.cut_search_laws.specs.Searchable.{IsSearchable};
+ghost use Rattle.verb_orders.specs.Pairs.{IsStagedCase};
+ghost use Rattle.verb_orders.specs.Claimed.{HasFew, SpeaksFor, IsAnswerAlone, IsSearchOf};
+
+use crate::pair::StagedCase;
+use std::alloc::Global;
+use sat_adviser::Panel;
+use cut_model_search::analyse;
+use cut_search::answer::Analysis;
+use fault_orders::{Relation, against};
+use smv_language::Expr;
+use smv_language::model::Flat;
+use base_values::OutOfMemory;
+
+/// A search gives each symbol a number below this. A model of two files within their limits has far fewer.
+const MOST_SYMBOLS: usize = 2_147_483_648;
+
+/// A weave takes no more faults.
+const MOST_FAULTS: usize = 256;
+
+/// The expression of a claim, and what a search for a trace of it came to.
+#[derive(Drop)]
+pub struct Searched {
+    pub top: Expr<Flat>,
+    pub analysis: Analysis,
+}
+
+/// Lets a search go. Its expression is taken apart here, once for all that had it.
+pub(crate) fn discard_search(_searched: Searched) {}
+
+/// The search for a trace that reaches the top event with exactly the set, against a claim where there is one. More symbols
+/// than numbers of them are want of memory, and so are more faults than a weave takes.
+pub(crate) fn search(
+    alloc: Global,
+    staged: &StagedCase,
+    claim: Option<Relation>,
+    depth: u32,
+    panel: &mut Panel,
+) -> Result<Searched, OutOfMemory>
+    requires { IsStagedCase staged.now }
+    ensures { IfOk result (IsSearchOf staged.now claim depth) }
+{
+    if !are_few(staged) {
+        return Err(OutOfMemory);
+    }
+    let top = expression(alloc, staged, claim)?;
+    let analysis = analysed(alloc, staged, &top, depth, panel)?;
+    Ok(Searched { top, analysis })
+}
+
+/// Whether there are as few symbols as a search can number, and no more faults than a weave takes.
+pub(crate) fn are_few(staged: &StagedCase) -> bool
+    ensures few { IsTrue result → HasFew staged.now }
+    ensures all { HasFew staged.now → IsTrue result }
+{
+    if staged.loaded.case.limited.typed.model().symbols.len() >= MOST_SYMBOLS {
+        return false;
+    }
+    if staged.loaded.case.limited.faults.len() > MOST_FAULTS {
+        return false;
+    }
+    true
+}
+
+/// What speaks against a claim.
+pub(crate) fn expression(
+    alloc: Global,
+    staged: &StagedCase,
+    claim: Option<Relation>,
+) -> Result<Expr<Flat>, OutOfMemory>
+    requires staged { IsStagedCase staged.now }
+    requires few { HasFew staged.now }
+    ensures speaks { IfOk result (λ e. SpeaksFor staged.now claim (flat_tree e)) }
+    ensures searchable { IfOk result (λ e. IsSearchable (model_tree staged.now.typed.model) [] (flat_tree e)) }
+{
+    let faults = staged.loaded.case.limited.faults.len() as u32;
+    against(
+        alloc,
+        staged.typed.model(),
+        faults,
+        &staged.loaded.top,
+        &staged.set,
+        claim,
+    )
+}
+
+/// The analysis of a staged model for an expression.
+fn analysed(
+    alloc: Global,
+    staged: &StagedCase,
+    top: &Expr<Flat>,
+    depth: u32,
+    panel: &mut Panel,
+) -> Result<Analysis, OutOfMemory>
+    requires none { staged.now.none ≡ [] }
+    requires searchable { IsSearchable (model_tree staged.now.typed.model) [] (flat_tree top.now) }
+    ensures { IfOk result (IsAnswerAlone (model_tree staged.now.typed.model) (flat_tree top.now) depth) }
+{
+    analyse(
+        alloc,
+        &staged.typed,
+        &staged.typed,
+        &staged.none,
+        top,
+        depth,
+        0,
+        panel,
+    )
+}

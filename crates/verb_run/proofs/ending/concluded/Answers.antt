@@ -1,0 +1,20 @@
+use Rattle.std.proofs.Common.{Err, IfOk, ⊎_elim, inl, inr, refl, sym, ap, subst, ◌∙◌}
+use Rattle.verb_loading.specs.Statuses.{IsFinished}
+use Rattle.verb_run.specs.Delivered.{Concluded}
+use Rattle.verb_run.proofs.ending.concluded.Goals as goal
+
+pub returns-in-Ok-clause-concluded : goal.returns-in-Ok-clause-concluded
+returns-in-Ok-clause-concluded g c =
+    subst (λ d. Concluded d c.in-Ok.status (g.D.Desk.files c.args.desk.now) (g.D.Desk.files c.args.desk.now) (g.D.Desk.said c.args.desk.now) (g.D.Desk.said c.args.desk.now)) (sym c.in-Ok.is)
+    (record { ends = refl; kept = refl; silent = refl })
+
+pub returns-in-Ok-clause-failed : goal.returns-in-Ok-clause-failed
+returns-in-Ok-clause-failed g c desk = absurd (subst IsFinished desk (subst (λ d. IfOk d IsFinished) c.in-Ok.is c.requires))
+
+pub returns-in-Err-clause-concluded : goal.returns-in-Err-clause-concluded
+returns-in-Err-clause-concluded g c =
+    subst (λ d. Concluded d c.stopped.result (g.D.Desk.files c.args.desk.now) (g.D.Desk.files c.stopped.new.desk) (g.D.Desk.said c.args.desk.now) (g.D.Desk.said c.stopped.new.desk)) (sym c.in-Err.is)
+    c.stopped.ensures.stopped
+
+pub returns-in-Err-clause-failed : goal.returns-in-Err-clause-failed
+returns-in-Err-clause-failed g c desk = ⊎_elim (λ is. inl (c.in-Err.is ∙ ap (λ s. Err s) is)) (λ rose. inr rose) (c.stopped.ensures.failed desk)

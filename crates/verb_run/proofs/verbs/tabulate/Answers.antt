@@ -1,0 +1,57 @@
+use Rattle.std.proofs.Common.{Some, Err, inr, map, sym, ap}
+use Rattle.verb_command_line.specs.declared.command.Command.TheVariants as ask
+use Rattle.verb_command_line.specs.Seen.{seen}
+use Rattle.verb_run.specs.Tables.{tabulated_case, tabulated_events}
+use Rattle.verb_run.specs.Runs.{tabulates, CommandComesTo, IsDelivered}
+use Rattle.verb_run.proofs.OutcomeLemmas.{answers_prepared, stops_at_prepared, finished_answers, failed_finish, no_column_desk, answers_stop, leaves_stop}
+use Rattle.verb_loading.proofs.SaidLaws.{rose_later}
+use Rattle.verb_run.proofs.StatusLaws.{finished_of, columns_of, stopped_of}
+use Rattle.std.proofs.lemmas.Result.{IfOk-weaker}
+use Rattle.verb_run.proofs.verbs.tabulate.Goals as goal
+
+pub returns-in-Ok-clause-answered : goal.returns-in-Ok-clause-answered
+returns-in-Ok-clause-answered g c answer =
+    let a = c.in-Ok.tabulating in
+    answers_prepared (λ files o. CommandComesTo files (seen (ask.Fmea c.args.asked.now)) o) _ _ _ _ _ _ c.prepare_table.ensures.files c.prepare_table.ensures.said
+    (tabulates (tabulated_case a) (tabulated_events a) a.size a.depth) c.finished.result c.in-Ok.ensures.ok
+    (finished_answers
+    (λ s. IsDelivered (tabulates (tabulated_case a) (tabulated_events a) a.size a.depth) s (g.D.Desk.files c.prepare_table.new.desk) (g.D.Desk.files c.deliver_table.new.desk) (g.D.Desk.said c.prepare_table.new.desk) (g.D.Desk.said c.deliver_table.new.desk))
+    c.deliver_table.result c.finished.result c.finished.ensures c.deliver_table.ensures.ok)
+    answer
+
+pub returns-in-Ok-clause-left : goal.returns-in-Ok-clause-left
+returns-in-Ok-clause-left g c =
+    let a = c.in-Ok.tabulating in
+    inr (
+    stops_at_prepared (λ files o. CommandComesTo files (seen (ask.Fmea c.args.asked.now)) o) _ _ _ _ _ _ c.prepare_table.ensures.files c.prepare_table.ensures.said
+    (tabulates (tabulated_case a) (tabulated_events a) a.size a.depth) c.in-Ok.ensures.ok c.deliver_table.ensures.part
+    )
+
+pub returns-in-Err-clause-answered : goal.returns-in-Err-clause-answered
+returns-in-Err-clause-answered g c answer =
+    answers_stop (λ files o. CommandComesTo files (seen (ask.Fmea c.args.asked.now)) o) _ _ _ _ _ _ c.prepare_table.ensures.files c.prepare_table.ensures.said c.in-Err.stop c.stopped.result
+    (λ r is. c.in-Err.ensures.refused r (ap (λ s. Err s) is)) c.stopped.ensures.stopped answer
+
+pub returns-in-Err-clause-left : goal.returns-in-Err-clause-left
+returns-in-Err-clause-left g c =
+    leaves_stop (λ files o. CommandComesTo files (seen (ask.Fmea c.args.asked.now)) o) _ _ _ _ _ _ c.prepare_table.ensures.files c.prepare_table.ensures.said c.in-Err.stop c.stopped.result
+    (λ r is. c.in-Err.ensures.refused r (ap (λ s. Err s) is)) c.stopped.ensures.stopped
+
+pub returns-in-Ok-clause-failed : goal.returns-in-Ok-clause-failed
+returns-in-Ok-clause-failed g c desk =
+    let a = c.in-Ok.tabulating in
+    rose_later _ _ _ c.prepare_table.ensures.later
+    (failed_finish
+    (λ s. IsDelivered (tabulates (tabulated_case a) (tabulated_events a) a.size a.depth) s (g.D.Desk.files c.prepare_table.new.desk) (g.D.Desk.files c.deliver_table.new.desk) (g.D.Desk.said c.prepare_table.new.desk) (g.D.Desk.said c.deliver_table.new.desk))
+    _ c.deliver_table.result c.finished.result c.finished.ensures c.deliver_table.ensures.ok (λ h. no_column_desk (map (λ e. e.ending) h.columns) h.ends) c.deliver_table.ensures.failed desk)
+
+pub returns-in-Ok-clause-status : goal.returns-in-Ok-clause-status
+returns-in-Ok-clause-status g c =
+    finished_of (seen (ask.Fmea c.args.asked.now)) c.finished.result c.deliver_table.result c.finished.ensures
+    (IfOk-weaker c.deliver_table.result _ _
+    (λ s h. columns_of (seen (ask.Fmea c.args.asked.now)) c.in-Ok.tabulating.depth (ap (λ n. Some n) (sym c.in-Ok.ensures.asked.1)) (tabulated_case c.in-Ok.tabulating) (tabulated_events c.in-Ok.tabulating) h.columns s h.found
+    h.ends)
+    c.deliver_table.ensures.ok)
+
+pub returns-in-Err-clause-status : goal.returns-in-Err-clause-status
+returns-in-Err-clause-status g c = stopped_of (seen (ask.Fmea c.args.asked.now)) c.stopped.result c.in-Err.stop _ _ _ _ c.stopped.ensures.stopped

@@ -1,0 +1,53 @@
+//! An analysis: what is written and said.
+//!
+//! The main function is [`deliver_analysis`]: the extension is written first, and the report said last.
+ghost use Rattle.std.specs.Prelude.{◌≡◌, ◌≤◌, IfOk, IsErrOf};
+ghost use Rattle.base_files.specs.Desk.{Rose};
+ghost use Rattle.base_files.specs.declared.desk.WriteStop.TheVariants as write_stop;
+ghost use Rattle.verb_run.specs.Analyses.{HasAnalysed, AnalysesInPart};
+ghost use Rattle.verb_loading.specs.LoadedEvents.{IsEvent};
+ghost use Rattle.verb_run.specs.Findings.{analysed_case, analysed_size};
+
+use crate::search::search;
+use std::alloc::Global;
+use sat_adviser::Panel;
+use cert_file::conclusion::conclude;
+use base_files::{Desk, WriteStop, write_whole};
+use verb_loading::event::LoadedEvent;
+use verb_loading::status::{Status, ended_as};
+use smv_language::print_program;
+
+/// What is to be analysed, and where its files go.
+#[derive(Drop)]
+pub struct Analysing<'a> {
+    pub loaded: LoadedEvent,
+    pub word: &'a str,
+    pub depth: u32,
+    pub size: Option<u32>,
+    pub extended: &'a str,
+    pub cert: &'a str,
+}
+
+/// Writes the extension, searches, writes the certificate of a complete answer, and says the report.
+pub(crate) fn deliver_analysis<D: Desk>(
+    alloc: Global,
+    desk: &mut D,
+    asked: &Analysing,
+    panel: &mut Panel,
+) -> Result<Status, WriteStop>
+    requires { IsEvent asked.now.word.now asked.now.loaded }
+    ensures ok { IfOk result (λ s. HasAnalysed (analysed_case asked.now) asked.now.word.now asked.now.depth
+        (analysed_size asked.now) asked.now.extended.now asked.now.cert.now
+        s (D.files desk.old) (D.files desk.new) (D.said desk.old) (D.said desk.new)) }
+    ensures part { AnalysesInPart (analysed_case asked.now) asked.now.word.now asked.now.depth (analysed_size asked.now) asked.now.extended.now asked.now.cert.now
+        (D.files desk.old) (D.files desk.new) (D.said desk.old) (D.said desk.new) }
+    ensures later { D.faults desk.old ≤ D.faults desk.new }
+    ensures failed { IsErrOf result write_stop.Failed → Rose (D.faults desk.old) (D.faults desk.new) }
+    ensures quiet { D.quiet desk.old → D.quiet desk.new × (D.faults desk.new ≡ D.faults desk.old) }
+{
+    let text = print_program(alloc, &asked.loaded.case.limited.woven.program)?;
+    write_whole(desk, asked.extended, &text)?;
+    let found = search(alloc, asked, panel)?;
+    conclude(desk, asked.cert, &found)?;
+    Ok(ended_as(found.ending))
+}

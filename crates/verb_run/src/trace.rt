@@ -1,0 +1,101 @@
+//! The file of a trace, as moments of the extension.
+//!
+//! The main function is [`load_trace`].
+ghost use Rattle.std.specs.Prelude.{◌≡◌, ◌≤◌, length, IfOk, IfSome, IsErrOf};
+ghost use Rattle.base_files.specs.Desk.{Rose};
+ghost use Rattle.smv_language.specs.ModelTree.{model_tree};
+ghost use Rattle.smv_language.specs.Told.{told_trace};
+ghost use Rattle.cut_text_laws.specs.Given.{IsPrintable, HasItsSymbols};
+ghost use Rattle.verb_loading.specs.Tasks.{IsRefusedAbove, HasAtMost};
+ghost use Rattle.verb_run.specs.Replays.{RefusesTrace, HoldsTrace, stop_at_text};
+ghost use Rattle.verb_loading.specs.declared.status.InputFault.{InputFault};
+ghost use Rattle.verb_loading.specs.declared.status.Refusal.{Refusal};
+ghost use Rattle.verb_loading.specs.declared.status.Refusal.TheVariants as refusal;
+ghost use Rattle.verb_loading.specs.declared.status.Objection.TheVariants as objection;
+ghost use Rattle.verb_loading.specs.declared.input.Stop.TheVariants as stop;
+ghost use Rattle.cert_check.specs.Moments.{CanBeReplayed};
+
+use std::alloc::Global;
+use base_files::{Desk, DeskFault, read_whole};
+use verb_loading::input::Stop;
+use verb_loading::status::{InputFault, Objection, Part, Refusal};
+use cut_report::{TraceFault, read_trace};
+use smv_types::Typed;
+use base_values::MomentList;
+
+/// The limit of the file of a trace, in bytes.
+const TRACE_LIMIT: u64 = 16_777_216;
+
+/// The moments that the file of a trace gives, over the flat model of an extension.
+pub(crate) fn load_trace<D: Desk>(
+    alloc: Global,
+    desk: &mut D,
+    name: &str,
+    typed: &Typed,
+) -> Result<MomentList, Stop>
+    requires printable { IsPrintable (model_tree typed.now.model) }
+    requires symbols { HasItsSymbols (model_tree typed.now.model) }
+    ensures ok { IfOk result (λ trace. IfSome (D.files desk.old) (λ files.
+        HoldsTrace files name.now (model_tree typed.now.model) (told_trace typed.now.model.symbols trace))) }
+    ensures fit { IfOk result (CanBeReplayed (model_tree typed.now.model)) }
+    ensures refused { (r : Refusal) → IsErrOf result (stop.Refused r) →
+        IfSome (D.files desk.old) (λ files. RefusesTrace files name.now (model_tree typed.now.model) r) }
+    ensures failed { IsErrOf result stop.Desk → Rose (D.faults desk.old) (D.faults desk.new) }
+    ensures files { D.files desk.new ≡ D.files desk.old }
+    ensures said { D.said desk.new ≡ D.said desk.old }
+    ensures later { D.faults desk.old ≤ D.faults desk.new }
+    ensures quiet { D.quiet desk.old → D.quiet desk.new × (D.faults desk.new ≡ D.faults desk.old) }
+{
+    let bytes = read_trace_file(alloc, desk, name)?;
+    match read_trace(alloc, typed, &bytes) {
+        Ok(trace) => Ok(trace),
+        Err(fault) => Err(text_stop(fault)),
+    }
+}
+
+/// The bytes of the file of a trace.
+fn read_trace_file<D: Desk>(alloc: Global, desk: &mut D, name: &str) -> Result<Vec<u8>, Stop>
+    ensures bytes { IfOk result (λ bytes. IfSome (D.files desk.old) (λ files. HasAtMost 16777216 files name.now bytes.items)) }
+    ensures short { IfOk result (λ bytes. length bytes.items ≤ 16777216) }
+    ensures refused { (r : Refusal) → IsErrOf result (stop.Refused r) →
+        (fault : InputFault) × (r ≡ refusal.NotAccepted (objection.Trace fault))
+        × IfSome (D.files desk.old) (λ files. IsRefusedAbove 16777216 files name.now fault) }
+    ensures failed { IsErrOf result stop.Desk → Rose (D.faults desk.old) (D.faults desk.new) }
+    ensures files { D.files desk.new ≡ D.files desk.old }
+    ensures said { D.said desk.new ≡ D.said desk.old }
+    ensures later { D.faults desk.old ≤ D.faults desk.new }
+    ensures quiet { D.quiet desk.old → D.quiet desk.new × (D.faults desk.new ≡ D.faults desk.old) }
+{
+    match read_whole(alloc, desk, name, TRACE_LIMIT) {
+        Ok(bytes) => Ok(bytes),
+        Err(DeskFault::Absent) => Err(trace_stop(Part::Absent, 1, 0)),
+        Err(DeskFault::TooLong) => Err(trace_stop(Part::Length, 1, TRACE_LIMIT)),
+        Err(DeskFault::Failed) => Err(Stop::Desk),
+        Err(DeskFault::OutOfMemory) => Err(Stop::Memory),
+    }
+}
+
+/// The end of the work where this is wrong with the text of a trace.
+fn text_stop(fault: TraceFault) -> Stop
+    ensures { result ≡ stop_at_text fault }
+{
+    match fault {
+        TraceFault::BadLine(line) => trace_stop(Part::Read, 1, line),
+        TraceFault::UnknownName(line) => trace_stop(Part::Read, 2, line),
+        TraceFault::Outside(line) => trace_stop(Part::Read, 3, line),
+        TraceFault::MissingValue(moment) => trace_stop(Part::Read, 4, moment),
+        TraceFault::Twice(line) => trace_stop(Part::Read, 5, line),
+        TraceFault::OutOfMemory => Stop::Memory,
+    }
+}
+
+/// The end of the work where a rule of the file of a trace is broken at a place.
+fn trace_stop(part: Part, number: u32, place: u64) -> Stop
+    ensures { result ≡ stop.Refused (refusal.NotAccepted (objection.Trace (record { part = part; number = number; place = place }))) }
+{
+    Stop::Refused(Refusal::NotAccepted(Objection::Trace(InputFault {
+        part,
+        number,
+        place,
+    })))
+}

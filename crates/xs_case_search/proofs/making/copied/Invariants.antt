@@ -1,6 +1,0 @@
-use Rattle.std.proofs.Common.{◌≡◌, take}
-use Rattle.xs_case_search.proofs.making.copied.Given as goal
-
--- the sets so far are copied
-abbrev pub invariant-loop-set : goal.invariant-loop-set
-invariant-loop-set l = l.copy ≡ take l.set-index l.sets

@@ -1,5 +1,0 @@
-use Rattle.xs_cause_laws.proofs.OneEach.{one_each}
-use Rattle.xs_cause_laws.proofs.one_trace_each.Goals as goal
-
-pub returns : goal.returns
-returns c = one_each

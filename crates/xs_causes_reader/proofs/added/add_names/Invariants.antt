@@ -1,6 +1,0 @@
-use Rattle.std.proofs.Common.{◌≡◌, drop}
-use Rattle.xs_weave_rules.specs.Keyed.{with_texts}
-use Rattle.xs_causes_reader.proofs.added.add_names.Given as goal
-
-abbrev pub invariant-loop-i : goal.invariant-loop-i
-invariant-loop-i l = with_texts l.taken (drop l.i l.names) ≡ with_texts l.initial.taken l.names

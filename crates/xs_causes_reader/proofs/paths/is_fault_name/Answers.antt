@@ -1,8 +1,0 @@
-use Rattle.std.proofs.Common.{sym, ◌∙◌}
-use Rattle.xs_cause_laws.specs.CauseRules.{same_path}
-use Rattle.xs_causes_reader.proofs.PathLaws.{any_map}
-use Rattle.xs_causes_reader.proofs.paths.is_fault_name.Goals as goal
-use Rattle.xs_tree.specs.ModelTree.{name_of_fault}
-
-pub returns : goal.returns
-returns c = c.has_path.ensures ∙ sym (any_map (λ q. same_path q c.args.path.now) name_of_fault c.args.faults.now)

@@ -1,8 +1,0 @@
-use Rattle.std.proofs.Common.{take}
-use Rattle.xs_causes_reader.specs.FaultPaths.{paths_of}
-use Rattle.xs_causes_reader.specs.Read.{IsNumberOf}
-use Rattle.xs_causes_reader.proofs.rules.strikes_of.Given as goal
-use Rattle.xs_tree.specs.Trace.{EachBoth}
-
-abbrev pub invariant-loop-name : goal.invariant-loop-name
-invariant-loop-name l = EachBoth (IsNumberOf (paths_of l.faults)) (take l.name-index l.names) l.strikes

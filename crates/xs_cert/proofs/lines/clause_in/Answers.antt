@@ -1,7 +1,0 @@
-use Rattle.std.proofs.Common.{sym, codes}
-use Rattle.xs_certificate_laws.specs.LineReading.{each_in, literal_in}
-use Rattle.xs_cert.proofs.LineLaws.{not_after}
-use Rattle.xs_cert.proofs.lines.clause_in.Goals as goal
-
-pub returns-in-None : goal.returns-in-None
-returns-in-None c = sym (not_after (codes "clause") (each_in literal_in) c.args.line.now c.in-None.ensures)

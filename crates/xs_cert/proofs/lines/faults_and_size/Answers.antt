@@ -1,7 +1,0 @@
-use Rattle.xs_cert.specs.Cuts.{words_after}
-use Rattle.xs_cert.specs.Told.{told_version}
-use Rattle.xs_cert.proofs.LineLaws.{no_faults}
-use Rattle.xs_cert.proofs.lines.faults_and_size.Goals as goal
-
-pub returns-in-None : goal.returns-in-None
-returns-in-None c = no_faults (told_version c.args.version) c.args.bits (words_after c.args.words.now) c.in-None.ensures

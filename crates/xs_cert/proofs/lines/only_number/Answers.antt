@@ -1,7 +1,0 @@
-use Rattle.std.proofs.Common.{sym}
-use Rattle.xs_cert.proofs.LineLaws.{more_smalls, not_empty}
-use Rattle.xs_cert.proofs.lines.only_number.Goals as goal
-
-pub returns-else-is_empty : goal.returns-else-is_empty
-returns-else-is_empty c =
-    sym (more_smalls c.args.words.now c.in-Some.word.now c.in-Some.more.now c.in-Some.ensures.lie (not_empty c.in-Some.more.now c.is_empty.result c.is_empty.ensures c.if-is_empty.false))

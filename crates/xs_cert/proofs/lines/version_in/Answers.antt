@@ -1,9 +1,0 @@
-use Rattle.std.proofs.Common.{sym, ◌∙◌}
-use Rattle.xs_cert.proofs.LineLaws.{other_versions}
-use Rattle.xs_cert.proofs.Cutting.{unequal_then}
-use Rattle.xs_cert.proofs.lines.version_in.Goals as goal
-
-pub returns-else-eq-2 : goal.returns-else-eq-2
-returns-else-eq-2 c =
-    other_versions c.args.line.now (λ e. unequal_then c.args.line.now c.as_slice.result.now c.eq.result c.eq.ensures c.if-eq.false (e ∙ sym c.as_slice.ensures))
-    (λ e. unequal_then c.args.line.now c.as_slice-else-eq.result.now c.eq-else-eq.result c.eq-else-eq.ensures c.if-eq-2.false (e ∙ sym c.as_slice-else-eq.ensures))

@@ -1,7 +1,0 @@
-use Rattle.std.proofs.Common.{◌≡◌, ◌++◌, map, drop}
-use Rattle.std.specs.Fmt.{decimal}
-use Rattle.xs_cert.specs.Pieces.{after_spaces}
-use Rattle.xs_cert.proofs.pieces.append_faults.Given as goal
-
-abbrev pub invariant-loop-fault : goal.invariant-loop-fault
-invariant-loop-fault l = l.text ++ after_spaces (map decimal (drop l.fault-index l.faults)) ≡ l.initial.text ++ after_spaces (map decimal l.faults)

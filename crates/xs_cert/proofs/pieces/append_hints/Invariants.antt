@@ -1,7 +1,0 @@
-use Rattle.std.proofs.Common.{◌≡◌, ◌++◌, map, drop}
-use Rattle.std.specs.Fmt.{decimal}
-use Rattle.xs_cert.specs.Pieces.{after_spaces}
-use Rattle.xs_cert.proofs.pieces.append_hints.Given as goal
-
-abbrev pub invariant-loop-hint : goal.invariant-loop-hint
-invariant-loop-hint l = l.text ++ after_spaces (map decimal (drop l.hint-index l.hints)) ≡ l.initial.text ++ after_spaces (map decimal l.hints)

@@ -1,5 +1,0 @@
-use Rattle.xs_certificate_laws.proofs.Subjects.{subjects_right}
-use Rattle.xs_certificate_laws.proofs.subjects_are_right.Goals as goal
-
-pub returns : goal.returns
-returns c = subjects_right

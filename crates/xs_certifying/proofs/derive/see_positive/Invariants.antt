@@ -1,7 +1,0 @@
-use Rattle.std.proofs.Common.{◌≤◌, All, take}
-use Rattle.xs_lits.specs.Literal.{Literal}
-use Rattle.xs_certifying.proofs.derive.see_positive.Given as goal
-
--- the variables so far are positive
-abbrev pub invariant-loop-lit : goal.invariant-loop-lit
-invariant-loop-lit l = All (λ (m : Literal). 1 ≤ m.var) (take l.lit-index l.lits)

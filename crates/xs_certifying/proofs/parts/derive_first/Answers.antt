@@ -1,5 +1,0 @@
-use Rattle.xs_certifying.proofs.PartLemmas.{first_follow}
-use Rattle.xs_certifying.proofs.parts.derive_first.Goals as goal
-
-pub derive-requires-clause-follow : goal.derive-requires-clause-follow
-derive-requires-clause-follow g c = first_follow c.args.system.now c.args.invariant.now c.args.bad.now c.requires.over_bits c.requires.invariant

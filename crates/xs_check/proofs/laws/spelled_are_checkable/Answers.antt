@@ -1,5 +1,0 @@
-use Rattle.xs_check.proofs.Spelled.{spelled_checkable}
-use Rattle.xs_check.proofs.laws.spelled_are_checkable.Goals as goal
-
-pub returns : goal.returns
-returns c = spelled_checkable

@@ -1,9 +1,0 @@
-use Rattle.std.proofs.Common.{[], drop}
-use Rattle.std.specs.Prelude.{zip}
-use Rattle.xs_circuits.specs.Counts.{count_gate}
-use Rattle.xs_circuits.proofs.WordMeans.{MapTurns}
-use Rattle.xs_circuits.proofs.CountMeans.{Countable}
-use Rattle.xs_circuits.proofs.counts.counted.Given as goal
-
-abbrev pub invariant-loop-i : goal.invariant-loop-i
-invariant-loop-i l = MapTurns (count_gate l.fn.l) 2 (Countable l.fn.l) (zip l.fn.counters (drop 1 l.fn.counters)) [] l.fn.g l.i l.next l.g

@@ -1,6 +1,0 @@
-use Rattle.std.proofs.Common.{◌≡◌}
-use Rattle.xs_circuits.specs.Words.{zeros}
-use Rattle.xs_circuits.proofs.word.falses.Given as goal
-
-abbrev pub invariant-loop : goal.invariant-loop
-invariant-loop l = l.word ≡ zeros l.counter

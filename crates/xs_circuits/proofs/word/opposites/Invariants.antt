@@ -1,6 +1,0 @@
-use Rattle.std.proofs.Common.{◌≡◌, map, take}
-use Rattle.xs_lits.specs.Literal.{opposite}
-use Rattle.xs_circuits.proofs.word.opposites.Given as goal
-
-abbrev pub invariant-loop-lit : goal.invariant-loop-lit
-invariant-loop-lit l = l.opposites ≡ map opposite (take l.lit-index l.lit-items)

@@ -1,5 +1,0 @@
-use Rattle.xs_cut_laws.proofs.chains_follow_frames.Goals as goal
-use Rattle.xs_cut_laws.proofs.Chains.{fixed_is_invariant, fewer_are_bad, chain_stays, chain_grows}
-
-pub returns : goal.returns
-returns c = record { fixed = fixed_is_invariant; fewer = fewer_are_bad; stays = chain_stays; grows = chain_grows }

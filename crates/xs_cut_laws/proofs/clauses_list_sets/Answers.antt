@@ -1,5 +1,0 @@
-use Rattle.xs_cut_laws.proofs.clauses_list_sets.Goals as goal
-use Rattle.xs_cut_laws.proofs.Clauses.{opposites_are_clause, clause_lists_set}
-
-pub returns : goal.returns
-returns c = record { opposites = opposites_are_clause; lists = clause_lists_set }

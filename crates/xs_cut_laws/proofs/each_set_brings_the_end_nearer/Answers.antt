@@ -1,5 +1,0 @@
-use Rattle.xs_cut_laws.proofs.each_set_brings_the_end_nearer.Goals as goal
-use Rattle.xs_cut_laws.proofs.Ends.{search_ends}
-
-pub returns : goal.returns
-returns c = search_ends

@@ -1,5 +1,0 @@
-use Rattle.xs_cut_laws.proofs.Leasts.{least_values_show}
-use Rattle.xs_cut_laws.proofs.least_values_show.Goals as goal
-
-pub returns : goal.returns
-returns c = least_values_show

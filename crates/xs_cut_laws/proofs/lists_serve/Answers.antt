@@ -1,6 +1,0 @@
-use Rattle.xs_cut_laws.proofs.HistoryTells.{history_serves}
-use Rattle.xs_cut_laws.proofs.Serves.{lists_serve as lemma}
-use Rattle.xs_cut_laws.proofs.lists_serve.Goals as goal
-
-pub returns : goal.returns
-returns c = record { lists = lemma; history = history_serves }

@@ -1,5 +1,0 @@
-use Rattle.xs_cut_laws.proofs.paths_show_new_sets.Goals as goal
-use Rattle.xs_cut_laws.proofs.Paths.{path_is_lawful, path_is_found}
-
-pub returns : goal.returns
-returns c = record { lawful = path_is_lawful; found = path_is_found }

@@ -1,6 +1,0 @@
--- no clause so far has all its literals among those needed
-use Rattle.xs_derivations.specs.Covering.{CoversNoneIn}
-use Rattle.xs_derivations.proofs.covering.covering_in.Given as goal
-
-abbrev pub invariant-loop-i : goal.invariant-loop-i
-invariant-loop-i l = CoversNoneIn l.checker.clauses l.needed l.start l.i

@@ -1,6 +1,0 @@
-use Rattle.xs_derivations.proofs.Highest.{begin}
-use Rattle.std.proofs.Common.{arith}
-use Rattle.xs_derivations.proofs.given.highest.Goals as goal
-
-pub loop-clause-init : goal.loop-clause-init
-loop-clause-init c = record { least = omega arith; rest = begin c.args.clauses.now }

@@ -1,6 +1,0 @@
-use Rattle.std.proofs.Common.{◌≡◌, ◌++◌, drop, map}
-use Rattle.xs_encode_laws.specs.Lists.{unlisted_clause}
-use Rattle.xs_encode.proofs.bad.unlisted.Given as goal
-
-abbrev pub invariant-loop-set : goal.invariant-loop-set
-invariant-loop-set l = l.all ++ map (unlisted_clause l.history) (drop l.set-index l.listed) ≡ l.fn.clauses ++ map (unlisted_clause l.history) l.listed

@@ -1,8 +1,0 @@
-use Rattle.std.proofs.Common.{◌∙◌, ◌++◌, ◌∷◌, [], sym, ap}
-use Rattle.xs_encode_laws.specs.Layout.{literals_from}
-use Rattle.xs_encode.proofs.NumberLaws.{literals_last}
-use Rattle.xs_encode.proofs.layout.literals_from.Goals as goal
-
-pub loop-i-preserved : goal.loop-i-preserved
-loop-i-preserved c =
-    c.in_ok-push.ensures.ok ∙ ap (λ w. w ++ c.new.result ∷ []) c.loop-i.invariant ∙ ap (λ l. literals_from c.loop-i.i c.args.place ++ l ∷ []) c.new.ensures ∙ sym (literals_last c.loop-i.i c.args.place)

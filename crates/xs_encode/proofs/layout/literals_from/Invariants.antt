@@ -1,6 +1,0 @@
-use Rattle.std.proofs.Common.{◌≡◌}
-use Rattle.xs_encode_laws.specs.Layout.{literals_from}
-use Rattle.xs_encode.proofs.layout.literals_from.Given as goal
-
-abbrev pub invariant-loop-i : goal.invariant-loop-i
-invariant-loop-i l = l.word ≡ literals_from l.i l.place

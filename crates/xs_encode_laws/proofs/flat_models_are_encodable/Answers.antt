@@ -1,5 +1,0 @@
-use Rattle.xs_encode_laws.proofs.FlatEncodable.{flat_models_encodable}
-use Rattle.xs_encode_laws.proofs.flat_models_are_encodable.Goals as goal
-
-pub returns : goal.returns
-returns c = flat_models_encodable

@@ -1,8 +1,0 @@
-use Rattle.xs_eval.proofs.StopLaws.{one_stop, reaching_does_not}
-use Rattle.xs_eval.proofs.laws.one_stop.Goals as goal
-
-pub returns-clause-one : goal.returns-clause-one
-returns-clause-one c = one_stop
-
-pub returns-clause-none : goal.returns-clause-none
-returns-clause-none c = reaching_does_not

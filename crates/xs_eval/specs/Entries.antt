@@ -1,8 +1,0 @@
--- The values of a model's variables and definitions at a moment, by their numbers.
-use Rattle.std.specs.Prelude.{List}
-use Rattle.xs_value.specs.declared.value.Value.{Value}
-
--- the entries of a table, by the numbers of variables and of definitions
-pub record Entries : Type 0 where
-  pub variables : List Value
-  pub definitions : List Value

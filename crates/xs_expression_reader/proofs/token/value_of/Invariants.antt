@@ -1,6 +1,0 @@
-use Rattle.std.proofs.Common.{◌≡◌, drop}
-use Rattle.xs_lexer.specs.Runs.{number_from}
-use Rattle.xs_expression_reader.proofs.token.value_of.Given as goal
-
-abbrev pub invariant-loop-digit : goal.invariant-loop-digit
-invariant-loop-digit l = number_from l.value (drop l.digit-index l.text) ≡ number_from 0 l.text

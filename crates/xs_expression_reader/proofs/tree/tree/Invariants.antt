@@ -1,8 +1,0 @@
-use Rattle.std.proofs.Common.{◌≡◌, [], drop}
-use Rattle.xs_expression_reader.specs.Build as machine
-use Rattle.xs_expression_reader.specs.PartViews.{parts_of}
-use Rattle.xs_expression_reader.specs.BuildViews.{build_view}
-use Rattle.xs_expression_reader.proofs.tree.tree.Given as goal
-
-abbrev pub invariant-loop-token : goal.invariant-loop-token
-invariant-loop-token l = machine.build (build_view l.build (parts_of l.parts.items)) (drop l.token-index l.tokens) ≡ machine.build (machine.ready []) l.tokens

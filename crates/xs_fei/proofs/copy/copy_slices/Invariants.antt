@@ -1,6 +1,0 @@
-use Rattle.std.proofs.Common.{◌≡◌, map, take}
-use Rattle.xs_fei.specs.Instructions.{slice_tree}
-use Rattle.xs_fei.proofs.copy.copy_slices.Given as goal
-
-abbrev pub invariant-loop-slice : goal.invariant-loop-slice
-invariant-loop-slice l = map slice_tree l.made ≡ map slice_tree (take l.slice-index l.slices)

@@ -1,8 +1,0 @@
--- The type with which a kind of name is declared.
-use Rattle.xs_tree.specs.ProgramTree.{DeclaredTree, boolean}
-use Rattle.xs_tree.specs.Scope.{Kind, a_variable}
-
--- the type of a variable; every other kind counts as a boolean
-abbrev pub type_of_kind : Kind → DeclaredTree
-type_of_kind (a_variable role type) = type
-type_of_kind _ = boolean

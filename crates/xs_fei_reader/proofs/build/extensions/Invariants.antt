@@ -1,9 +1,0 @@
-use Rattle.std.proofs.Common.{◌≡◌, ◌-◌, map}
-use Rattle.std.specs.Prelude.{codes}
-use Rattle.xs_fei.specs.Instructions.{extension_tree}
-use Rattle.xs_expression_reader.specs.Reads.{each_at, with_front, has_word}
-use Rattle.xs_fei_reader.specs.Reads.{extensions_at, extension_at}
-use Rattle.xs_fei_reader.proofs.build.extensions.Given as goal
-
-abbrev pub invariant-loop-round : goal.invariant-loop-round
-invariant-loop-round l = extensions_at l.fn.cursor ≡ with_front (map extension_tree l.list) (each_at (has_word (codes "EXTENSION")) extension_at (l.most - l.round) l.cursor)

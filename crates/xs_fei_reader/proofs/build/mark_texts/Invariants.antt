@@ -1,7 +1,0 @@
-use Rattle.std.proofs.Common.{◌≡◌, ◌-◌}
-use Rattle.xs_expression_reader.specs.Reads.{each_at, with_front, text_at}
-use Rattle.xs_fei_reader.specs.Reads.{in_braces, texts_at}
-use Rattle.xs_fei_reader.proofs.build.mark_texts.Given as goal
-
-abbrev pub invariant-loop-round : goal.invariant-loop-round
-invariant-loop-round l = texts_at l.fn.cursor ≡ with_front l.list (each_at in_braces text_at (l.most - l.round) l.cursor)

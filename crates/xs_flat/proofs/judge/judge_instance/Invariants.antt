@@ -1,7 +1,0 @@
--- The items so far are kept, and the table has their times.
-use Rattle.xs_scope.specs.SceneTree.{program_of}
-use Rattle.xs_flat.proofs.JudgeInstances.{InstanceSoFar}
-use Rattle.xs_flat.proofs.judge.judge_instance.Given as goal
-
-abbrev pub invariant-loop-place : goal.invariant-loop-place
-invariant-loop-place l = InstanceSoFar (program_of l.scene) l.spot l.place l.assigned.entries

@@ -1,8 +1,0 @@
--- The table with the times of one text.
-use Rattle.std.proofs.Common.{ap, ◌∙◌}
-use Rattle.xs_flat.specs.Assigned.{times_of}
-use Rattle.xs_flat.proofs.JudgeTimes.{inserted}
-use Rattle.xs_flat.proofs.judge.note_times.Goals as goal
-
-pub returns : goal.returns
-returns c x = ap (λ es. times_of es x) c.in_ok-insert.ensures.entries ∙ inserted c.args.assigned.now.entries c.args.target c.args.times x

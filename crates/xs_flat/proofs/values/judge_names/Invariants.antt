@@ -1,8 +1,0 @@
--- The names so far are judged.
-use Rattle.std.proofs.Common.{take}
-use Rattle.xs_scope.specs.SceneTree.{program_of}
-use Rattle.xs_flat.specs.Verdicts.{AreJudged}
-use Rattle.xs_flat.proofs.values.judge_names.Given as goal
-
-abbrev pub invariant-loop-each : goal.invariant-loop-each
-invariant-loop-each l = AreJudged (program_of l.scene) l.spot (take l.each-index l.names) l.next l.nested_next l.judged

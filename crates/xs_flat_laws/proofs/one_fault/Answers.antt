@@ -1,8 +1,0 @@
-use Rattle.xs_flat_laws.proofs.one_fault.Goals as goal
-use Rattle.xs_flat_laws.proofs.Laws.{one_fault, accepted_unbroken}
-
-pub returns-clause-one : goal.returns-clause-one
-returns-clause-one c = one_fault
-
-pub returns-clause-none : goal.returns-clause-none
-returns-clause-none c = accepted_unbroken

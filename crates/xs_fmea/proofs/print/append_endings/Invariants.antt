@@ -1,7 +1,0 @@
-use Rattle.std.proofs.Common.{◌≡◌, ◌++◌, ◌+◌, drop, map}
-use Rattle.xs_fmea.specs.Columns.{ending_lines}
-use Rattle.xs_text_laws.specs.Analysis.{told_ending}
-use Rattle.xs_fmea.proofs.print.append_endings.Given as goal
-
-abbrev pub invariant-loop-i : goal.invariant-loop-i
-invariant-loop-i l = l.text ++ ending_lines l.bits (l.i + 1) (map told_ending (drop l.i l.endings)) ≡ l.initial.text ++ ending_lines l.bits 1 (map told_ending l.endings)

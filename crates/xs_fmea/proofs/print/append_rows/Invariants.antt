@@ -1,6 +1,0 @@
-use Rattle.std.proofs.Common.{◌≡◌, ◌++◌}
-use Rattle.xs_fmea.proofs.TextLaws.{lines_left}
-use Rattle.xs_fmea.proofs.print.append_rows.Given as goal
-
-abbrev pub invariant-loop-i : goal.invariant-loop-i
-invariant-loop-i l = l.text ++ lines_left l.rows l.entries l.i ≡ l.initial.text ++ lines_left l.rows l.entries 0

@@ -1,6 +1,0 @@
-use Rattle.std.proofs.Common.{◌≡◌, take}
-use Rattle.xs_frames.specs.Apart.{apart_list}
-use Rattle.xs_frames.proofs.apart.list_apart.Given as goal
-
-abbrev pub invariant-loop-clause : goal.invariant-loop-clause
-invariant-loop-clause l = l.apart ≡ apart_list l.places (take l.clause-index l.list)

@@ -1,6 +1,0 @@
-use Rattle.std.proofs.Common.{◌≡◌, map, take, ◌++◌}
-use Rattle.xs_frames.specs.Bits.{moved_back}
-use Rattle.xs_frames.proofs.bits.join.Given as goal
-
-abbrev pub invariant-loop-lit : goal.invariant-loop-lit
-invariant-loop-lit l = l.both.items ≡ l.clause ++ map (moved_back l.bits) (take l.lit-index l.lit-items)

@@ -1,5 +1,0 @@
-use Rattle.xs_frames.specs.Guarding.{HasWidened}
-use Rattle.xs_frames.proofs.guarded.Guarded.widen.Given as goal
-
-abbrev pub invariant-loop : goal.invariant-loop
-invariant-loop g l = HasWidened l.initial.self l.self l.counter

@@ -1,7 +1,0 @@
-use Rattle.std.proofs.Common.{◌≡◌, take}
-use Rattle.xs_frames.specs.Bits.{values_of}
-use Rattle.xs_frames.specs.Minimal.{given_up}
-use Rattle.xs_frames.proofs.shrink.assumed.Given as goal
-
-abbrev pub invariant-loop-lit : goal.invariant-loop-lit
-invariant-loop-lit l = l.all.items ≡ given_up (values_of l.values) (take l.lit-index l.history)

@@ -1,6 +1,0 @@
-use Rattle.std.proofs.Common.{arith}
-use Rattle.xs_lits.proofs.DeriveStoreLemmas.{spans_push}
-use Rattle.xs_lits.proofs.clause_store.ClauseStore.push_reserved.Goals as goal
-
-pub returns-clause-clauses : goal.returns-clause-clauses
-returns-clause-clauses c = grind (arith, spans_push)

@@ -1,7 +1,0 @@
-use Rattle.std.proofs.Common.{All, take}
-use Rattle.xs_lits.specs.Hints.{LacksOpposite}
-use Rattle.xs_lits.proofs.hints.has_no_opposites.Given as goal
-
--- no literal so far has its opposite in the clause
-abbrev pub invariant-loop-lit : goal.invariant-loop-lit
-invariant-loop-lit l = All (LacksOpposite l.lits) (take l.lit-index l.lits)

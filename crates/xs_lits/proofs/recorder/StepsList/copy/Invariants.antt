@@ -1,6 +1,0 @@
-use Rattle.std.proofs.Common.{◌≡◌, take}
-use Rattle.xs_lits.proofs.recorder.StepsList.copy.Given as goal
-
--- the steps so far are copied
-abbrev pub invariant-loop-step : goal.invariant-loop-step
-invariant-loop-step l = l.list ≡ take l.step-index l.step-items

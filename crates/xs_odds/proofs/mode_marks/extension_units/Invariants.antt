@@ -1,7 +1,0 @@
-use Rattle.std.proofs.Common.{◌≡◌, map, drop}
-use Rattle.xs_fei.specs.Instructions.{extension_tree}
-use Rattle.xs_odds.specs.FirstMark.{extension_units}
-use Rattle.xs_odds.proofs.mode_marks.extension_units.Given as goal
-
-abbrev pub invariant-loop-extension : goal.invariant-loop-extension
-invariant-loop-extension l = extension_units l.slice l.mode (map extension_tree (drop l.extension-index l.extensions)) ≡ extension_units l.slice l.mode (map extension_tree l.extensions)

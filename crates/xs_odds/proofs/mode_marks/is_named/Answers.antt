@@ -1,5 +1,0 @@
-use Rattle.xs_fei.proofs.AllowedLaws.{same_text_test}
-use Rattle.xs_odds.proofs.mode_marks.is_named.Goals as goal
-
-pub returns : goal.returns
-returns c = same_text_test c.is_same.result c.args.name.now c.args.other.now c.is_same.ensures

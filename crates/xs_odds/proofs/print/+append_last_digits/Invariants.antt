@@ -1,4 +1,0 @@
-use Rattle.xs_odds.proofs.print.+append_last_digits.Given as goal
-
-abbrev pub decreases-append_last_digits : goal.decreases-append_last_digits
-decreases-append_last_digits l = l.count

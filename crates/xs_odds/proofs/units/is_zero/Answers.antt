@@ -1,6 +1,0 @@
-use Rattle.std.specs.Prelude.{codes}
-use Rattle.xs_fei.proofs.AllowedLaws.{same_text_test}
-use Rattle.xs_odds.proofs.units.is_zero.Goals as goal
-
-pub returns : goal.returns
-returns c = same_text_test c.is_equal.result c.args.text.now (codes "0") c.is_equal.ensures

@@ -1,9 +1,0 @@
-use Rattle.std.proofs.Common.{◌≡◌, ◌-◌, map}
-use Rattle.xs_tree.specs.ProgramTree.{decl_tree}
-use Rattle.xs_expression_reader.specs.Marks.{a_name}
-use Rattle.xs_expression_reader.specs.Reads.{has_next, each_at, with_front}
-use Rattle.xs_parse.specs.ProgramParts.{decl_at, declared_at, decls_at}
-use Rattle.xs_parse.proofs.sections.decls.Given as goal
-
-abbrev pub invariant-loop-round : goal.invariant-loop-round
-invariant-loop-round l = decls_at declared_at l.fn.cursor ≡ with_front (map decl_tree l.list) (each_at (has_next a_name) (decl_at declared_at) (l.most - l.round) l.cursor)

@@ -1,8 +1,0 @@
-use Rattle.std.proofs.Common.{◌≡◌, ◌-◌}
-use Rattle.xs_expression_reader.specs.Marks.{s_dot}
-use Rattle.xs_expression_reader.specs.Reads.{has_next, each_at, with_front}
-use Rattle.xs_parse.specs.ProgramParts.{dotted_at, next_name}
-use Rattle.xs_parse.proofs.sections.dotted.Given as goal
-
-abbrev pub invariant-loop-round : goal.invariant-loop-round
-invariant-loop-round l = dotted_at l.fn.cursor ≡ with_front l.parts (each_at (has_next s_dot) next_name (l.most - l.round) l.cursor)

@@ -1,8 +1,0 @@
-use Rattle.std.proofs.Common.{◌≡◌, ◌-◌}
-use Rattle.xs_expression_reader.specs.Marks.{s_comma}
-use Rattle.xs_expression_reader.specs.Reads.{has_next, each_at, with_front}
-use Rattle.xs_parse.specs.ProgramParts.{members_at, next_member}
-use Rattle.xs_parse.proofs.sections.members.Given as goal
-
-abbrev pub invariant-loop-round : goal.invariant-loop-round
-invariant-loop-round l = members_at l.fn.cursor ≡ with_front l.members (each_at (has_next s_comma) next_member (l.most - l.round) l.cursor)

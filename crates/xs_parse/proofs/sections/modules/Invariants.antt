@@ -1,9 +1,0 @@
-use Rattle.std.proofs.Common.{◌≡◌, ◌-◌, map}
-use Rattle.xs_tree.specs.ProgramTree.{module_tree}
-use Rattle.xs_expression_reader.specs.Marks.{w_module}
-use Rattle.xs_expression_reader.specs.Reads.{has_next, each_at, with_front}
-use Rattle.xs_parse.specs.ProgramParts.{next_module, program_at}
-use Rattle.xs_parse.proofs.sections.modules.Given as goal
-
-abbrev pub invariant-loop-round : goal.invariant-loop-round
-invariant-loop-round l = program_at l.fn.cursor ≡ with_front (map module_tree l.list) (each_at (has_next w_module) next_module (l.most - l.round) l.cursor)

@@ -1,8 +1,0 @@
-use Rattle.std.proofs.Common.{◌≡◌, ◌-◌}
-use Rattle.xs_expression_reader.specs.Marks.{s_comma}
-use Rattle.xs_expression_reader.specs.Reads.{has_next, each_at, with_front}
-use Rattle.xs_parse.specs.ProgramParts.{names_at, next_name}
-use Rattle.xs_parse.proofs.sections.names.Given as goal
-
-abbrev pub invariant-loop-round : goal.invariant-loop-round
-invariant-loop-round l = names_at l.fn.cursor ≡ with_front l.names (each_at (has_next s_comma) next_name (l.most - l.round) l.cursor)

@@ -1,9 +1,0 @@
-use Rattle.std.proofs.Common.{◌≡◌, ◌+◌, ◌≤◌, length}
-use Rattle.xs_parse.specs.ProgramParts.{past_skipped}
-use Rattle.xs_parse.proofs.sections.pass_over.Given as goal
-
-abbrev pub invariant-loop-round : goal.invariant-loop-round
-invariant-loop-round l = record {
-  same : past_skipped l.cursor ≡ past_skipped l.fn.cursor;
-  room : length l.cursor + l.round ≤ l.most;
-}

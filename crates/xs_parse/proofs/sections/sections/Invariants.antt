@@ -1,8 +1,0 @@
-use Rattle.std.proofs.Common.{◌≡◌, ◌-◌, length, map}
-use Rattle.xs_tree.specs.ProgramTree.{section_tree}
-use Rattle.xs_expression_reader.specs.Reads.{with_front}
-use Rattle.xs_parse.specs.ProgramParts.{sections_at}
-use Rattle.xs_parse.proofs.sections.sections.Given as goal
-
-abbrev pub invariant-loop-round : goal.invariant-loop-round
-invariant-loop-round l = sections_at (length l.fn.cursor) l.fn.cursor ≡ with_front (map section_tree l.sections) (sections_at (l.most - l.round) l.cursor)

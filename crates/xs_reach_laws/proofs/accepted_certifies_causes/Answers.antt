@@ -1,5 +1,0 @@
-use Rattle.xs_reach_laws.proofs.Shown.{accepted_certifies}
-use Rattle.xs_reach_laws.proofs.accepted_certifies_causes.Goals as goal
-
-pub returns : goal.returns
-returns c = accepted_certifies

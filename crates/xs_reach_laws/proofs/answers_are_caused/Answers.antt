@@ -1,5 +1,0 @@
-use Rattle.xs_reach_laws.proofs.Answered.{answers_caused}
-use Rattle.xs_reach_laws.proofs.answers_are_caused.Goals as goal
-
-pub returns : goal.returns
-returns c = answers_caused

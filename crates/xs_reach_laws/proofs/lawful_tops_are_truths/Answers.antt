@@ -1,5 +1,0 @@
-use Rattle.xs_reach_laws.proofs.Truths.{lawful_truths}
-use Rattle.xs_reach_laws.proofs.lawful_tops_are_truths.Goals as goal
-
-pub returns : goal.returns
-returns c = lawful_truths

@@ -1,9 +1,0 @@
-use Rattle.std.proofs.Common.{◌≡◌, ◌++◌}
-use Rattle.xs_tree.specs.ModelTree.{model_tree}
-use Rattle.xs_text_laws.specs.TraceText.{trace_text}
-use Rattle.xs_tree.specs.Told.{told_trace}
-use Rattle.xs_report.proofs.TextLaws.{moments_from}
-use Rattle.xs_report.proofs.traces.print_moments.Given as goal
-
-abbrev pub invariant-loop-i : goal.invariant-loop-i
-invariant-loop-i l = l.text ++ moments_from (model_tree l.m) l.m.symbols l.trace l.i ≡ trace_text (model_tree l.m) (told_trace l.m.symbols l.trace)

@@ -1,8 +1,0 @@
--- The first `main` of what is left is the first of all.
-use Rattle.std.proofs.Common.{◌≡◌, drop, map, codes}
-use Rattle.xs_tree.specs.ProgramTree.{module_tree}
-use Rattle.xs_scope.specs.SceneTree.{module_from}
-use Rattle.xs_scope.proofs.modules.main_place.Given as goal
-
-abbrev pub invariant-loop-k : goal.invariant-loop-k
-invariant-loop-k l = module_from l.k (map module_tree (drop l.k l.modules)) (codes "main") ≡ module_from 0 (map module_tree l.modules) (codes "main")

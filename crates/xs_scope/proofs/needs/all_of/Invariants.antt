@@ -1,7 +1,0 @@
--- The numbers so far.
-use Rattle.std.proofs.Common.{◌≡◌}
-use Rattle.xs_scope.specs.Laying.{upto}
-use Rattle.xs_scope.proofs.needs.all_of.Given as goal
-
-abbrev pub invariant-loop-definition : goal.invariant-loop-definition
-invariant-loop-definition l = l.all.items ≡ upto l.definition

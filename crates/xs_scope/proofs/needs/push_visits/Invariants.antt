@@ -1,7 +1,0 @@
--- What is left, in front of the stack so far, is all in front of the first stack.
-use Rattle.std.proofs.Common.{◌≡◌, ◌++◌, reverse}
-use Rattle.xs_scope.specs.Laying.{visits}
-use Rattle.xs_scope.proofs.needs.push_visits.Given as goal
-
-abbrev pub invariant-loop-definition : goal.invariant-loop-definition
-invariant-loop-definition l = visits l.definition-iterator.iter.rest.now ++ reverse l.tasks.items ≡ visits l.definitions ++ reverse l.initial.tasks.items

@@ -1,8 +1,0 @@
--- An inserted symbol stands last, unless it stood before.
-use Rattle.std.proofs.Common.{rules, ap, ◌∙◌}
-use Rattle.xs_tree.specs.BorrowedTexts.{texts}
-use Rattle.xs_tree.proofs.BorrowedTexts.{inserted}
-use Rattle.xs_scope.proofs.symbols.add_name.Goals as goal
-
-pub returns : goal.returns
-returns c = ap texts (search rules) ∙ inserted c.args.symbols.now.keys c.text.result ∙ search rules

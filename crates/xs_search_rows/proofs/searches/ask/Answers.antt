@@ -1,4 +1,0 @@
-use Rattle.xs_search_rows.proofs.searches.ask.Goals as goal
-
-pub ask-requires-clause-apart : goal.ask-requires-clause-apart
-ask-requires-clause-apart g c = c.has_no_opposites.ensures.0 c.if-not-has_no_opposites.false

@@ -1,8 +1,0 @@
-use Rattle.std.proofs.Common.{◌≡◌, drop}
-use Rattle.xs_shown.specs.Changes.{is_within}
-use Rattle.xs_shown.specs.Reports.{names_in}
-use Rattle.xs_shown.proofs.changes.is_within.Given as goal
-
-abbrev pub invariant-loop-number : goal.invariant-loop-number
-invariant-loop-number l =
-    is_within (names_in l.others l.other) (names_in l.faults (drop l.number-index l.set)) ≡ is_within (names_in l.others l.other) (names_in l.faults l.set)

@@ -1,7 +1,0 @@
-use Rattle.std.proofs.Common.{◌≡◌, ◌++◌, drop}
-use Rattle.xs_shown.specs.JsonText.{more_strings}
-use Rattle.xs_shown.specs.Reports.{names_in}
-use Rattle.xs_shown.proofs.json_sets.append_more_names.Given as goal
-
-abbrev pub invariant-loop-number : goal.invariant-loop-number
-invariant-loop-number l = l.text ++ more_strings (names_in l.faults (drop l.number-index l.set)) ≡ l.initial.text ++ more_strings (names_in l.faults l.set)

@@ -1,6 +1,0 @@
-use Rattle.std.proofs.Common.{◌≡◌, ◌++◌, drop}
-use Rattle.xs_shown.specs.JsonText.{more_numbers}
-use Rattle.xs_shown.proofs.json_sets.append_more_numbers.Given as goal
-
-abbrev pub invariant-loop-number : goal.invariant-loop-number
-invariant-loop-number l = l.text ++ more_numbers (drop l.number-index l.list) ≡ l.initial.text ++ more_numbers l.list

@@ -1,6 +1,0 @@
-use Rattle.std.proofs.Common.{◌≡◌, ◌++◌, ◌+◌, drop, map}
-use Rattle.xs_shown.specs.MefText.{set_gates}
-use Rattle.xs_shown.proofs.open_psa.append_set_gates.Given as goal
-
-abbrev pub invariant-loop-i : goal.invariant-loop-i
-invariant-loop-i l = l.text ++ set_gates (l.i + 1) (map (λ set. set.items) (drop l.i l.sets)) ≡ l.initial.text ++ set_gates 1 (map (λ set. set.items) l.sets)

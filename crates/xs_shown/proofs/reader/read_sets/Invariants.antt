@@ -1,6 +1,0 @@
-use Rattle.std.proofs.Common.{All}
-use Rattle.xs_shown.specs.Reports.{IsListed}
-use Rattle.xs_shown.proofs.reader.read_sets.Given as goal
-
-abbrev pub invariant-loop : goal.invariant-loop
-invariant-loop l = All (λ set. All (IsListed l.many) set.items) l.sets.items

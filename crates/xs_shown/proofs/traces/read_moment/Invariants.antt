@@ -1,9 +1,0 @@
-use Rattle.std.proofs.Common.{◌≤◌, length, All}
-use Rattle.xs_shown.specs.Reports.{HasWords}
-use Rattle.xs_shown.proofs.traces.read_moment.Given as goal
-
-abbrev pub invariant-loop-line : goal.invariant-loop-line
-invariant-loop-line l = (length l.rest ≤ length l.bytes) × All HasWords l.lines.items
-
-abbrev pub decreases-loop-line : goal.decreases-loop-line
-decreases-loop-line l = length l.rest

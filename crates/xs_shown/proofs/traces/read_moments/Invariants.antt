@@ -1,9 +1,0 @@
-use Rattle.std.proofs.Common.{length, All}
-use Rattle.xs_shown.specs.Reports.{IsMomentOfWords}
-use Rattle.xs_shown.proofs.traces.read_moments.Given as goal
-
-abbrev pub invariant-loop-after : goal.invariant-loop-after
-invariant-loop-after l = All IsMomentOfWords l.moments.items
-
-abbrev pub decreases-loop-after : goal.decreases-loop-after
-decreases-loop-after l = length l.rest

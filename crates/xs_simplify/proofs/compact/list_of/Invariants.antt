@@ -1,6 +1,0 @@
-use Rattle.std.proofs.Common.{◌≡◌, take}
-use Rattle.xs_simplify.specs.Compacting.{compacted_list}
-use Rattle.xs_simplify.proofs.compact.list_of.Given as goal
-
-abbrev pub invariant-loop-clause : goal.invariant-loop-clause
-invariant-loop-clause l = l.new ≡ compacted_list l.places l.gaps (take l.clause-index l.list)

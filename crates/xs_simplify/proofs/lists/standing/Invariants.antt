@@ -1,6 +1,0 @@
-use Rattle.std.proofs.Common.{◌≡◌, take}
-use Rattle.xs_simplify.specs.Slots.{standing}
-use Rattle.xs_simplify.proofs.lists.standing.Given as goal
-
-abbrev pub invariant-loop-slot : goal.invariant-loop-slot
-invariant-loop-slot l = l.list ≡ standing (take l.slot-index l.slots)

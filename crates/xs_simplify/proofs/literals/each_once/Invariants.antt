@@ -1,6 +1,0 @@
-use Rattle.std.proofs.Common.{◌≡◌, take}
-use Rattle.xs_simplify.specs.Resolution.{each_once}
-use Rattle.xs_simplify.proofs.literals.each_once.Given as goal
-
-abbrev pub invariant-loop-lit : goal.invariant-loop-lit
-invariant-loop-lit l = l.out.items ≡ each_once (take l.lit-index l.lits)

@@ -1,5 +1,0 @@
-use Rattle.xs_simplify.specs.Based.{Becomes}
-use Rattle.xs_simplify.proofs.passes.eliminate_all.Given as goal
-
-abbrev pub invariant-loop-turn : goal.invariant-loop-turn
-invariant-loop-turn l = Becomes l.initial.base l.base

@@ -1,5 +1,0 @@
-use Rattle.xs_simplify.specs.Based.{Becomes}
-use Rattle.xs_simplify.proofs.passes.eliminate_unread.Given as goal
-
-abbrev pub invariant-loop-var : goal.invariant-loop-var
-invariant-loop-var l = Becomes l.initial.base l.base

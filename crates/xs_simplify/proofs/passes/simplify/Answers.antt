@@ -1,5 +1,0 @@
-use Rattle.xs_simplify.proofs.BaseLaws.{becomes_all}
-use Rattle.xs_simplify.proofs.passes.simplify.Goals as goal
-
-pub loop-round-preserved : goal.loop-round-preserved
-loop-round-preserved c = becomes_all c.args.base.now c.loop-round.base c.one_round.new.base c.loop-round.invariant c.in_ok-changed.ensures

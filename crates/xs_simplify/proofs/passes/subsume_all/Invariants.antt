@@ -1,5 +1,0 @@
-use Rattle.xs_simplify.specs.Based.{Becomes}
-use Rattle.xs_simplify.proofs.passes.subsume_all.Given as goal
-
-abbrev pub invariant-loop-i : goal.invariant-loop-i
-invariant-loop-i l = Becomes l.initial.base l.base

@@ -1,6 +1,0 @@
-use Rattle.std.proofs.Common.{◌≡◌, take}
-use Rattle.xs_simplify.specs.Elimination.{resolvents}
-use Rattle.xs_simplify.proofs.resolving.resolve_all.Given as goal
-
-abbrev pub invariant-loop-clause : goal.invariant-loop-clause
-invariant-loop-clause l = l.list ≡ resolvents l.lit (take l.clause-index l.with) l.against

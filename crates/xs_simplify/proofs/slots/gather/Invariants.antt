@@ -1,6 +1,0 @@
-use Rattle.std.proofs.Common.{◌≡◌, take}
-use Rattle.xs_simplify.specs.Changes.{gathered}
-use Rattle.xs_simplify.proofs.slots.gather.Given as goal
-
-abbrev pub invariant-loop-i : goal.invariant-loop-i
-invariant-loop-i l = l.list ≡ gathered l.lit l.slots (take l.i-index l.at)

@@ -1,5 +1,0 @@
-use Rattle.xs_text_laws.proofs.Printed.{printed_gives_alone}
-use Rattle.xs_text_laws.proofs.printed_gives_alone.Goals as goal
-
-pub returns : goal.returns
-returns c = printed_gives_alone

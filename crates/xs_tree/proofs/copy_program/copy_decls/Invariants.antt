@@ -1,6 +1,0 @@
-use Rattle.std.proofs.Common.{◌≡◌, map, take}
-use Rattle.xs_tree.specs.ProgramTree.{decl_tree}
-use Rattle.xs_tree.proofs.copy_program.copy_decls.Given as goal
-
-abbrev pub invariant-loop-decl : goal.invariant-loop-decl
-invariant-loop-decl l = map decl_tree l.made ≡ map decl_tree (take l.decl-index l.decls)

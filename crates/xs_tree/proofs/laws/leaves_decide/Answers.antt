@@ -1,9 +1,0 @@
-use Rattle.xs_tree.proofs.Agreement.{evaluate_agrees}
-use Rattle.xs_tree.proofs.Substituted.{evaluate_map}
-use Rattle.xs_tree.proofs.laws.leaves_decide.Goals as goal
-
-pub returns-clause-agreeing : goal.returns-clause-agreeing
-returns-clause-agreeing c = evaluate_agrees
-
-pub returns-clause-mapped : goal.returns-clause-mapped
-returns-clause-mapped c = λ f t now next. evaluate_map f t now next

@@ -1,5 +1,0 @@
-use Rattle.xs_tree.proofs.OneTree.{one_expression}
-use Rattle.xs_tree.proofs.laws.one_tree.Goals as goal
-
-pub returns : goal.returns
-returns c = λ ts a b p q. one_expression p q

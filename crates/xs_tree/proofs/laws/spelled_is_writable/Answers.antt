@@ -1,5 +1,0 @@
-use Rattle.xs_tree.proofs.Spelled.{expression_writable, program_writable}
-use Rattle.xs_tree.proofs.laws.spelled_is_writable.Goals as goal
-
-pub returns : goal.returns
-returns c = (expression_writable, program_writable)

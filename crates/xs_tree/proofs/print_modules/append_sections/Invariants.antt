@@ -1,8 +1,0 @@
-use Rattle.std.proofs.Common.{◌≡◌, ◌++◌, drop, map}
-use Rattle.xs_tree.specs.ProgramTree.{section_tree}
-use Rattle.xs_tree.specs.Text.{all_of, section_text}
-use Rattle.xs_tree.proofs.print_modules.append_sections.Given as goal
-
-abbrev pub invariant-loop-section : goal.invariant-loop-section
-invariant-loop-section l =
-    l.text ++ all_of (map section_text (map section_tree (drop l.section-index l.sections))) ≡ l.initial.text ++ all_of (map section_text (map section_tree l.sections))

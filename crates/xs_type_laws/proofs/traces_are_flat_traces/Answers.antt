@@ -1,8 +1,0 @@
-use Rattle.xs_type_laws.proofs.TraceLaws.{domains_are, traces_are_those}
-use Rattle.xs_type_laws.proofs.traces_are_flat_traces.Goals as goal
-
-pub returns-clause-domains : goal.returns-clause-domains
-returns-clause-domains c = domains_are
-
-pub returns-clause-traces : goal.returns-clause-traces
-returns-clause-traces c = traces_are_those

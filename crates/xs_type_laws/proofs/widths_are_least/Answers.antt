@@ -1,5 +1,0 @@
-use Rattle.xs_type_laws.proofs.Widths.{widths_least}
-use Rattle.xs_type_laws.proofs.widths_are_least.Goals as goal
-
-pub returns : goal.returns
-returns c = widths_least

@@ -1,9 +1,0 @@
-use Rattle.std.proofs.Common.{◌≡◌, take}
-use Rattle.xs_type_laws.specs.FirstBreach.{first_of}
-use Rattle.xs_types.specs.Kept.{formula_breaches}
-use Rattle.xs_types.specs.Names.{name_kind}
-use Rattle.xs_types.specs.Sites.{told_first_site}
-use Rattle.xs_types.proofs.conditions.judge_formulas.Given as goal
-
-abbrev pub invariant-loop-formula : goal.invariant-loop-formula
-invariant-loop-formula l = l.first ≡ told_first_site (first_of (formula_breaches (name_kind l.sorts) (take l.formula-index l.formulas)))

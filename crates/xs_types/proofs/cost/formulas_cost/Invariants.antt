@@ -1,6 +1,0 @@
-use Rattle.std.proofs.Common.{◌≡◌, ◌+◌, ◌≤◌, min, drop}
-use Rattle.xs_types.specs.Sizes.{formulas_cost}
-use Rattle.xs_types.proofs.cost.formulas_cost.Given as goal
-
-abbrev pub invariant-loop-formula : goal.invariant-loop-formula
-invariant-loop-formula l = (min (l.total + formulas_cost (drop l.formula-index l.formulas)) 50001 ≡ min (formulas_cost l.formulas) 50001) × (l.total ≤ 50001)

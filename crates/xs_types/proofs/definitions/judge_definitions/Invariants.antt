@@ -1,8 +1,0 @@
-use Rattle.std.proofs.Common.{take}
-use Rattle.xs_tree.specs.ModelTree.{model_tree}
-use Rattle.xs_type_laws.specs.Models.{judged_variables}
-use Rattle.xs_types.specs.Parts.{AreDefined}
-use Rattle.xs_types.proofs.definitions.judge_definitions.Given as goal
-
-abbrev pub invariant-loop-definition : goal.invariant-loop-definition
-invariant-loop-definition l = AreDefined (judged_variables (model_tree l.m).variables) (take l.definition-index l.m.definitions) l.defined

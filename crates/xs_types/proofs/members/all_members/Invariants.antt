@@ -1,7 +1,0 @@
-use Rattle.std.proofs.Common.{◌≡◌, drop, None}
-use Rattle.xs_types.specs.Several.{add_all}
-use Rattle.xs_types.specs.Types.{members_judged}
-use Rattle.xs_types.proofs.members.all_members.Given as goal
-
-abbrev pub invariant-loop-member : goal.invariant-loop-member
-invariant-loop-member l = add_all l.values (members_judged (drop l.member-index l.members)) ≡ add_all None (members_judged l.members)

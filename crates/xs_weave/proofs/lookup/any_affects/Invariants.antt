@@ -1,7 +1,0 @@
-use Rattle.std.proofs.Common.{◌≡◌, drop, map}
-use Rattle.xs_fei.specs.Instructions.{extension_tree, slices_from, is_target}
-use Rattle.xs_weave.proofs.lookup.any_affects.Given as goal
-
-abbrev pub invariant-loop-extension : goal.invariant-loop-extension
-invariant-loop-extension l =
-    is_target (slices_from (map extension_tree (drop l.extension-index l.extensions)) l.owner) l.x ≡ is_target (slices_from (map extension_tree l.extensions) l.owner) l.x

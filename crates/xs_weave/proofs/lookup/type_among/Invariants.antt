@@ -1,9 +1,0 @@
-use Rattle.std.proofs.Common.{◌≡◌, drop, map}
-use Rattle.xs_tree.specs.ProgramTree.{section_tree}
-use Rattle.xs_tree.specs.Scope.{kind_in_sections}
-use Rattle.xs_fei.specs.KindTypes.{type_of_kind}
-use Rattle.xs_weave.proofs.lookup.type_among.Given as goal
-
-abbrev pub invariant-loop-section : goal.invariant-loop-section
-invariant-loop-section l =
-    type_of_kind (kind_in_sections (map section_tree (drop l.section-index l.sections)) l.x) ≡ type_of_kind (kind_in_sections (map section_tree l.sections) l.x)

@@ -1,7 +1,0 @@
-use Rattle.std.proofs.Common.{◌≡◌, drop, map}
-use Rattle.xs_tree.specs.ProgramTree.{decl_tree}
-use Rattle.xs_weave.specs.Lookups.{type_in_decls}
-use Rattle.xs_weave.proofs.lookup.type_of_decls.Given as goal
-
-abbrev pub invariant-loop-decl : goal.invariant-loop-decl
-invariant-loop-decl l = type_in_decls (map decl_tree (drop l.decl-index l.decls)) l.x ≡ type_in_decls (map decl_tree l.decls) l.x

@@ -1,9 +1,0 @@
-use Rattle.std.proofs.Common.{◌≡◌, map, take}
-use Rattle.xs_tree.specs.ProgramTree.{assignment_tree}
-use Rattle.xs_fei.specs.Instructions.{instruction_tree, is_affected}
-use Rattle.xs_weave.specs.Woven.{woven_assignment}
-use Rattle.xs_weave.proofs.rename.renamed_assignments.Given as goal
-
-abbrev pub invariant-loop-assignment : goal.invariant-loop-assignment
-invariant-loop-assignment l =
-    map assignment_tree l.made ≡ map (woven_assignment (is_affected (instruction_tree l.i) l.owner)) (map assignment_tree (take l.assignment-index l.assignments))

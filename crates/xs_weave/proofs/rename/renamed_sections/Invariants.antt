@@ -1,8 +1,0 @@
-use Rattle.std.proofs.Common.{◌≡◌, map, take}
-use Rattle.xs_tree.specs.ProgramTree.{section_tree}
-use Rattle.xs_fei.specs.Instructions.{instruction_tree, is_affected}
-use Rattle.xs_weave.specs.Woven.{woven_section}
-use Rattle.xs_weave.proofs.rename.renamed_sections.Given as goal
-
-abbrev pub invariant-loop-section : goal.invariant-loop-section
-invariant-loop-section l = map section_tree l.made ≡ map (woven_section (is_affected (instruction_tree l.i) l.owner)) (map section_tree (take l.section-index l.sections))

@@ -1,8 +1,0 @@
-use Rattle.std.proofs.Common.{◌≡◌, map, drop}
-use Rattle.xs_tree.specs.Written.{tree_of}
-use Rattle.xs_fei.specs.Instructions.{mode_tree}
-use Rattle.xs_weave.specs.Woven.{entries_from, entries}
-use Rattle.xs_weave.proofs.slices.entries.Given as goal
-
-abbrev pub invariant-loop-mode : goal.invariant-loop-mode
-invariant-loop-mode l = entries_from l.s.name (tree_of l.so_far) (map mode_tree (drop l.mode-index l.s.modes)) ≡ entries l.s.name (map mode_tree l.s.modes)

@@ -1,8 +1,0 @@
-use Rattle.std.proofs.Common.{◌≡◌, map, take}
-use Rattle.xs_tree.specs.ProgramTree.{module_tree}
-use Rattle.xs_fei.specs.Instructions.{instruction_tree}
-use Rattle.xs_weave.specs.Woven.{woven_tree}
-use Rattle.xs_weave.proofs.weave.woven_modules.Given as goal
-
-abbrev pub invariant-loop-owner : goal.invariant-loop-owner
-invariant-loop-owner l = map module_tree l.made ≡ map (woven_tree (instruction_tree l.i)) (map module_tree (take l.owner-index l.modules))

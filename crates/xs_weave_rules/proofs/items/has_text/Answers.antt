@@ -1,5 +1,0 @@
-use Rattle.xs_fei.proofs.AllowedLaws.{same_text_test}
-use Rattle.xs_weave_rules.proofs.items.has_text.Goals as goal
-
-pub returns : goal.returns
-returns c = same_text_test c.is_same.result c.args.x.now c.args.y.now c.is_same.ensures

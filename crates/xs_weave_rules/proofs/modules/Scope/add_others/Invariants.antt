@@ -1,8 +1,0 @@
-use Rattle.std.proofs.Common.{◌≡◌, map, drop}
-use Rattle.xs_tree.specs.ProgramTree.{decl_tree}
-use Rattle.xs_weave_rules.specs.Keyed.{with_entries}
-use Rattle.xs_weave_rules.specs.Locals.{other_entry, locals_in}
-use Rattle.xs_weave_rules.proofs.modules.Scope.add_others.Given as goal
-
-abbrev pub invariant-loop-decl : goal.invariant-loop-decl
-invariant-loop-decl l = with_entries (locals_in l.self) (map other_entry (map decl_tree (drop l.decl-index l.decls))) ≡ with_entries (locals_in l.initial.self) (map other_entry (map decl_tree l.decls))

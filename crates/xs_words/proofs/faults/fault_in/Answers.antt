@@ -1,7 +1,0 @@
-use Rattle.std.proofs.Common.{sym, ◌∙◌}
-use Rattle.xs_words.specs.Seen.{viewed}
-use Rattle.xs_words.proofs.StepLemmas.{few_read}
-use Rattle.xs_words.proofs.faults.fault_in.Goals as goal
-
-pub same_name-requires : goal.same_name-requires
-same_name-requires c = few_read viewed c.args.options.now c.args.words.now c.pair_fault-fault.result c.pair_fault-fault.ensures (sym c.is_some.ensures ∙ c.if-is_some.false) c.requires

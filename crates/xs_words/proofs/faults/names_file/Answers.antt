@@ -1,8 +1,0 @@
-use Rattle.std.proofs.Common.{ap, sym, ◌∙◌, map}
-use Rattle.xs_words.specs.Reading.{has_file}
-use Rattle.xs_words.specs.Seen.{viewed}
-use Rattle.xs_words.proofs.PairLemmas.{no_pair}
-use Rattle.xs_words.proofs.faults.names_file.Goals as goal
-
-pub returns : goal.returns
-returns c = ap (λ ps. has_file (map viewed c.args.options.now) ps c.args.name.now) (sym (no_pair c.loop-rest.rest.now c.in_default.len_below)) ∙ c.loop-rest.invariant

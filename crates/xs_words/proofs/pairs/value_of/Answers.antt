@@ -1,7 +1,0 @@
-use Rattle.std.proofs.Common.{ap, sym, ◌∙◌}
-use Rattle.xs_words.specs.Reading.{value_in}
-use Rattle.xs_words.proofs.PairLemmas.{no_pair}
-use Rattle.xs_words.proofs.pairs.value_of.Goals as goal
-
-pub returns : goal.returns
-returns c = ap (λ ps. value_in ps c.args.option.now) (sym (no_pair c.loop-rest.rest.now c.in_default.len_below)) ∙ c.loop-rest.invariant

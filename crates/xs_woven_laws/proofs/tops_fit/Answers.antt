@@ -1,5 +1,0 @@
-use Rattle.xs_woven_laws.proofs.Fits.{tops_fit}
-use Rattle.xs_woven_laws.proofs.tops_fit.Goals as goal
-
-pub returns : goal.returns
-returns c = tops_fit

@@ -1,5 +1,0 @@
-use Rattle.xs_woven_laws.proofs.woven_breaks_none.Goals as goal
-use Rattle.xs_woven_laws.proofs.WovenLaws.{woven_none}
-
-pub returns : goal.returns
-returns c = woven_none
