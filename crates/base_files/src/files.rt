@@ -3,8 +3,8 @@ ghost use Rattle.std.specs.Prelude.{◌≡◌, [], ◌++◌, IfOk, OnOk, OnErr};
 ghost use Rattle.std.specs.Option.{option_copied};
 ghost use Rattle.base_files.specs.Files.{file_of, content_of, place_of, with_file};
 
-use std::alloc::Global;
 use base_values::{ByteList, Items, OutOfMemory};
+use std::alloc::Global;
 
 /// A file under its name.
 #[derive(Drop)]

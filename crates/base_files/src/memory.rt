@@ -11,9 +11,9 @@ ghost use Rattle.base_files.specs.Desk.{Reads, ReadsFrom, AppendsPrefix, SaysPre
 use crate::fails::{CallCounts, kept_of, raise};
 use crate::files::{append_to_file, find_file, start_file};
 use crate::{CallKind, Desk, FailList, FileList, NamedFile, ReadStop, WriteStop};
+use base_values::ByteList;
 use std::alloc::Global;
 use std::marker::Model;
-use base_values::ByteList;
 
 /// A desk in memory, which tells its files and what was said. It fails exactly the calls that a
 /// [`Fail`](crate::Fail) of its list names, and raises its count of faults there alone.

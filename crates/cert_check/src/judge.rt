@@ -21,12 +21,12 @@ use crate::listed::judge_sets;
 use crate::parts::judge_parts;
 use crate::question::Question;
 use crate::sets::has_numbers;
-use std::alloc::Global;
+use base_values::OutOfMemory;
 use cert_text::Certificate;
 use smv_language::Expr;
 use smv_language::model::{FaultList, Flat};
 use smv_types::Typed;
-use base_values::OutOfMemory;
+use std::alloc::Global;
 
 /// Whether a certificate is accepted for a model, its faults and a top event, or the objection to it. `full`
 /// is `plain` with the history of the faults.

@@ -15,9 +15,9 @@ use crate::judged::Judged;
 use crate::question::Question;
 use crate::sets::set_rule;
 use crate::traces::trace_rule;
-use std::alloc::Global;
-use cert_text::{LineList, TextList};
 use base_values::{FaultSet, OutOfMemory, SetList};
+use cert_text::{LineList, TextList};
+use std::alloc::Global;
 
 /// Judges each set and its trace.
 pub(crate) fn judge_sets(alloc: Global, q: &Question<'_>) -> Result<Judged, OutOfMemory>

@@ -18,12 +18,12 @@ ghost use Rattle.cert_check.specs.Parts.{part_of, list_of, also_given, IsAtStart
 use crate::judged::Judged;
 use crate::question::{Part, Question};
 use crate::steps::judge_derivation;
-use std::alloc::Global;
+use base_values::OutOfMemory;
 use cert_derivations::{checker_of, moved, only_empty};
-use sat_encoding::{bad_clauses, first_gates, step_gates};
 use sat_clauses::checker::Checker;
 use sat_clauses::clause::{Clause, ClauseList};
-use base_values::OutOfMemory;
+use sat_encoding::{bad_clauses, first_gates, step_gates};
+use std::alloc::Global;
 
 /// Judges the three derivations, the first of which begins at this line.
 pub(crate) fn judge_parts(alloc: Global, q: &Question<'_>, line: u64) -> Result<Judged, OutOfMemory>

@@ -13,8 +13,8 @@ ghost use Rattle.cert_check.specs.Order.{is_after_in, AreInOrder};
 ghost use Rattle.cert_check.specs.Found.{FindsAt};
 
 use crate::question::Question;
-use cut_sets::{is_contained, is_rising, stands_before};
 use base_values::FaultSet;
+use cut_sets::{is_contained, is_rising, stands_before};
 
 /// Whether the numbers of bits and of faults are the model's, and the size is none above the latter.
 pub(crate) fn has_numbers(q: &Question<'_>) -> bool

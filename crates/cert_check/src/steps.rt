@@ -13,10 +13,10 @@ ghost use Rattle.cert_check.specs.Parts.{FindsSteps, part_of};
 
 use crate::judged::Judged;
 use crate::question::{Part, Question, steps_of};
+use base_values::OutOfMemory;
 use cert_derivations::{covers_all, take_step};
 use sat_clauses::checker::Checker;
 use sat_clauses::clause::Clause;
-use base_values::OutOfMemory;
 
 /// Judges the steps of a derivation, the first of which has this line, and then its end. The checker has the
 /// clauses that the derivation starts from.

@@ -16,12 +16,12 @@ ghost use Rattle.smv_language.specs.Told.{told_trace};
 
 use crate::question::Question;
 use crate::sets::are_faults;
-use std::alloc::Global;
+use base_values::{MomentList, OutOfMemory};
 use cert_text::LineList;
-use smv_evaluation::{Replayed, Table, has_failed, replay};
 use cut_report::{TraceFault, read_trace};
 use cut_sets::has_number;
-use base_values::{MomentList, OutOfMemory};
+use smv_evaluation::{Replayed, Table, has_failed, replay};
+use std::alloc::Global;
 
 /// The rule that is broken first at the text of a trace for a set.
 pub(crate) fn trace_rule(

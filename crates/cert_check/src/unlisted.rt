@@ -18,12 +18,12 @@ use crate::judge::judge_proof;
 use crate::judged::Judged;
 use crate::question::Question;
 use crate::sets::{has_numbers, set_rule};
-use std::alloc::Global;
+use base_values::{OutOfMemory, SetList};
 use cert_text::Certificate;
 use smv_language::Expr;
 use smv_language::model::{FaultList, Flat};
 use smv_types::Typed;
-use base_values::{OutOfMemory, SetList};
+use std::alloc::Global;
 
 /// The line of the first set of a certificate.
 const SET_LINE: u64 = 4;

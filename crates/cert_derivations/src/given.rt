@@ -3,11 +3,11 @@
 ghost use Rattle.std.specs.Prelude.{◌≡◌, ◌≤◌, ◌++◌, IfOk, OnOk};
 ghost use Rattle.cert_laws.specs.Accepted.{highest, highest_in};
 
-use std::alloc::Global;
+use base_values::OutOfMemory;
 use sat_clauses::checker::Checker;
 use sat_clauses::clause::Clause;
 use sat_clauses::lit::Lit;
-use base_values::OutOfMemory;
+use std::alloc::Global;
 
 /// The highest variable that a checker can have.
 const MOST_VARS: u64 = 4_611_686_018_427_387_903;

@@ -6,10 +6,10 @@
 ghost use Rattle.std.specs.Prelude.{◌≡◌, ◌+◌, ◌<◌, ◌≤◌, IfOk, All, [], ◌∷◌, map};
 ghost use Rattle.sat_clauses.specs.States.{moved_on};
 
-use std::alloc::Global;
+use base_values::{Items, OutOfMemory};
 use sat_clauses::clause::{Clause, ClauseList};
 use sat_clauses::lit::Lit;
-use base_values::{Items, OutOfMemory};
+use std::alloc::Global;
 
 /// The list of the clause without literals.
 pub fn only_empty(alloc: Global) -> Result<ClauseList, OutOfMemory>

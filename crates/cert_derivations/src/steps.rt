@@ -7,10 +7,10 @@ ghost use Rattle.sat_clauses.specs.Hints.{HasNoOpposites};
 ghost use Rattle.cert_derivations.specs.Steps.{FindsStep, fault_rule};
 
 use crate::marks::has_no_opposites;
+use base_values::OutOfMemory;
 use sat_clauses::checker::Checker;
 use sat_clauses::lit::{Lit, are_up_to};
 use sat_clauses::step::{Step, StepFault};
-use base_values::OutOfMemory;
 
 /// Takes a step, or tells the rule that it breaks first.
 pub fn take_step(checker: &mut Checker, step: &Step) -> Result<Option<u32>, OutOfMemory>

@@ -14,13 +14,13 @@ ghost use Rattle.verb_loading.specs.declared.status.Refusal.TheVariants as refus
 ghost use Rattle.verb_loading.specs.declared.status.Objection.TheVariants as objection;
 ghost use Rattle.verb_loading.specs.declared.input.Stop.TheVariants as stop;
 
-use std::alloc::Global;
-use cert_text::{CertFault, Certificate, read};
-use cert_check::spelled_are_checkable;
 use base_files::{Desk, DeskFault, read_whole};
+use base_values::{ByteList, OutOfMemory};
+use cert_check::spelled_are_checkable;
+use cert_text::{CertFault, Certificate, read};
+use std::alloc::Global;
 use verb_loading::input::Stop;
 use verb_loading::status::{InputFault, Objection, Part, Refusal};
-use base_values::{ByteList, OutOfMemory};
 
 /// The limit of the file of a certificate, in bytes.
 const CERT_LIMIT: u64 = 268_435_456;

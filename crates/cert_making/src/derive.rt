@@ -14,13 +14,13 @@ ghost use Rattle.cert_laws.specs.Derived.{asked};
 ghost use Rattle.cert_making.specs.Queries.{IsSoFar};
 ghost use Rattle.cert_making.specs.Deriving.{IsPartWay, HasPositive};
 
-use std::alloc::Global;
+use base_values::OutOfMemory;
 use sat_adviser::{News, Panel};
 use sat_clauses::clause::ClauseList;
 use sat_clauses::lit::Lit;
 use sat_clauses::recorder::{KeepAll, StepsList};
 use sat_solver::kept::Search;
-use base_values::OutOfMemory;
+use std::alloc::Global;
 
 // The first number that no variable of a search has.
 const END_OF_VARIABLES: u64 = 4611686018427387904;

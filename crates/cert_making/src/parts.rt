@@ -11,13 +11,13 @@ ghost use Rattle.cert_making.specs.Queries.{IsSoFar};
 ghost use Rattle.cert_making.specs.Deriving.{AreDerived};
 
 use crate::derive::derive;
-use std::alloc::Global;
+use base_values::OutOfMemory;
 use sat_adviser::Panel;
 use sat_clauses::System;
 use sat_clauses::clause::{Clause, ClauseList};
 use sat_clauses::lit::Lit;
 use sat_clauses::recorder::StepsList;
-use base_values::OutOfMemory;
+use std::alloc::Global;
 
 /// The derivations of a certificate.
 #[derive(Drop)]

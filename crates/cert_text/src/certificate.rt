@@ -5,9 +5,9 @@
 ghost use Rattle.std.specs.Prelude.{◌≡◌, IfOk};
 
 use crate::line_list::LineList;
+use base_values::{Items, OutOfMemory, SetList};
 use sat_clauses::clause::ClauseList;
 use sat_clauses::recorder::StepsList;
-use base_values::{Items, OutOfMemory, SetList};
 
 /// The texts of traces, each as its lines.
 pub type TextList = Items<LineList>;

@@ -15,11 +15,11 @@ ghost use Rattle.cert_text.specs.Words.{LacksNumber, IsNumberThen, LacksName, on
 
 use crate::numbers::{count, hint, literal, small};
 use crate::words::{after_word, next_word};
-use std::alloc::Global;
+use base_values::{FaultSet, Items, OutOfMemory};
 use sat_clauses::clause::Clause;
 use sat_clauses::lit::Lit;
 use sat_clauses::step::{HintList, Step};
-use base_values::{FaultSet, Items, OutOfMemory};
+use std::alloc::Global;
 
 /// The version of a text: 2 gives the size, and 1 has the number of faults for it.
 #[derive(Clone, Copy, Debug, PartialEq, Eq)]

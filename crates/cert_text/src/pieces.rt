@@ -7,11 +7,11 @@ ghost use Rattle.cut_text_laws.specs.Lines.{counted};
 ghost use Rattle.cert_laws.specs.CertificateText.{literal_text, set_line, clause_line, step_line};
 ghost use Rattle.cert_text.specs.Pieces.{after_spaces};
 
-use std::alloc::Global;
+use base_values::{ByteList, FaultSet, OutOfMemory};
 use sat_clauses::clause::Clause;
 use sat_clauses::lit::Lit;
 use sat_clauses::step::Step;
-use base_values::{ByteList, FaultSet, OutOfMemory};
+use std::alloc::Global;
 
 /// Appends the line of a word and a count.
 #[tactic(auto, using(crate::proofs::PieceLaws::piece_rules))]

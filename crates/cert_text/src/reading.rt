@@ -19,11 +19,11 @@ use crate::line_list::LineList;
 use crate::lines::{
     Numbers, Version, clause_in, count_in, numbers_in, set_in, step_in, version_in,
 };
-use std::alloc::Global;
+use base_values::{OutOfMemory, SetList};
 use sat_clauses::clause::ClauseList;
 use sat_clauses::recorder::StepsList;
 use sat_clauses::step::Step;
-use base_values::{OutOfMemory, SetList};
+use std::alloc::Global;
 
 /// The three derivations.
 #[derive(Clone, Copy, Debug, PartialEq, Eq)]

@@ -11,8 +11,8 @@ ghost use Rattle.cert_text.specs.declared.reading.Expect.TheVariants as expect;
 
 use crate::certificate::{CertFault, Certificate};
 use crate::reading::{Expect, Reading};
-use std::alloc::Global;
 use base_values::first_line;
+use std::alloc::Global;
 
 /// The certificate that a text spells, in version 1 or 2, or the line that is wrong first or missing.
 ///

@@ -12,10 +12,10 @@ ghost use Rattle.cert_text.specs.Seen.{seen};
 use crate::certificate::Certificate;
 use crate::line_list::LineList;
 use crate::pieces::{append_clause, append_counted, append_set, append_step};
-use std::alloc::Global;
+use base_values::{ByteList, FaultSet, OutOfMemory};
 use sat_clauses::clause::{Clause, ClauseList};
 use sat_clauses::recorder::StepsList;
-use base_values::{ByteList, FaultSet, OutOfMemory};
+use std::alloc::Global;
 
 /// The text of a certificate, in version 2.
 pub fn write(alloc: Global, c: &Certificate) -> Result<ByteList, OutOfMemory>

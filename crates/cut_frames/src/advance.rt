@@ -19,11 +19,11 @@ use crate::guarded::{Beside, Guarded};
 use crate::lasting::{Lasting, refill};
 use crate::levels::Levels;
 use crate::shown::{Seen, forget, is_broken};
+use base_values::OutOfMemory;
 use sat_adviser::Panel;
 use sat_clauses::System;
 use sat_clauses::clause::{Clause, ClauseList};
 use sat_solver::solve::Verdict;
-use base_values::OutOfMemory;
 
 /// Tells whether each step from a state of the frame makes the clause true. Where a step that was seen there leads to a state that breaks
 /// the clause nothing is asked, and the step that an answer shows is added.

@@ -8,11 +8,11 @@ ghost use Rattle.cut_frames.specs.Condition.{IsLow};
 ghost use Rattle.cut_frames.specs.Guarding.{MeetAlike};
 ghost use Rattle.cut_frames.specs.Apart.{apart_literal, apart_clause, apart_list, IsNear};
 
-use std::alloc::Global;
+use base_values::OutOfMemory;
 use sat_clauses::clause::{Clause, ClauseList};
 use sat_clauses::lit::Lit;
 use sat_simplify::simplified;
-use base_values::OutOfMemory;
+use std::alloc::Global;
 
 /// A literal with its variable apart from the places.
 fn literal_apart(places: u64, lit: Lit) -> Lit

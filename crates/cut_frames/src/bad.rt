@@ -8,10 +8,10 @@ ghost use Rattle.cut_frames.specs.Levels.{frames_of};
 
 use crate::guarded::Guarded;
 use crate::levels::Levels;
+use base_values::OutOfMemory;
 use sat_adviser::Panel;
 use sat_clauses::System;
 use sat_clauses::clause::{Clause, ClauseList};
-use base_values::OutOfMemory;
 
 /// Has the search ask about these bad states in the place of those before.
 pub fn take_bad(

@@ -10,12 +10,12 @@ ghost use Rattle.cut_frames.specs.Bits.{literals_from, read_from, joined, values
 ghost use Rattle.cut_frames.specs.Condition.{IsLow, IsFit};
 ghost use Rattle.cut_frames.specs.Path.{AreFree, AreTaken, AreKept, IsStateMoment, IsStepMoment};
 
-use std::alloc::Global;
+use base_values::{Items, OutOfMemory};
 use sat_clauses::System;
 use sat_clauses::assign::Assign;
 use sat_clauses::clause::Clause;
 use sat_clauses::lit::Lit;
-use base_values::{Items, OutOfMemory};
+use std::alloc::Global;
 
 /// A state: the values of the state bits, in order.
 pub type State = Items<bool>;

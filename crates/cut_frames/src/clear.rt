@@ -25,13 +25,13 @@ use crate::outline::Outline;
 use crate::shrink::shrink;
 use crate::smaller::{chosen, smaller};
 use crate::steps::StepList;
+use base_values::OutOfMemory;
 use sat_adviser::Panel;
 use sat_clauses::System;
 use sat_clauses::assign::Assign;
 use sat_clauses::clause::{Clause, ClauseList};
 use sat_clauses::lit::Lit;
 use sat_solver::solve::Verdict;
-use base_values::OutOfMemory;
 
 /// What is found where the frames are looked at once.
 #[derive(Drop)]

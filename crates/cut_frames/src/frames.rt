@@ -24,14 +24,14 @@ use crate::lasting::Lasting;
 use crate::levels::Levels;
 use crate::outline::Outline;
 use crate::shown::Seen;
-use std::alloc::Global;
-use std::marker::Model;
+use base_values::OutOfMemory;
 use sat_adviser::Panel;
 use sat_clauses::System;
 use sat_clauses::clause::{Clause, ClauseList};
 use sat_clauses::lit::Lit;
 use sat_solver::work::Work;
-use base_values::OutOfMemory;
+use std::alloc::Global;
+use std::marker::Model;
 
 /// Frames of a system, and their frontier.
 #[derive(Drop)]

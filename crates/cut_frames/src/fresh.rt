@@ -9,11 +9,11 @@ ghost use Rattle.cut_frames.specs.Levels.{frames_from, frames_of, IsLevelled};
 
 use crate::guarded::Guarded;
 use crate::levels::Levels;
-use std::alloc::Global;
+use base_values::OutOfMemory;
 use sat_adviser::Panel;
 use sat_clauses::System;
 use sat_clauses::clause::ClauseList;
-use base_values::OutOfMemory;
+use std::alloc::Global;
 
 /// A search over the lists of the system and these bad states, with the frame of number 0 alone.
 fn bare(

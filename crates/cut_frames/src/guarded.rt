@@ -20,7 +20,7 @@ ghost use Rattle.sat_solver.specs.declared.solve.Verdict.TheVariants.{Unsat};
 
 use crate::apart::simpler_apart;
 use crate::highest::highest;
-use std::alloc::Global;
+use base_values::OutOfMemory;
 use sat_adviser::Panel;
 use sat_clauses::System;
 use sat_clauses::clause::{Clause, ClauseList};
@@ -29,7 +29,7 @@ use sat_clauses::recorder::KeepNone;
 use sat_solver::kept::Search;
 use sat_solver::solve::Verdict;
 use sat_solver::work::Work;
-use base_values::OutOfMemory;
+use std::alloc::Global;
 
 /// How many clauses more than twice those that it begins with a search may have.
 const SLACK: usize = 200;

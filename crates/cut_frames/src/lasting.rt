@@ -11,10 +11,10 @@ ghost use Rattle.cut_frames.specs.Levels.{frames_of, IsLevelled};
 use crate::clear::block;
 use crate::guarded::Guarded;
 use crate::levels::Levels;
-use std::alloc::Global;
+use base_values::OutOfMemory;
 use sat_clauses::System;
 use sat_clauses::clause::{Clause, ClauseList};
-use base_values::OutOfMemory;
+use std::alloc::Global;
 
 /// Clauses of an invariant.
 #[derive(Drop)]

@@ -6,10 +6,10 @@ ghost use Rattle.std.specs.Prelude.{◌≡◌, ◌≢◌, ◌<◌, [], length, s
 ghost use Rattle.sat_simplify.specs.Resolution.{has_literal, subsumes};
 ghost use Rattle.cut_frames.specs.Levels.{standing_in, held_at, outdone, with_clause, IsFilledLevel};
 
-use std::alloc::Global;
+use base_values::OutOfMemory;
 use sat_clauses::clause::{Clause, ClauseList};
 use sat_clauses::lit::Lit;
-use base_values::OutOfMemory;
+use std::alloc::Global;
 
 /// A clause, and the number of the highest frame in which it holds.
 #[derive(Drop)]

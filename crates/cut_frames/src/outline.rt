@@ -13,14 +13,14 @@ ghost use Rattle.cut_frames.specs.Parts.{IsPart, IsOfFirst, IsAgreed, AreAgreed,
 
 use crate::bits::{State, broken_by, literals, read, turned};
 use crate::guarded::{Beside, Guarded};
-use std::alloc::Global;
+use base_values::OutOfMemory;
 use sat_adviser::Panel;
 use sat_clauses::System;
 use sat_clauses::assign::Assign;
 use sat_clauses::clause::Clause;
 use sat_clauses::lit::Lit;
 use sat_solver::solve::Verdict;
-use base_values::OutOfMemory;
+use std::alloc::Global;
 
 /// How many first states are kept.
 const STARTS: usize = 64;

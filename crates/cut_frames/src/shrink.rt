@@ -17,14 +17,14 @@ ghost use Rattle.cut_frames.specs.declared.guarded.Beside.TheVariants.{Bad};
 use crate::bits::value;
 use crate::guarded::{Beside, Guarded};
 use crate::levels::Levels;
-use std::alloc::Global;
+use base_values::OutOfMemory;
 use sat_adviser::Panel;
 use sat_clauses::System;
 use sat_clauses::assign::Assign;
 use sat_clauses::clause::ClauseList;
 use sat_clauses::lit::Lit;
 use sat_solver::solve::Verdict;
-use base_values::OutOfMemory;
+use std::alloc::Global;
 
 /// Whether the values make a literal true; a variable without one counts as false.
 fn is_true(values: &Assign, lit: Lit) -> bool

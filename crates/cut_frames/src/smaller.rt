@@ -13,12 +13,12 @@ use crate::bits::{join, turn_next};
 use crate::guarded::{Beside, Guarded};
 use crate::levels::Levels;
 use crate::outline::Outline;
-use std::alloc::Global;
+use base_values::OutOfMemory;
 use sat_adviser::Panel;
 use sat_clauses::System;
 use sat_clauses::clause::Clause;
 use sat_clauses::lit::Lit;
-use base_values::OutOfMemory;
+use std::alloc::Global;
 
 /// How many literals are tried in vain before a clause is left as it is.
 const TRIES: usize = 4;

@@ -5,10 +5,10 @@
 ghost use Rattle.std.specs.Prelude.{◌≡◌, ◌<◌, ◌↔◌, [], ◌∷◌, ◌++◌, length, reverse, Some, slice_get, IfOk, OnOk, OnErr, IsTrue};
 ghost use Rattle.sat_clauses.specs.Assignment.{Assignment};
 
+use base_values::OutOfMemory;
+use sat_clauses::assign::Assign;
 use std::alloc::Global;
 use std::marker::Model;
-use sat_clauses::assign::Assign;
-use base_values::OutOfMemory;
 
 /// The moments of a path in order, one assignment each. Each but the last gives all state bits and input
 /// bits now, and the last gives the state bits now.

@@ -4,8 +4,8 @@ ghost use Rattle.std.specs.Prelude.{◌≡◌};
 ghost use Rattle.cut_text_laws.specs.Analysis.{told_ending};
 ghost use Rattle.cut_report_laws.specs.Answered.{ending_of};
 
-use cut_search::answer::End;
 use base_values::Ending;
+use cut_search::answer::End;
 
 /// How a report tells the ending of a search.
 pub fn told(end: &End) -> Ending

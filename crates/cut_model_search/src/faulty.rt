@@ -11,17 +11,19 @@ ghost use Rattle.cut_search_laws.specs.Searchable.{IsSearchable};
 ghost use Rattle.cut_model_search.specs.Reads.{IsRead};
 ghost use Rattle.cut_model_search.specs.Wholes.{modes_of, whole_of, CanBeSearched};
 
-use std::alloc::Global;
+use base_values::{Items, OutOfMemory, SetList, Valuation, Value};
 use cut_search::encoded::Encoded;
-use sat_encoding::{bad_clauses, encode, history_literals, state_of, unlisted_clause, valuation_of};
 use sat_clauses::System;
 use sat_clauses::assign::Assign;
 use sat_clauses::clause::{Clause, ClauseList};
 use sat_clauses::lit::Lit;
+use sat_encoding::{
+    bad_clauses, encode, history_literals, state_of, unlisted_clause, valuation_of,
+};
 use smv_language::Expr;
 use smv_language::model::{FaultList, Flat};
 use smv_types::Typed;
-use base_values::{Items, OutOfMemory, SetList, Valuation, Value};
+use std::alloc::Global;
 
 /// A model, the model with the history of its faults, and a top event.
 #[derive(Drop)]

@@ -7,16 +7,16 @@ ghost use Rattle.sat_encoding_laws.specs.Lists.{system_of};
 ghost use Rattle.cert_making.specs.Deriving.{AreDerived};
 ghost use Rattle.cut_model_search.specs.Certifiable.{IsProof, bad_of};
 
-use std::alloc::Global;
-use sat_adviser::Panel;
+use base_values::OutOfMemory;
 use cert_making::parts::{Parts, derive_parts};
 use cut_search::answer::Analysis;
-use sat_encoding::{bad_clauses, encode};
+use sat_adviser::Panel;
 use sat_clauses::clause::ClauseList;
+use sat_encoding::{bad_clauses, encode};
 use smv_language::Expr;
 use smv_language::model::Flat;
 use smv_types::Typed;
-use base_values::OutOfMemory;
+use std::alloc::Global;
 
 /// The derivations that the invariant of an analysis holds first, is kept by every step, and excludes the bad states of the listed
 /// sets. The last `faults` variables of the model are its history.

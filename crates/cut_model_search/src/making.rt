@@ -16,16 +16,16 @@ ghost use Rattle.cut_model_search.specs.Certifiable.{IsCertifiable, IsCompleteAn
 
 use crate::lists::parts_of;
 use crate::texts::texts_of;
-use std::alloc::Global;
-use sat_adviser::Panel;
-use cert_text::{Certificate, TextList};
+use base_values::{FaultSet, OutOfMemory, SetList};
 use cert_making::parts::Parts;
+use cert_text::{Certificate, TextList};
 use cut_search::answer::{Analysis, End};
+use sat_adviser::Panel;
 use sat_clauses::clause::ClauseList;
 use smv_language::Expr;
 use smv_language::model::{FaultList, Flat};
 use smv_types::Typed;
-use base_values::{FaultSet, OutOfMemory, SetList};
+use std::alloc::Global;
 
 // Sets of their own with the same faults.
 fn copied(alloc: Global, sets: &[FaultSet]) -> Result<SetList, OutOfMemory>

@@ -13,14 +13,14 @@ ghost use Rattle.cut_search.specs.Answer.{IsAnswer};
 ghost use Rattle.cut_model_search.specs.Found.{size_for};
 
 use crate::{analyse, analyse_in, frames_of};
-use std::alloc::Global;
-use sat_adviser::Panel;
-use cut_search::answer::Analysis;
+use base_values::OutOfMemory;
 use cut_frames::Frames;
-use verb_loading::loaded::LoadedCase;
+use cut_search::answer::Analysis;
+use sat_adviser::Panel;
 use smv_language::Expr;
 use smv_language::model::Flat;
-use base_values::OutOfMemory;
+use std::alloc::Global;
+use verb_loading::loaded::LoadedCase;
 
 /// A search gives each symbol a number below this. A model of two files within their limits has far fewer.
 const MOST_SYMBOLS: usize = 2_147_483_648;

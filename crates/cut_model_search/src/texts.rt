@@ -5,11 +5,11 @@ ghost use Rattle.std.specs.Prelude.{◌≡◌, map, All, IfOk};
 ghost use Rattle.cert_laws.specs.CertificateText.{IsWritableText};
 ghost use Rattle.cut_model_search.specs.Texts.{AreLinesIn, text_lines, CanBePrinted};
 
-use std::alloc::Global;
+use base_values::{MomentList, OutOfMemory, first_line};
 use cert_text::{LineList, TextList};
 use cut_report::print_trace;
 use smv_types::Typed;
-use base_values::{MomentList, OutOfMemory, first_line};
+use std::alloc::Global;
 
 // The lines of a text that end in a line feed.
 fn lines(alloc: Global, bytes: &[u8]) -> Result<LineList, OutOfMemory>

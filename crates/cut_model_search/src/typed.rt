@@ -10,15 +10,15 @@ ghost use Rattle.cut_search_laws.specs.Searchable.{IsSearchable};
 ghost use Rattle.cut_model_search.specs.Wholes.{modes_of, whole_of, AnswersSearch};
 
 use crate::faulty::Faulty;
-use std::alloc::Global;
-use sat_adviser::Panel;
+use base_values::OutOfMemory;
+use cut_frames::Frames;
 use cut_search::answer::Analysis;
 use cut_search::search;
-use cut_frames::Frames;
+use sat_adviser::Panel;
 use smv_language::Expr;
 use smv_language::model::{FaultList, Flat};
 use smv_types::Typed;
-use base_values::OutOfMemory;
+use std::alloc::Global;
 
 /// The minimal sets of at most so many faults with which the top event can be reached, each with a trace of `plain`
 /// that shows it: for all traces, or for those of at most as many steps as the depth. `full` is `plain` with the

@@ -12,10 +12,10 @@ ghost use Rattle.cut_text_laws.specs.Analysis.{told_ending};
 
 use crate::fault_list::print_faults;
 use crate::traces::print_trace;
-use std::alloc::Global;
+use base_values::{ByteList, Ending, FaultSet, MomentList, OutOfMemory, SetList, TraceList};
 use smv_language::model::FaultList;
 use smv_types::Typed;
-use base_values::{ByteList, Ending, FaultSet, MomentList, OutOfMemory, SetList, TraceList};
+use std::alloc::Global;
 
 /// The report of an analysis of the model with these faults: the lines of the faults; `sets` and their number, and a
 /// line for each set with its numbers; each trace under its number, from 1; `no first moment` where there is none; how

@@ -4,10 +4,10 @@ ghost use Rattle.std.specs.Prelude.{◌≡◌, ◌++◌, map, IfOk, OnOk};
 ghost use Rattle.cut_report.specs.FaultText.{fault_line, fault_lines, faults_text};
 ghost use Rattle.smv_language.specs.ModelTree.{name_of_fault};
 
-use std::alloc::Global;
+use base_values::{ByteList, OutOfMemory};
 use smv_language::append_dotted;
 use smv_language::model::{Fault, FaultList};
-use base_values::{ByteList, OutOfMemory};
+use std::alloc::Global;
 
 /// The number of faults, and a line for each fault with its number, from 1, and its name.
 #[tactic(auto, using(crate::proofs::TextLaws::text_rules))]

@@ -7,8 +7,8 @@ ghost use Rattle.cut_text_laws.specs.TraceText.{moment_line};
 ghost use Rattle.cut_text_laws.specs.Wrong.{IsEquation};
 ghost use Rattle.cut_report.specs.Cuts.{IsNoEquation, IsSpaceless};
 
-use std::alloc::Global;
 use base_values::{OutOfMemory, cut, length_before};
+use std::alloc::Global;
 
 /// The name and the value of a line that is a word, ` = ` and a word.
 pub(crate) fn equation_words(line: &[u8]) -> Option<(&[u8], &[u8])>

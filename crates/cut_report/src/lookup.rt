@@ -10,10 +10,10 @@ ghost use Rattle.cut_report.specs.Lookups.{IsPlaceOf, IsFoundAt};
 
 use crate::text::append_variable;
 use crate::values::value_of;
-use std::alloc::Global;
+use base_values::{ByteList, Name, NameList, OutOfMemory, Value};
 use smv_language::model::Variable;
 use smv_types::{TextNumbers, Typed};
-use base_values::{ByteList, Name, NameList, OutOfMemory, Value};
+use std::alloc::Global;
 
 /// The variables of a model by their printed names, and its symbols by theirs.
 #[derive(Drop)]

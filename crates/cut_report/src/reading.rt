@@ -15,8 +15,8 @@ ghost use Rattle.base_values.specs.declared.value.Value.TheVariants.{Bool as ABo
 use crate::fault::Cause;
 use crate::lines::{equation_words, is_moment_line};
 use crate::lookup::Lookup;
-use std::alloc::Global;
 use base_values::{MomentList, OutOfMemory, Valuation, Value};
+use std::alloc::Global;
 
 /// What a variable was given last: the value, and the number, from 1, of the moment in which it was. A
 /// variable that was given none has moment 0.

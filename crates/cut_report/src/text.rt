@@ -3,9 +3,9 @@
 ghost use Rattle.std.specs.Prelude.{◌≡◌, ◌++◌, OnOk};
 ghost use Rattle.cut_report.specs.Names.{printed_name};
 
+use base_values::{ByteList, OutOfMemory};
 use smv_language::append_names;
 use smv_language::model::Variable;
-use base_values::{ByteList, OutOfMemory};
 
 /// Appends the name of a variable, with dots between its parts.
 pub(crate) fn append_variable(text: &mut ByteList, variable: &Variable) -> Result<(), OutOfMemory>

@@ -9,10 +9,10 @@ ghost use Rattle.smv_language.specs.Values.{value_text};
 ghost use Rattle.smv_language.specs.Texts.{text_or_none};
 
 use crate::text::append_variable;
-use std::alloc::Global;
+use base_values::{ByteList, MomentList, Name, OutOfMemory, Valuation, Value};
 use smv_language::model::{FlatModel, Variable};
 use smv_types::Typed;
-use base_values::{ByteList, MomentList, Name, OutOfMemory, Valuation, Value};
+use std::alloc::Global;
 
 /// The text of a trace of the model: for each moment, numbered from 0, the line `moment i`, and for each
 /// variable in flat order the line `name = value`.

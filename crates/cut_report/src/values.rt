@@ -6,9 +6,9 @@ ghost use Rattle.std.specs.Fmt.{signed_decimal};
 ghost use Rattle.smv_language.specs.ProgramTree.{Text};
 ghost use Rattle.cut_report.specs.ValueReading.{IsTruth, IsNumber, IsSymbol, IsReadOf, IsAmong, IsReadIn, IsParsed};
 
-use std::alloc::Global;
-use smv_types::TextNumbers;
 use base_values::{Domain, OutOfMemory, Value};
+use smv_types::TextNumbers;
+use std::alloc::Global;
 
 /// The value of a domain that has this text, where one has it.
 pub(crate) fn value_of(

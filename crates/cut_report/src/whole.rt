@@ -12,9 +12,9 @@ ghost use Rattle.cut_text_laws.specs.Given.{HasItsSymbols};
 use crate::fault::TraceFault;
 use crate::lookup::{Lookup, printed_names};
 use crate::reading::Reading;
-use std::alloc::Global;
-use smv_types::Typed;
 use base_values::{MomentList, first_line};
+use smv_types::Typed;
+use std::alloc::Global;
 
 /// The trace that a text gives, or what is wrong first with it.
 ///

@@ -6,9 +6,9 @@ ghost use Rattle.std.specs.Prelude.{◌≡◌, IfOk};
 ghost use Rattle.cut_search_laws.specs.Found.{sets_of, traces_of};
 
 use crate::sets::{Found, SetList, TraceList};
-use std::alloc::Global;
-use sat_clauses::clause::ClauseList;
 use base_values::OutOfMemory;
+use sat_clauses::clause::ClauseList;
+use std::alloc::Global;
 
 /// How an analysis ends.
 #[derive(Drop)]

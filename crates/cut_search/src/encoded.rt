@@ -9,12 +9,12 @@ ghost use Rattle.cut_search_laws.specs.Searched.{IsSearched, IsBadFor, AreHistor
 ghost use Rattle.cut_search.specs.Progress.{IsReadable, IsReadOf};
 
 use crate::sets::SetList;
-use std::alloc::Global;
+use base_values::{OutOfMemory, Valuation};
 use sat_clauses::System;
 use sat_clauses::assign::Assign;
 use sat_clauses::clause::{Clause, ClauseList};
 use sat_clauses::lit::Lit;
-use base_values::{OutOfMemory, Valuation};
+use std::alloc::Global;
 
 /// A model, its faults and a top event, with the clause lists of the model with history.
 pub trait Encoded {

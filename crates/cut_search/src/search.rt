@@ -13,11 +13,11 @@ use crate::answer::{Analysis, End, answer};
 use crate::encoded::Encoded;
 use crate::sets::{Found, SetList, list_found};
 use crate::show::show;
-use std::alloc::Global;
-use sat_adviser::{News, Panel};
-use cut_frames::{Advanced, Cleared, Frames};
-use sat_clauses::clause::ClauseList;
 use base_values::OutOfMemory;
+use cut_frames::{Advanced, Cleared, Frames};
+use sat_adviser::{News, Panel};
+use sat_clauses::clause::ClauseList;
+use std::alloc::Global;
 
 /// Ends news that were told.
 fn end(news: News<'_>) {

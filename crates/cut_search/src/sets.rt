@@ -4,10 +4,10 @@ ghost use Rattle.std.specs.Prelude.{◌≡◌, ◌≤◌, ◌-◌, length, OnOk}
 ghost use Rattle.cut_search_laws.specs.Found.{without, placed, with_found};
 ghost use Rattle.cut_search.specs.Places.{place_of};
 
-use std::marker::Model;
-use cut_sets::{is_contained, stands_before};
 use base_values::OutOfMemory;
 pub use base_values::{FaultSet, MomentList, SetList, TraceList};
+use cut_sets::{is_contained, stands_before};
+use std::marker::Model;
 
 /// A set of faults, and a trace that has failed exactly it.
 #[derive(Drop)]

@@ -8,9 +8,9 @@ ghost use Rattle.cut_search.specs.Progress.{IsReadOf, Shown};
 
 use crate::encoded::Encoded;
 use crate::sets::{FaultSet, Found, MomentList};
-use std::alloc::Global;
-use cut_frames::StepList;
 use base_values::{OutOfMemory, Valuation, Value};
+use cut_frames::StepList;
+use std::alloc::Global;
 
 /// Appends the number of a bit, if the bit is TRUE.
 fn note(

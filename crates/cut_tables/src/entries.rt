@@ -12,8 +12,8 @@ ghost use Rattle.cut_text_laws.specs.Analysis.{told_ending};
 
 use crate::columns::{Column, ColumnList, EndingList, Entry, EntryList, EntryRows, FmeaTable};
 use crate::rows::rows_of;
-use std::alloc::Global;
 use base_values::{Ending, FaultSet, OutOfMemory, SetList};
+use std::alloc::Global;
 
 /// The table of rows of at most so many faults: what each column says of each.
 pub fn table(

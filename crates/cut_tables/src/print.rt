@@ -11,8 +11,8 @@ ghost use Rattle.cut_tables.specs.Columns.{told_entry, IsTableOf, ending_line, e
 ghost use Rattle.cut_text_laws.specs.Analysis.{told_ending};
 
 use crate::columns::{Entry, EntryList, FmeaTable};
-use std::alloc::Global;
 use base_values::{ByteList, Ending, FaultSet, OutOfMemory};
+use std::alloc::Global;
 
 /// The text of a table after the lines of the faults, which the caller gives: how many columns there are, how each
 /// ends, and a line for each row. The bits are those of a state.

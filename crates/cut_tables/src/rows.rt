@@ -6,8 +6,8 @@ ghost use Rattle.std.specs.Prelude.{◌≡◌, ◌≤◌, ◌-◌, [], ◌∷◌
 ghost use Rattle.std.specs.List.{range_with_len};
 ghost use Rattle.cut_tables.specs.Tables.{rows_of as rows_within, pairs_after, pairs_from};
 
-use std::alloc::Global;
 use base_values::{FaultSet, OutOfMemory, SetList};
+use std::alloc::Global;
 
 /// The sets of at most so many faults of as many as there are.
 pub(crate) fn rows_of(alloc: Global, faults: u32, size: u32) -> Result<SetList, OutOfMemory>

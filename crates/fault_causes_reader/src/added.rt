@@ -10,10 +10,10 @@ ghost use Rattle.fault_cause_laws.specs.CauseRules.{names_of_cause, own_names as
 ghost use Rattle.fault_causes_reader.specs.ReadView.{written_tree};
 
 use crate::written::Written;
-use std::alloc::Global;
-use fault_staging::names::{joined, numbered};
 use base_values::{NameList, OutOfMemory};
 use fault_rules::Texts;
+use fault_staging::names::{joined, numbered};
+use std::alloc::Global;
 
 /// The names that a cause adds.
 pub(crate) fn cause_names(alloc: Global, cause: &Written) -> Result<NameList, OutOfMemory>

@@ -5,8 +5,8 @@
 ghost use Rattle.std.specs.Prelude.{◌≡◌};
 ghost use Rattle.fault_causes_reader.specs.declared.fault.CauseFault.TheVariants as fault;
 
-use smv_expression_reader::ParseFault;
 use base_values::OutOfMemory;
+use smv_expression_reader::ParseFault;
 
 /// A rule that a cause breaks. Of those that a cause breaks, the one that stands first here is told.
 #[derive(Clone, Copy, Debug, PartialEq, Eq)]

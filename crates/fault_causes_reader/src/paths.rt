@@ -11,8 +11,8 @@ ghost use Rattle.fault_causes_reader.specs.FaultPaths.{paths_of};
 ghost use Rattle.fault_cause_laws.specs.CauseRules.{same_path, is_path_among, has_double as has_double_path};
 ghost use Rattle.smv_language.specs.ModelTree.{name_of_fault};
 
-use smv_language::model::Fault;
 use base_values::{Name, NameList};
+use smv_language::model::Fault;
 
 /// Whether both names have the same text.
 pub(crate) fn has_text(x: &Name, y: &Name) -> bool

@@ -18,16 +18,16 @@ use crate::fault::CauseFault;
 use crate::rules::lawful;
 use crate::step::{State, step};
 use crate::written::WrittenList;
-use std::alloc::Global;
+use base_values::OutOfMemory;
+use fault_staging::CauseList;
 use smv_expression_reader::ParseFault;
 use smv_expression_reader::reader::{split, stop_at};
 use smv_expression_reader::reading::Reading;
 use smv_expression_reader::token::{TokenText, token_texts};
-use smv_lexer::TokenList;
-use fault_staging::CauseList;
 use smv_language::Program;
 use smv_language::model::FaultList;
-use base_values::OutOfMemory;
+use smv_lexer::TokenList;
+use std::alloc::Global;
 
 /// How far the tokens can be read as causes, which are put into the list.
 fn read_through(

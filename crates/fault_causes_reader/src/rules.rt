@@ -21,12 +21,12 @@ use crate::added::{add_names, cause_names, is_any_taken, own_names};
 use crate::fault::{CauseFault, CauseRule};
 use crate::paths::{has_double, has_text, is_same_path, names_no_fault};
 use crate::written::{Written, WrittenList};
-use std::alloc::Global;
+use base_values::{FaultSet, Name, NameList, OutOfMemory};
+use fault_rules::{Texts, program_names};
 use fault_staging::{Cause, CauseList};
 use smv_language::Program;
 use smv_language::model::{Fault, FaultList};
-use base_values::{FaultSet, Name, NameList, OutOfMemory};
-use fault_rules::{Texts, program_names};
+use std::alloc::Global;
 
 /// The most faults and causes together.
 const MOST_EVENTS: usize = 256;

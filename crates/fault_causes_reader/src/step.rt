@@ -9,10 +9,10 @@ ghost use Rattle.fault_causes_reader.specs.CausesRead.{part, stepped, stage_wher
 ghost use Rattle.fault_causes_reader.specs.ReadView.{stage_of, read_view, written_tree, written_trees};
 
 use crate::written::{PathList, Written, WrittenList};
-use std::alloc::Global;
+use base_values::{Name, NameList, OutOfMemory};
 use smv_expression_reader::mark::Mark;
 use smv_expression_reader::token::TokenText;
-use base_values::{Name, NameList, OutOfMemory};
+use std::alloc::Global;
 
 /// What stands before the names of the faults that a cause strikes.
 #[derive(Drop)]

@@ -4,11 +4,11 @@
 ghost use Rattle.std.specs.Prelude.{◌≡◌};
 ghost use Rattle.fault_extend.specs.Refused.{of_rule, IsWant};
 
-use std::alloc::{AllocError, AllocFailed};
-use smv_flat::FlatFault;
-use smv_types::TypeFault;
 use base_values::OutOfMemory;
 use fault_rules::{Rule, RuleFault};
+use smv_flat::FlatFault;
+use smv_types::TypeFault;
+use std::alloc::{AllocError, AllocFailed};
 
 /// Why instructions can't be woven into a program: a rule of the weave, or a rule of names or of kinds that
 /// a guard or Follows expression breaks at some instance. `Kinds` also has the two demands on classes: what

@@ -10,12 +10,12 @@ ghost use Rattle.fault_weave.specs.Faults.{slice_faults};
 ghost use Rattle.fault_extend.specs.WovenFaults.{fault_tree, instance_faults, faults_at};
 ghost use Rattle.smv_language.specs.ModelTree.{place_of};
 
-use std::alloc::Global;
+use base_values::{Dotted, Items, Name, OutOfMemory};
 use fault_instructions::{Extension, Instructions, ModeRule, Slice};
 use smv_language::Program;
 use smv_language::copy_model::copy_path;
 use smv_language::model::Instance;
-use base_values::{Dotted, Items, Name, OutOfMemory};
+use std::alloc::Global;
 
 /// A woven program and its faults.
 #[derive(Drop)]

@@ -25,14 +25,14 @@ ghost use Rattle.fault_extend.specs.declared.fault.Cause.TheVariants as causes;
 ghost use Rattle.smv_type_laws.specs.Declared.{class_declared};
 
 use crate::fault::{Cause, WeaveFault};
-use std::alloc::Global;
+use base_values::{Dotted, Name};
 use fault_instructions::{Effect, ModeRule};
+use fault_rules::{Placed, item_after};
 use smv_flat::{FlatFault, Scope};
 use smv_language::model::Flat;
 use smv_language::{Declared, Expr, Member, Program};
 use smv_types::{Kind, Rule, TypeFault, Typed, check_value};
-use base_values::{Dotted, Name};
-use fault_rules::{Placed, item_after};
+use std::alloc::Global;
 
 /// A program that breaks no rule, and its flat model with kinds.
 #[derive(Clone, Copy)]

@@ -8,12 +8,12 @@ ghost use Rattle.fault_instructions.specs.AddedNames.{mode_variable as mode_vari
 ghost use Rattle.fault_extend.specs.NumberedFaults.{parts_of, HasMode, HaveModes, IsNumbered, AreNumbered, AreSymbols, KnowsSymbol, HasPath, IsThere};
 
 use crate::faults::{Woven, WovenFault};
-use indexmap::IndexMap;
-use std::alloc::Global;
-use fault_instructions::{mode_symbol, mode_variable};
-use smv_scope::items::number_of;
-use smv_language::model::{Fault, FaultList, FlatModel, Variable};
 use base_values::{Dotted, Items, Name, OutOfMemory};
+use fault_instructions::{mode_symbol, mode_variable};
+use indexmap::IndexMap;
+use smv_language::model::{Fault, FaultList, FlatModel, Variable};
+use smv_scope::items::number_of;
+use std::alloc::Global;
 
 /// The symbols of a model by their texts, with their numbers.
 #[derive(Drop)]

@@ -28,17 +28,17 @@ ghost use Rattle.fault_extend.specs.Refused.{modules_in, modules_at, KeepsRules,
 use crate::fault::{Cause, WeaveFault};
 use crate::faults::{Woven, woven_faults};
 use crate::guards::{Nominal, flat_cause, judge_guards, type_cause};
-use std::alloc::Global;
+use base_values::{Name, OutOfMemory};
 use fault_instructions::Instructions;
+use fault_rules::{
+    RuleFault, extensions_have_negations, judge_counts, modules_have_negations, placed_slices,
+};
+use fault_weave::woven_program;
 use smv_flat::flatten;
 use smv_language::Program;
 use smv_language::model::Instance;
 use smv_types::{Typed, check_model};
-use base_values::{Name, OutOfMemory};
-use fault_weave::woven_program;
-use fault_rules::{
-    RuleFault, extensions_have_negations, judge_counts, modules_have_negations, placed_slices,
-};
+use std::alloc::Global;
 
 /// The program woven with the instructions, and its faults; or the first rule that the instructions break.
 /// The program breaks no rule itself; where one does, that is told with item 0.

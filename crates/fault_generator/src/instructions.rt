@@ -8,9 +8,11 @@ ghost use Rattle.fault_instructions.specs.WritableInstructions.{IsWritableInstru
 ghost use Rattle.fault_generator.specs.Generator.{generated_instructions as instructions_tree, relay_extension as extension_of_relay, relay_slice as slice_of_relay, off_mode as off_tree};
 
 use crate::parts::one;
-use std::alloc::Global;
-use fault_instructions::{Constant, Dynamics, Effect, Extension, Instructions, ModeRule, Slice, Start};
 use base_values::{Name, OutOfMemory};
+use fault_instructions::{
+    Constant, Dynamics, Effect, Extension, Instructions, ModeRule, Slice, Start,
+};
+use std::alloc::Global;
 
 /// The instructions of every generated model. They can be written.
 pub fn generated_instructions(alloc: Global) -> Result<Instructions, OutOfMemory>

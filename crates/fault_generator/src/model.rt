@@ -13,12 +13,12 @@ ghost use Rattle.fault_generator.specs.Stages.{told_rails};
 
 use crate::parts::{named, one, output_of, single};
 use crate::rails::{TwoRails, rails};
-use std::alloc::Global;
+use base_values::{Dotted, Name, NameList, OutOfMemory};
 use smv_language::{
     Assignment, Decl, Declared, Define, Expr, Module, ModuleList, Moment, Op, Program, Section,
     SectionList,
 };
-use base_values::{Dotted, Name, NameList, OutOfMemory};
+use std::alloc::Global;
 
 /// The model of a number and so many stages. It can be written.
 pub fn generated_model(alloc: Global, number: u32, stages: u32) -> Result<Program, OutOfMemory>

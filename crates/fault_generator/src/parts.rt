@@ -7,9 +7,9 @@ ghost use Rattle.smv_language.specs.Tree.{leaf};
 ghost use Rattle.smv_language.specs.Written.{tree_of};
 ghost use Rattle.fault_generator.specs.Generator.{stage_name as stage_name_of, output_of as output_tree};
 
-use std::alloc::Global;
-use smv_language::Expr;
 use base_values::{Dotted, Items, Name, OutOfMemory};
+use smv_language::Expr;
+use std::alloc::Global;
 
 /// The list of one item.
 pub(crate) fn one<T: Drop>(alloc: Global, item: T) -> Result<Items<T>, OutOfMemory>

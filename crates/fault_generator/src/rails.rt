@@ -8,9 +8,9 @@ ghost use Rattle.fault_generator.specs.Generator.{next_number as number_after, i
 ghost use Rattle.fault_generator.specs.Stages.{told_rails};
 
 use crate::parts::{one, output_of, stage_name};
-use std::alloc::Global;
-use smv_language::{Decl, DeclList, Declared};
 use base_values::{Name, OutOfMemory};
+use smv_language::{Decl, DeclList, Declared};
+use std::alloc::Global;
 
 /// Stages, and the last one of each rail.
 #[derive(Drop)]

@@ -6,9 +6,9 @@ ghost use Rattle.smv_language.specs.Tree.{not_of, negate, next_of, binary as bin
 ghost use Rattle.smv_language.specs.Written.{tree_of};
 ghost use Rattle.fault_instructions.specs.Templates.{named as named_tree, number_tree};
 
-use std::alloc::Global;
-use smv_language::{Expr, Op};
 use base_values::{Dotted, Items, Name, OutOfMemory};
+use smv_language::{Expr, Op};
+use std::alloc::Global;
 
 /// The single name, as an expression.
 pub fn named(alloc: Global, name: Name) -> Result<Expr<Dotted>, OutOfMemory>

@@ -8,9 +8,9 @@ use crate::instructions::{
     Constant, Effect, Extension, ExtensionList, Instructions, MarkList, ModeList, ModeRule, Slice,
     SliceList,
 };
-use std::alloc::Global;
-use smv_language::Expr;
 use base_values::{Dotted, Items, Name, OutOfMemory};
+use smv_language::Expr;
+use std::alloc::Global;
 
 impl Instructions {
     /// A copy of their own, which is the same instructions.

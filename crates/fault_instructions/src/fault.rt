@@ -11,8 +11,8 @@ ghost use Rattle.fault_instructions.specs.Instructions.{effect_tree, constant_va
 ghost use Rattle.fault_instructions.specs.Allowed.{kind_of_members, is_of_kind as is_of_kind_of, differs as differs_from, members_differ, has_two_values as has_two_values_of, is_small as is_small_number, offset_fits as offset_fits_in, ramp_fits as ramp_fits_in, constant_fault, inverted_fault, offset_fault, ramp_fault, fault_of};
 
 use crate::{Constant, Effect};
-use smv_language::{Declared, Member};
 use base_values::Name;
+use smv_language::{Declared, Member};
 
 /// Why an effect may not stand at a variable.
 #[derive(Clone, Copy, Debug, PartialEq, Eq)]

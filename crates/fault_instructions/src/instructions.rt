@@ -1,7 +1,7 @@
 //! Instructions as they are written: [`Instructions`], with extensions, slices, modes and their effects.
 
-use smv_language::Expr;
 use base_values::{Dotted, Items, Name};
+use smv_language::Expr;
 
 /// The extensions of a file, in written order.
 pub type ExtensionList = Items<Extension>;

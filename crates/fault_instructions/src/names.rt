@@ -4,8 +4,8 @@
 ghost use Rattle.std.specs.Prelude.{◌≡◌, Some, None, IfOk};
 ghost use Rattle.fault_instructions.specs.AddedNames.{own_name as own_name_of, mode_variable as mode_variable_of, mode_symbol as mode_symbol_of};
 
-use std::alloc::Global;
 use base_values::{ByteList, Name, OutOfMemory};
+use std::alloc::Global;
 
 /// The name of the variable that holds the own value of a variable.
 pub fn own_name(alloc: Global, variable: &Name) -> Result<Name, OutOfMemory>

@@ -14,9 +14,9 @@ ghost use Rattle.smv_language.specs.Trace.{value_of_member};
 use crate::build::{binary, choice, named, not, number, set_of_two};
 use crate::names::own_name;
 use crate::{Constant, Effect};
-use std::alloc::Global;
-use smv_language::{Declared, Expr, ExprList, Member, Op};
 use base_values::{Dotted, Items, Name, OutOfMemory};
+use smv_language::{Declared, Expr, ExprList, Member, Op};
+use std::alloc::Global;
 
 /// What the read value of the variable is assigned while a mode of the effect stands: one value, or
 /// the set of those that a rule section then restricts. The variable is declared so in the program.

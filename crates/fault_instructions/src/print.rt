@@ -12,9 +12,9 @@ ghost use Rattle.smv_language.specs.Values.{value_text};
 use crate::instructions::{
     Constant, Dynamics, Effect, Extension, Instructions, MarkList, ModeRule, Slice, Start,
 };
-use std::alloc::Global;
-use smv_language::{Expr, print_expr};
 use base_values::{ByteList, Dotted, Name, OutOfMemory};
+use smv_language::{Expr, print_expr};
+use std::alloc::Global;
 
 /// The text of instructions: a line for the name that they give themselves, where they do, and then
 /// each extension with its slices, and each slice with its modes, on lines of their own.

@@ -13,9 +13,9 @@ use crate::Effect;
 use crate::build::{binary, choice, named, next, number};
 use crate::names::{mode_symbol, mode_variable};
 use crate::parts::{compared, name_of, own_value};
-use std::alloc::Global;
-use smv_language::{Expr, Op, Section};
 use base_values::{Dotted, Name, OutOfMemory};
+use smv_language::{Expr, Op, Section};
+use std::alloc::Global;
 
 /// The section that restricts the read value of the target while a mode of the effect stands, where
 /// the effect has one.

@@ -15,10 +15,10 @@ ghost use Rattle.fault_odds.specs.FirstMark.{IsWant, IsMarkFault, IsFaultOf, fau
 
 use crate::odds::OddsList;
 use crate::units::units_of_mark;
-use std::alloc::Global;
+use base_values::{Items, Name, OutOfMemory};
 use fault_extend::WovenFault;
 use fault_instructions::{Extension, Instructions, MarkList, ModeRule, Slice};
-use base_values::{Items, Name, OutOfMemory};
+use std::alloc::Global;
 
 /// What is wrong with the mark of a mode.
 #[derive(Clone, Copy, Debug, PartialEq, Eq)]

@@ -8,9 +8,9 @@ ghost use Rattle.fault_odds.specs.Units.{one_in_units};
 ghost use Rattle.fault_odds.specs.Bounds.{Bounds, bound_of, multiplied, units_in};
 ghost use Rattle.fault_odds.specs.Laws.{AreAtMostOne};
 
+use base_values::OutOfMemory;
 use std::alloc::Global;
 use std::marker::Model;
-use base_values::OutOfMemory;
 
 /// How many units make one.
 pub(crate) const ONE: u128 = 1_000_000_000_000_000_000;

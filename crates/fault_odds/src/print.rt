@@ -7,8 +7,8 @@ ghost use Rattle.fault_odds.specs.Bounds.{bound_sum, slack_of, units_in};
 ghost use Rattle.fault_odds.specs.OddsText.{last_digits, units_text, odds_lines, odds_text};
 
 use crate::odds::{ONE, OddsList, bound};
-use std::alloc::Global;
 use base_values::{ByteList, FaultSet, OutOfMemory, SetList};
+use std::alloc::Global;
 
 /// A line for each set with its bound, and a line with the sum of the bounds and by how many units it may be above the
 /// sum of the exact products.

@@ -10,14 +10,14 @@ ghost use Rattle.fault_orders.specs.Stage.{against as against_tree, with_set as 
 
 use crate::Relation;
 use crate::staging::now;
-use std::alloc::Global;
-use smv_scope::items::number_of;
+use base_values::OutOfMemory;
 use cut_sets::has_number;
 use fault_staging::build::{binary, opposite};
 use smv_language::copy_model::copy_flat;
 use smv_language::model::{Flat, FlatModel};
 use smv_language::{Expr, Op};
-use base_values::OutOfMemory;
+use smv_scope::items::number_of;
+use std::alloc::Global;
 
 /// The top event, with exactly this set of so many faults, against the claim. Where none is claimed it is the top event with
 /// exactly the set. The expression is over the staged model of these faults.

@@ -10,14 +10,14 @@ ghost use Rattle.smv_language.specs.ModelTree.{variable_tree, formula_tree, flat
 ghost use Rattle.smv_flat_laws.specs.FaultModes.{mode_of};
 ghost use Rattle.fault_orders.specs.Stage.{stage as stage_of, with_order, order_variable as variable_of, order_at_first as first_of, order_at_step as step_of, now_of, later_of, bit_number as bit_of};
 
-use std::alloc::Global;
-use smv_flat::with_history;
-use smv_scope::items::number_of;
+use base_values::{Dotted, Name, OutOfMemory};
 use fault_staging::build::{added, binary, opposite};
+use smv_flat::with_history;
 use smv_language::copy_model::boxed;
 use smv_language::model::{FaultList, Flat, FlatModel, Formula, Role, Variable};
 use smv_language::{Declared, Expr, Op};
-use base_values::{Dotted, Name, OutOfMemory};
+use smv_scope::items::number_of;
+use std::alloc::Global;
 
 /// A copy of a model with a history bit for each fault, and after these `ahead` and `behind`: `ahead` is TRUE from a moment on
 /// at which the first fault has come and the second has not, and `behind` the other way round. The two faults go by their

@@ -9,16 +9,16 @@ ghost use Rattle.smv_expression_reader.specs.Reads.{got, deep, none};
 ghost use Rattle.fault_instructions.specs.Instructions.{constant_value, effect_tree, guard_tree, mode_tree, slice_tree, extension_tree, instruction_tree};
 ghost use Rattle.fault_reader.specs.Reads as part;
 
-use std::alloc::Global;
-use smv_expression_reader::cursor::Cursor;
-use smv_expression_reader::fault::BuildFault;
-use smv_expression_reader::mark::Mark;
+use base_values::{Dotted, Name};
 use fault_instructions::{
     Constant, Dynamics, Effect, Extension, ExtensionList, Instructions, MarkList, ModeList,
     ModeRule, Slice, SliceList, Start,
 };
+use smv_expression_reader::cursor::Cursor;
+use smv_expression_reader::fault::BuildFault;
+use smv_expression_reader::mark::Mark;
 use smv_language::Expr;
-use base_values::{Dotted, Name};
+use std::alloc::Global;
 
 /// A constant: a truth value, a name or a number.
 fn constant(alloc: Global, cursor: &mut Cursor) -> Result<Constant, BuildFault>

@@ -16,13 +16,13 @@ ghost use Rattle.fault_reader.specs.InstructionRead.{Sym, where_so, live, is_pla
 ghost use Rattle.fault_reader.specs.InstructionRead as g;
 ghost use Rattle.fault_reader.specs.InstructionPlaces.{single_view, head_view, mode_view, argument_view, place_view, word_view, after_word, begun_view, after_view, stepped, before_close, before_semicolon, Fits, word_ends, ends_at, ListReads};
 
-use std::alloc::Global;
+use base_values::OutOfMemory;
 use smv_expression_reader::frames::Frames;
 use smv_expression_reader::machine::{Mode, is_stuck, is_whole, step};
 use smv_expression_reader::mark::Mark;
 use smv_expression_reader::reading::Reading;
 use smv_expression_reader::token::TokenText;
-use base_values::OutOfMemory;
+use std::alloc::Global;
 
 /// A token that stands alone between others.
 #[derive(Clone, Copy, Debug, PartialEq, Eq)]

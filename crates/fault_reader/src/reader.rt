@@ -11,15 +11,15 @@ ghost use Rattle.fault_instructions.specs.SpellsInstructions.{BytesSpellInstruct
 
 use crate::build::file;
 use crate::place::read_through;
-use std::alloc::Global;
+use fault_instructions::Instructions;
 use smv_expression_reader::ParseFault;
 use smv_expression_reader::cursor::Cursor;
 use smv_expression_reader::fault::BuildFault;
 use smv_expression_reader::reader::{split, stop_at};
 use smv_expression_reader::reading::Reading;
 use smv_expression_reader::token::{TokenText, token_texts};
-use fault_instructions::Instructions;
 use smv_lexer::TokenList;
+use std::alloc::Global;
 
 /// Refuses what is no file of instructions.
 fn check(

@@ -12,8 +12,8 @@ ghost use Rattle.fault_rules.specs.declared.fault.Rule.TheVariants as broken;
 
 use crate::fault::{Rule, RuleFault};
 use crate::placed::item_after;
-use fault_instructions::{Extension, Instructions, ModeRule, Slice};
 use base_values::Name;
+use fault_instructions::{Extension, Instructions, ModeRule, Slice};
 
 /// The most faults, and the most modes of a slice.
 const LIMIT: usize = 256;

@@ -3,9 +3,9 @@
 
 ghost use Rattle.fault_rules.specs.OutOfMemory.{IsWant};
 
-use std::alloc::{AllocError, AllocFailed};
-use fault_instructions::EffectFault;
 use base_values::OutOfMemory;
+use fault_instructions::EffectFault;
+use std::alloc::{AllocError, AllocFailed};
 
 /// A rule that instructions break. Of two that an item breaks in one group, the one that stands first here
 /// is told.

@@ -27,10 +27,10 @@ use crate::modules::{Known, Local};
 use crate::placed::{Placed, item_after};
 use crate::targets::Targets;
 use crate::texts::Texts;
-use std::alloc::Global;
+use base_values::{Name, OutOfMemory};
 use fault_instructions::{Extension, Instructions, Slice, mode_variable, nominal_symbol, own_name};
 use smv_language::{Declared, Member, Program};
-use base_values::{Name, OutOfMemory};
+use std::alloc::Global;
 
 /// What the items so far have: the names that they add, slices, the variables that they affect, and the last
 /// item's number. The names of own values stand apart, since two own values may have one name, in two modules.

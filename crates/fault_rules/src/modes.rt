@@ -12,10 +12,10 @@ use crate::fault::{Rule, RuleFault};
 use crate::modules::Known;
 use crate::placed::item_after;
 use crate::texts::{After, Texts};
-use std::alloc::Global;
+use base_values::Name;
 use fault_instructions::{ModeRule, Slice, allowed};
 use smv_language::Declared;
-use base_values::Name;
+use std::alloc::Global;
 
 /// What the modes of a slice are judged by: the program, the names of own values, and what the slice's
 /// variable is declared to be.

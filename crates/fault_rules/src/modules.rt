@@ -14,10 +14,10 @@ ghost use Rattle.smv_language.specs.Values.{opposite};
 
 use crate::names::program_names;
 use crate::texts::Texts;
-use indexmap::IndexMap;
-use std::alloc::Global;
-use smv_language::{Decl, Declared, Define, Module, Program, Section};
 use base_values::{Name, OutOfMemory};
+use indexmap::IndexMap;
+use smv_language::{Decl, Declared, Define, Module, Program, Section};
+use std::alloc::Global;
 
 /// What a name is in its own module, as far as instructions ask: a formal, a variable of a VAR section, or
 /// something else that is declared.

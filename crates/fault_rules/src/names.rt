@@ -7,9 +7,9 @@ ghost use Rattle.fault_rules.specs.Keyed.{with_texts};
 ghost use Rattle.fault_rules.specs.Names.{member_names, type_names, decl_names, define_name, section_names, module_names, program_names as program_names_of};
 
 use crate::texts::Texts;
-use std::alloc::Global;
-use smv_language::{Decl, Declared, Define, Member, Module, Program, Section};
 use base_values::{Name, OutOfMemory};
+use smv_language::{Decl, Declared, Define, Member, Module, Program, Section};
+use std::alloc::Global;
 
 /// The names of a program.
 #[tactic(auto, using(crate::proofs::KeyedLaws::keyed_rules))]

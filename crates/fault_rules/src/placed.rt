@@ -3,9 +3,9 @@
 
 ghost use Rattle.std.specs.Prelude.{◌≡◌, ◌+◌, ◌^◌, ◌<◌, IfOk, IsOk};
 
+use base_values::{Name, OutOfMemory};
 use fault_instructions::Slice;
 use smv_language::Declared;
-use base_values::{Name, OutOfMemory};
 
 /// A slice with the module that it extends, what its variable is declared to be, and its item. Its modes
 /// are the items after it.

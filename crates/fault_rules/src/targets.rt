@@ -3,10 +3,10 @@
 ghost use Rattle.std.specs.Prelude.{◌≡◌, [], OnOk};
 ghost use Rattle.fault_rules.specs.Keyed.{is_pair_among, with_pair};
 
+use base_values::{Name, OutOfMemory};
 use indexmap::IndexSet;
 use std::alloc::Global;
 use std::marker::Model;
-use base_values::{Name, OutOfMemory};
 
 /// The variables that slices affect, each with its module.
 #[derive(Drop)]

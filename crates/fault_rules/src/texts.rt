@@ -12,11 +12,11 @@ ghost use Rattle.fault_rules.specs.Keyed.{with_text, with_texts};
 ghost use Rattle.fault_rules.specs.Faults.{mode_symbols};
 ghost use Rattle.fault_rules.specs.Steps.{is_step, step_to, step_from, walk_on, text_at, texts_in, texts_after, with_end, is_end_of, AreSteps, IsTree, Reaches, IsBeginning};
 
+use base_values::{Name, OutOfMemory};
+use fault_instructions::ModeRule;
 use indexmap::IndexSet;
 use std::alloc::Global;
 use std::marker::Model;
-use fault_instructions::ModeRule;
-use base_values::{Name, OutOfMemory};
 
 /// A set of texts, which contracts see as the list of its texts in the order in which each was first added. The step at
 /// an index leads to the place after that index, and `ends` has the places of the set's texts.

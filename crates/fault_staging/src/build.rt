@@ -12,11 +12,11 @@ ghost use Rattle.smv_flat_laws.specs.History.{added as added_tree};
 ghost use Rattle.smv_language.specs.ModelTree.{variable_tree, formula_tree, flat_tree};
 ghost use Rattle.fault_cause_laws.specs.Staged.{added_variable, value_of, whole as whole_tree, only as only_tree, zero_or_one as zero_or_one_tree};
 
-use std::alloc::Global;
+use base_values::{Dotted, Items, Name, OutOfMemory};
 use smv_language::copy_model::boxed;
 use smv_language::model::{Flat, Formula, Role, Variable};
 use smv_language::{Declared, Expr, Member, Op};
-use base_values::{Dotted, Items, Name, OutOfMemory};
+use std::alloc::Global;
 
 /// The value of a variable.
 pub(crate) fn value(variable: u32) -> Expr<Flat>

@@ -4,8 +4,8 @@
 
 ghost use Rattle.std.specs.Prelude.{◌≡◌, IfOk};
 
-use std::alloc::Global;
 use base_values::{FaultSet, Items, Name, OutOfMemory};
+use std::alloc::Global;
 
 /// Common causes, in the order of their file.
 pub type CauseList = Items<Cause>;

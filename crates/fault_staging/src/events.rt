@@ -19,11 +19,11 @@ use crate::build::{
 use crate::cause::Cause;
 use crate::names::numbered;
 use crate::staging::{in_window, stands};
-use std::alloc::Global;
-use smv_scope::items::number_of;
+use base_values::{Dotted, FaultSet, OutOfMemory};
 use smv_language::model::{Fault, FaultList, Flat, FlatModel, Formula};
 use smv_language::{Expr, Op};
-use base_values::{Dotted, FaultSet, OutOfMemory};
+use smv_scope::items::number_of;
+use std::alloc::Global;
 
 /// Adds the event of each fault, under the causes with the numbers of their ages.
 pub(crate) fn add_own_events(

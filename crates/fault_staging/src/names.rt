@@ -5,8 +5,8 @@
 ghost use Rattle.std.specs.Prelude.{◌≡◌, ◌++◌, IfOk};
 ghost use Rattle.std.specs.Fmt.{decimal};
 
-use std::alloc::Global;
 use base_values::{Items, Name, OutOfMemory};
+use std::alloc::Global;
 
 /// A text with another behind it, as a name.
 pub fn joined(alloc: Global, text: &[u8], end: &[u8]) -> Result<Name, OutOfMemory>

@@ -18,12 +18,12 @@ use crate::build::{
 use crate::cause::{Cause, CauseList};
 use crate::events::add_own_events;
 use crate::names::{joined, numbered};
-use std::alloc::Global;
-use smv_scope::items::number_of;
+use base_values::{Dotted, OutOfMemory};
 use smv_language::copy_model::copy_faults;
 use smv_language::model::{Fault, FaultList, Flat, FlatModel, Formula};
 use smv_language::{Declared, Expr, Op};
-use base_values::{Dotted, OutOfMemory};
+use smv_scope::items::number_of;
+use std::alloc::Global;
 
 /// A model with causes, and its events: each fault's own event, and then each cause's.
 #[derive(Drop)]

@@ -10,9 +10,9 @@ ghost use Rattle.fault_instructions.specs.Instructions.{instruction_tree, extens
 ghost use Rattle.fault_instructions.specs.KindTypes.{type_of_kind};
 ghost use Rattle.fault_weave.specs.Lookups.{affects as affects_in, variable_type as variable_type_of, type_in_decls, type_in_defines, type_in_section};
 
+use base_values::{Name, OutOfMemory};
 use fault_instructions::{Extension, Instructions, Slice};
 use smv_language::{Decl, Declared, Define, Module, Section};
-use base_values::{Name, OutOfMemory};
 
 /// Whether both names have the same text.
 pub fn has_text(x: &Name, y: &Name) -> bool

@@ -9,10 +9,10 @@ ghost use Rattle.fault_instructions.specs.Instructions.{instruction_tree, is_aff
 ghost use Rattle.fault_weave.specs.Woven.{rename, renaming, tree_map_both, trees_map_both, branches_map_both, woven_assignment, woven_section};
 
 use crate::lookup::is_affected;
-use std::alloc::Global;
+use base_values::{Dotted, Items, Name, OutOfMemory};
 use fault_instructions::{Instructions, own_name};
 use smv_language::{AssignList, Assignment, BranchList, Expr, ExprList, Section, SectionList};
-use base_values::{Dotted, Items, Name, OutOfMemory};
+use std::alloc::Global;
 
 /// The module's sections, with the names of own values.
 pub fn renamed_sections(

@@ -16,7 +16,7 @@ ghost use Rattle.fault_instructions.specs.Numbers.{TypeHasNegations};
 ghost use Rattle.fault_weave.specs.Woven.{set_one, guard_formula, entries as entries_tree, stay_branch as stay_tree, moves_tree, read_tree, mode_type, slice_variables as slice_variables_of, slice_assignments as slice_assignments_of, slice_rules, start_tree, start_rules, mode_rules as mode_rules_of};
 ghost use Rattle.fault_instructions.specs.WeaveNumbers.{ModeHasNegations, SliceHasNegations};
 
-use std::alloc::Global;
+use base_values::{Dotted, Items, Name, OutOfMemory};
 use fault_instructions::{
     Dynamics, ModeRule, Slice, Start, binary, branch, choice, first_rule, mode_symbol,
     mode_variable, named as name_expr, nominal_symbol, own_name, own_value, rule, set_of_one,
@@ -26,7 +26,7 @@ use smv_language::{
     AssignList, Assignment, BranchList, Decl, DeclList, Declared, Expr, ExprList, Member,
     MemberList, Moment, Op, SectionList,
 };
-use base_values::{Dotted, Items, Name, OutOfMemory};
+use std::alloc::Global;
 
 /// The declarations of the own value, which has the variable's type, and of the slice's state.
 pub fn slice_variables(alloc: Global, d: &Declared, s: &Slice) -> Result<DeclList, OutOfMemory>

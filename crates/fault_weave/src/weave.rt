@@ -11,10 +11,10 @@ ghost use Rattle.fault_instructions.specs.WeaveNumbers.{ExtensionHasNegations, S
 use crate::lookup::{has_text, target_type};
 use crate::rename::renamed_sections;
 use crate::slices::{add_rules, slice_assignments, slice_variables};
-use std::alloc::Global;
+use base_values::{Items, OutOfMemory};
 use fault_instructions::{Extension, Instructions, Slice};
 use smv_language::{Module, ModuleList, Program, Section, SectionList};
-use base_values::{Items, OutOfMemory};
+use std::alloc::Global;
 
 /// The program woven with the instructions: in each module that a slice affects, the names of own values
 /// where the nominal text says what a variable is, and at its end the sections of each slice.

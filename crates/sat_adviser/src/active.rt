@@ -3,10 +3,10 @@ ghost use Rattle.std.specs.Prelude.{◌≡◌};
 ghost use Rattle.base_values.specs.Counts.{next_count};
 
 use crate::adviser::Adviser;
+use base_values::OutOfMemory;
+use sat_clauses::lit::Lit;
 use std::alloc::Global;
 use std::marker::Model;
-use sat_clauses::lit::Lit;
-use base_values::OutOfMemory;
 
 // How many literals are remembered at most.
 const MOST: u64 = 256;

@@ -8,8 +8,8 @@ ghost use Rattle.std.specs.Option.{option_map};
 ghost use Rattle.base_values.specs.Counts.{next_count};
 
 use crate::news::News;
-use sat_clauses::lit::Lit;
 use base_values::OutOfMemory;
+use sat_clauses::lit::Lit;
 
 /// What suggests free choices. Any answers are lawful, and every call but `ready` succeeds.
 pub trait Adviser: Drop {

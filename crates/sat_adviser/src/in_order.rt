@@ -5,9 +5,9 @@ ghost use Rattle.base_values.specs.Counts.{next_count};
 
 use crate::adviser::Adviser;
 use crate::round::place_after;
-use std::marker::Model;
-use sat_clauses::lit::Lit;
 use base_values::OutOfMemory;
+use sat_clauses::lit::Lit;
+use std::marker::Model;
 
 /// Answers the codes of the negated variables 1, 2 and so on, over and over.
 #[derive(Drop)]

@@ -15,8 +15,8 @@ ghost use Rattle.base_values.specs.Counts.{next_count};
 use crate::adviser::Adviser;
 use crate::news::News;
 use crate::round::place_after;
-use sat_clauses::lit::Lit;
 use base_values::OutOfMemory;
+use sat_clauses::lit::Lit;
 
 /// An adviser of a caller.
 pub type Boxed = Box<dyn Adviser>;

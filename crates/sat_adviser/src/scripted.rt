@@ -5,9 +5,9 @@ ghost use Rattle.base_values.specs.Counts.{next_count};
 
 use crate::adviser::Adviser;
 use crate::round::place_after;
-use std::marker::Model;
-use sat_clauses::lit::Lit;
 use base_values::{Items, OutOfMemory};
+use sat_clauses::lit::Lit;
+use std::marker::Model;
 
 /// A list of codes, or of any numbers.
 pub type CodeList = Items<u64>;

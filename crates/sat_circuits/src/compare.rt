@@ -13,9 +13,9 @@ ghost use Rattle.sat_circuits.specs.Sums.{less_gates, equal_step, equal_gates};
 use crate::gates::Gates;
 use crate::sums::difference;
 use crate::word::{Word, fitted, sign};
-use std::alloc::Global;
-use sat_clauses::lit::Lit;
 use base_values::OutOfMemory;
+use sat_clauses::lit::Lit;
+use std::alloc::Global;
 
 /// `less` at any width for which there is room.
 pub(crate) fn is_less(alloc: Global, g: &mut Gates, a: &Word, b: &Word) -> Result<Lit, OutOfMemory>

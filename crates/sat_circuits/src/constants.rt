@@ -9,8 +9,8 @@ ghost use Rattle.sat_circuits.specs.Numbers.{number_word};
 
 use crate::gates::Gates;
 use crate::word::{Word, fitted};
-use std::alloc::Global;
 use base_values::{Items, OutOfMemory};
+use std::alloc::Global;
 
 /// The word of a number, at the fewest literals that hold it, each of them a constant.
 pub fn number(alloc: Global, g: &Gates, n: i64) -> Result<Word, OutOfMemory>

@@ -9,9 +9,9 @@ ghost use Rattle.sat_circuits.specs.Counts.{count_gate, count_step, at_most_gate
 
 use crate::gates::Gates;
 use crate::word::{Word, falses, sign};
-use std::alloc::Global;
-use sat_clauses::lit::Lit;
 use base_values::{Items, OutOfMemory};
+use sat_clauses::lit::Lit;
+use std::alloc::Global;
 
 /// One counter: `more` said that so many literals were true, and `fewer` one less; `l` is one more
 /// literal.

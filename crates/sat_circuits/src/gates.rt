@@ -10,11 +10,11 @@ ghost use Rattle.sat_circuits.specs.Circuit.{Circuit, with_gate};
 ghost use Rattle.sat_circuits.specs.Gates.{and_gate, or_gate, xor_gate, mux_gate, constant_lit, differ};
 ghost use Rattle.sat_circuits.specs.Meaning.{GivesBool, StopsWithin, HasTruth};
 
-use std::alloc::Global;
-use std::marker::Model;
+use base_values::OutOfMemory;
 use sat_clauses::clause::{Clause, ClauseList};
 use sat_clauses::lit::Lit;
-use base_values::OutOfMemory;
+use std::alloc::Global;
+use std::marker::Model;
 
 /// Clauses under construction, and the next variable to be defined, which is below 2^31. The first
 /// clause makes the variable 1 true.

@@ -11,9 +11,9 @@ ghost use Rattle.sat_circuits.specs.Products.{multiply_gates, product_gates, row
 use crate::gates::Gates;
 use crate::sums::sum;
 use crate::word::{Word, falses, fitted};
-use std::alloc::Global;
-use sat_clauses::lit::Lit;
 use base_values::OutOfMemory;
+use sat_clauses::lit::Lit;
+use std::alloc::Global;
 
 /// The lowest literals of `a`, `shift` places up, where `b` is true.
 fn shifted_row(

@@ -10,9 +10,9 @@ use crate::compare::is_less;
 use crate::gates::Gates;
 use crate::sums::{difference, negation};
 use crate::word::{Word, falses, fitted, sign};
-use std::alloc::Global;
-use sat_clauses::lit::Lit;
 use base_values::{Items, OutOfMemory};
+use sat_clauses::lit::Lit;
+use std::alloc::Global;
 
 /// The first word where `c` is true, and else the second: a mux for each pair of their literals.
 pub fn choose(

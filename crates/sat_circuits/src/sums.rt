@@ -11,9 +11,9 @@ ghost use Rattle.sat_circuits.specs.Sums.{full_adder, sum_gates, add_gates, subt
 
 use crate::gates::Gates;
 use crate::word::{Word, fitted, opposites};
-use std::alloc::Global;
-use sat_clauses::lit::Lit;
 use base_values::{Items, OutOfMemory};
+use sat_clauses::lit::Lit;
+use std::alloc::Global;
 
 /// The sum bit and the carry of three literals.
 fn full_add(g: &mut Gates, x: Lit, y: Lit, carry: Lit) -> Result<(Lit, Lit), OutOfMemory>

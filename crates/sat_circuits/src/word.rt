@@ -7,9 +7,9 @@ ghost use Rattle.sat_clauses.specs.Literal.{opposite};
 ghost use Rattle.sat_circuits.specs.Words.{fit, sign_of, zeros};
 
 use crate::gates::Gates;
-use std::alloc::Global;
-use sat_clauses::lit::Lit;
 use base_values::{Items, OutOfMemory};
+use sat_clauses::lit::Lit;
+use std::alloc::Global;
 
 /// A list of literals, the least significant first, the last one the sign: a number in two's
 /// complement, bit by bit.

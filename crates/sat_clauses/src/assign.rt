@@ -8,9 +8,9 @@ ghost use Rattle.std.specs.Prelude.{◌≡◌, ◌+◌, ◌<◌, ◌^◌, length
 ghost use Rattle.sat_clauses.specs.Assignment.{all_free, IsInRange, value_of, made_true};
 
 use crate::lit::Lit;
+use base_values::OutOfMemory;
 use std::alloc::Global;
 use std::marker::Model;
-use base_values::OutOfMemory;
 
 /// A value for some of the variables from 1 to the highest, which is below 2^62; the others are free. It
 /// has one place for each variable, and none of its calls looks at more than one.

@@ -18,9 +18,9 @@ use crate::clause_store::ClauseStore;
 use crate::hints::{follow, has_no_opposites};
 use crate::lit::{Lit, are_up_to};
 use crate::step::{Step, StepFault};
+use base_values::OutOfMemory;
 use std::alloc::Global;
 use std::marker::Model;
-use base_values::OutOfMemory;
 
 /// A list of clauses, numbered from 1, to which given clauses and derivation steps add.
 #[derive(Drop)]

@@ -4,9 +4,9 @@ ghost use Rattle.sat_clauses.specs.Assignment.{all_free, IsInRange, value_of, ma
 
 use crate::assign::Assign;
 use crate::lit::Lit;
+use base_values::OutOfMemory;
 use std::alloc::Global;
 use std::marker::Model;
-use base_values::OutOfMemory;
 
 /// An assignment that can be made free again at a cost by the number of variables that have a value,
 /// and not by that of all variables.

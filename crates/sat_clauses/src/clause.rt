@@ -6,10 +6,10 @@
 ghost use Rattle.std.specs.Prelude.{◌≡◌, ◌<◌, [], ◌∷◌, ◌++◌, length, IfOk, OnOk, OnErr, ◌↔◌, IsTrue, Some, slice_get};
 
 use crate::lit::Lit;
+use base_values::OutOfMemory;
 use smallvec::SmallVec;
 use std::alloc::Global;
 use std::marker::Model;
-use base_values::OutOfMemory;
 
 /// What a clause is under an assignment that may leave variables free.
 #[derive(Clone, Copy, Debug, PartialEq, Eq)]

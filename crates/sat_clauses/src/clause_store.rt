@@ -2,9 +2,9 @@
 ghost use Rattle.std.specs.Prelude.{◌≡◌, ◌↔◌, ◌+◌, ◌<◌, ◌≤◌, [], ◌∷◌, ◌++◌, length, IsTrue, OnOk, OnErr, Some, slice_get};
 
 use crate::lit::Lit;
+use base_values::OutOfMemory;
 use std::alloc::Global;
 use std::marker::Model;
-use base_values::OutOfMemory;
 
 /// Where the literals of one clause lie, from `start` up to but not including `end`.
 #[derive(Clone, Copy)]

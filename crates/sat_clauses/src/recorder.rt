@@ -6,9 +6,9 @@ ghost use Rattle.std.specs.Prelude.{◌≡◌, ◌<◌, ◌↔◌, IsTrue, [], �
 ghost use Rattle.std.specs.Option.{option_map};
 
 use crate::step::Step;
+use base_values::OutOfMemory;
 use std::alloc::Global;
 use std::marker::Model;
-use base_values::OutOfMemory;
 
 /// What is handed the steps of a search, one after the other. A search does not know who listens.
 pub trait Recorder {

@@ -15,9 +15,9 @@ use crate::clause::{Clause, ClauseList, Truth};
 use crate::lit::{Lit, contains};
 use crate::trail::Trail;
 use crate::truth::truth_of_lits;
+use base_values::OutOfMemory;
 use std::alloc::Global;
 use std::marker::Model;
-use base_values::OutOfMemory;
 
 /// A list of clauses and a trail. Where a call answers want of memory, nothing has changed. A clause may
 /// hold a literal twice, or with its opposite, and may be appended under any trail.

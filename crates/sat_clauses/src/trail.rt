@@ -5,9 +5,9 @@ ghost use Rattle.sat_clauses.specs.Trail.{assigned_by, IsTrail};
 
 use crate::assign::Assign;
 use crate::lit::Lit;
+use base_values::OutOfMemory;
 use std::alloc::Global;
 use std::marker::Model;
-use base_values::OutOfMemory;
 
 /// Literals without a variable twice, in the order in which they were made true. Its making and `more`
 /// make the room for all, so that no other call takes memory.

@@ -21,17 +21,17 @@ ghost use Rattle.sat_encoding.specs.Copies.{source_model, IsSource};
 
 use crate::layout::literals_from;
 use crate::lists::{Source, holds, source_of, state_gates};
-use std::alloc::Global;
+use base_values::{Items, OutOfMemory, SetList};
 use sat_circuits::counts::at_most;
 use sat_circuits::gates::Gates;
 use sat_circuits::word::Word;
-use sat_expressions::names::{Names, SignalList};
 use sat_clauses::clause::{Clause, ClauseList};
 use sat_clauses::lit::Lit;
+use sat_expressions::names::{Names, SignalList};
 use smv_language::Expr;
 use smv_language::model::Flat;
 use smv_types::Typed;
-use base_values::{Items, OutOfMemory, SetList};
+use std::alloc::Global;
 
 /// The clauses that are true with the states at which the top event is TRUE, that have failed at most
 /// `size` of the faults, whose history bits are the last `faults` variables, and all of none of the listed

@@ -15,11 +15,11 @@ ghost use Rattle.sat_encoding.specs.Domains.{domain_interval};
 ghost use Rattle.sat_encoding.specs.Values.{StandFor, HasState, HasMoment, values_in, bits_at, bits_number, has_sign, value_of, as_symbol, last_digit, domain_read, least_in, values_read};
 
 use crate::layout::{domain_width, ends_of, places_now};
+use base_values::{Domain, Valuation, Value};
 use sat_clauses::assign::Assign;
 use sat_clauses::lit::Lit;
 use smv_language::model::Role;
 use smv_types::Typed;
-use base_values::{Domain, Valuation, Value};
 
 /// Gives the variables the values whose bits an assignment has. Takes no memory.
 pub fn valuation_of(t: &Typed, a: &Assign, into: &mut Valuation)

@@ -21,17 +21,17 @@ ghost use Rattle.sat_expressions.specs.Built.{signal_of, signals_of, BuildsLiter
 ghost use Rattle.sat_encoding.specs.Domains.{asserted_literal, some_gates, symbol_word, domain_gates};
 ghost use Rattle.sat_encoding.specs.Copies.{Builds};
 
-use std::alloc::Global;
+use base_values::{Domain, OutOfMemory};
 use sat_circuits::constants::{number, number_at};
 use sat_circuits::gates::Gates;
 use sat_circuits::word::Word;
+use sat_clauses::lit::Lit;
 use sat_expressions::names::SignalList;
 use sat_expressions::operator::either;
 use sat_expressions::signal::{Signal, between, same};
-use sat_clauses::lit::Lit;
 use smv_language::model::Role;
 use smv_types::Typed;
-use base_values::{Domain, OutOfMemory};
+use std::alloc::Global;
 
 /// The variables with these signals have values of their domains: all, or those that are no inputs.
 pub(crate) fn domains(

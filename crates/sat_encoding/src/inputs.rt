@@ -7,10 +7,10 @@ ghost use Rattle.smv_language.specs.ModelTree.{leaf_of, flat_tree, model_tree, v
 ghost use Rattle.sat_encoding_laws.specs.Inputs.{is_input_variable, is_flagged, reading_after};
 ghost use Rattle.sat_encoding.specs.Reading.{names_read, tree_any, trees_any, branches_any};
 
-use std::alloc::Global;
+use base_values::OutOfMemory;
 use smv_language::Expr;
 use smv_language::model::{Flat, FlatModel, Role, Variable};
-use base_values::OutOfMemory;
+use std::alloc::Global;
 
 /// What is known of reading inputs: the model's variables, and for each definition whether it reads one.
 #[derive(Drop)]

@@ -9,15 +9,15 @@ ghost use Rattle.sat_encoding_laws.specs.Layout.{literals_from, with_sign, numbe
 ghost use Rattle.sat_expressions.specs.Built.{signal_of, signals_of};
 ghost use Rattle.sat_encoding.specs.Domains.{domain_interval, domain_width, value_width, domain_signal, places_after, capped};
 
-use std::alloc::Global;
+use base_values::{Domain, Items, OutOfMemory};
 use sat_circuits::word::{Word, fitted};
+use sat_clauses::lit::Lit;
 use sat_expressions::names::SignalList;
 use sat_expressions::signal::Signal;
 use sat_expressions::width::word_width;
-use sat_clauses::lit::Lit;
 use smv_language::model::Role;
 use smv_types::{Ends, Typed, ends_width, widened, width};
-use base_values::{Domain, Items, OutOfMemory};
+use std::alloc::Global;
 
 /// The least and the greatest number of a domain, where symbols are their numbers. Truth values have none.
 pub(crate) fn ends_of(domain: &Domain) -> Option<Ends>

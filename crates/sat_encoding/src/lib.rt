@@ -34,8 +34,8 @@ mod setting;
 pub use bad::{bad_clauses, history_literals, unlisted_clause};
 pub use bits::{state_of, valuation_of};
 pub use lists::{encode, first_gates, step_gates};
-pub use setting::bits_of;
 pub use sat_clauses::System;
+pub use setting::bits_of;
 
 /// The bits of a model's history are its last variables.
 pub fn history_is_last()

@@ -21,19 +21,19 @@ ghost use Rattle.sat_encoding.specs.Copies.{source_model, IsSource, IsRightFormu
 use crate::domains::domains;
 use crate::inputs::{Reading, reading_of, reads_input};
 use crate::layout::{Places, input_bits, places_next, places_now, variable_signals};
-use std::alloc::Global;
+use base_values::{Items, OutOfMemory};
 use sat_circuits::gates::Gates;
+use sat_clauses::System;
+use sat_clauses::clause::ClauseList;
 use sat_expressions::expression::expression;
 use sat_expressions::names::{Copied, Names, SignalList};
 use sat_expressions::part::Asked;
 use sat_expressions::signal::Signal;
 use sat_expressions::width::symbol_width;
-use sat_clauses::System;
-use sat_clauses::clause::ClauseList;
 use smv_language::Expr;
 use smv_language::model::{Flat, FlatModel, Formula};
 use smv_types::Typed;
-use base_values::{Items, OutOfMemory};
+use std::alloc::Global;
 
 /// What all lists of a model are made from.
 #[derive(Drop)]

@@ -12,10 +12,10 @@ ghost use Rattle.sat_encoding_laws.specs.Encodable.{IsEncodable};
 ghost use Rattle.sat_encoding.specs.Values.{StandFor, IsElsewhere, Gives, AreFree, IsFreeMoment, number_of, with_bits, bits_set};
 
 use crate::layout::{domain_width, places_now};
+use base_values::{Valuation, Value};
 use sat_clauses::assign::Assign;
 use sat_clauses::lit::Lit;
 use smv_types::Typed;
-use base_values::{Valuation, Value};
 
 /// Gives the bits of a valuation now to the variables of its state and of its inputs, which are free before;
 /// no other variable changes. Takes no memory.

@@ -13,11 +13,11 @@ use crate::choices::choices;
 use crate::names::{Names, SignalList};
 use crate::part::{Part, joined_sort, sort_or_truth, truth};
 use crate::width::sort_width;
-use std::alloc::Global;
+use base_values::{Items, OutOfMemory};
 use sat_circuits::gates::Gates;
 use sat_circuits::word::Word;
 use smv_types::Sort;
-use base_values::{Items, OutOfMemory};
+use std::alloc::Global;
 
 /// The conditions of a case's branches, but the last, their values, and what is known of all of these.
 #[derive(Drop)]

@@ -11,10 +11,10 @@ ghost use Rattle.sat_expressions.specs.Built.{signals_of, BuildsSignal};
 ghost use Rattle.sat_expressions.specs.Choices.{chosen_gates};
 
 use crate::signal::{Signal, choice};
-use std::alloc::Global;
+use base_values::OutOfMemory;
 use sat_circuits::gates::Gates;
 use sat_clauses::lit::Lit;
-use base_values::OutOfMemory;
+use std::alloc::Global;
 
 /// The choices between values by conditions, one fewer, from the last but one to the first, at that width.
 pub fn choices(

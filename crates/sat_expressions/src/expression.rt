@@ -15,12 +15,12 @@ use crate::part::{
     Asked, Form, Part, answer, applied_part, as_truth, chosen_part, form_of, leaf_part,
     negated_part, not_part, number_part, or_part, span_part, truth, truth_part, union_part,
 };
-use std::alloc::Global;
+use base_values::OutOfMemory;
 use sat_circuits::gates::Gates;
 use sat_clauses::lit::Lit;
 use smv_language::Expr;
 use smv_language::model::Flat;
-use base_values::OutOfMemory;
+use std::alloc::Global;
 
 /// An expression's value, or whether that of a signal is among its values, as on the right of `in`.
 #[cycle(encode)]

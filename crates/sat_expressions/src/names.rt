@@ -16,12 +16,12 @@ ghost use Rattle.sat_expressions.specs.Built.{signal_of, signals_of};
 ghost use Rattle.sat_expressions.specs.Naming.{copy_of, model_of, IsNamed};
 
 use crate::signal::Signal;
-use std::alloc::Global;
+use base_values::{Items, OutOfMemory};
 use sat_circuits::constants::number_at;
 use sat_circuits::gates::Gates;
 use smv_language::model::Flat;
 use smv_types::{Sort, Typed};
-use base_values::{Items, OutOfMemory};
+use std::alloc::Global;
 
 /// Signals, by numbers from 0.
 pub type SignalList = Items<Signal>;

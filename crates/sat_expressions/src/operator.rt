@@ -17,14 +17,14 @@ ghost use Rattle.sat_expressions.specs.Built.{signal_of, BuildsLiteral, BuildsSi
 
 use crate::room::{check_room, check_width};
 use crate::signal::{Signal, is_less, same};
-use std::alloc::Global;
+use base_values::OutOfMemory;
 use sat_circuits::gates::Gates;
 use sat_circuits::products::multiply;
 use sat_circuits::quotients::{divide, remainder};
 use sat_circuits::sums::{add, negate, subtract};
 use sat_clauses::lit::Lit;
 use smv_language::Op;
-use base_values::OutOfMemory;
+use std::alloc::Global;
 
 /// An operator on two values; a number has that width. `union` and `in` have no gates of their own.
 pub fn operator(

@@ -23,14 +23,14 @@ use crate::names::Names;
 use crate::operator::{either, negated, operator};
 use crate::signal::{Signal, between, choice, same};
 use crate::width::sort_width;
-use std::alloc::Global;
+use base_values::OutOfMemory;
 use sat_circuits::constants::number;
 use sat_circuits::gates::Gates;
 use sat_clauses::lit::Lit;
 use smv_language::Op;
 use smv_language::model::Flat;
 use smv_types::{Class, Sort, joined, kept, literal, negative, operation};
-use base_values::OutOfMemory;
+use std::alloc::Global;
 
 /// What is asked of an expression: its value, or whether that of a signal is among its values.
 #[derive(Clone, Copy)]

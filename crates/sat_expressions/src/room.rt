@@ -3,9 +3,9 @@
 
 ghost use Rattle.std.specs.Prelude.{◌≤◌, ◌-◌, ◌^◌, length, IsOk, OnOk};
 
+use base_values::OutOfMemory;
 use sat_circuits::gates::Gates;
 use sat_circuits::word::Word;
-use base_values::OutOfMemory;
 
 /// Any one operation still has its variables.
 pub fn check_room(g: &Gates) -> Result<(), OutOfMemory>

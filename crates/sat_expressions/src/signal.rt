@@ -16,14 +16,14 @@ ghost use Rattle.sat_encoding_laws.specs.Meanings.{IsSignal};
 ghost use Rattle.sat_expressions.specs.Built.{signal_of, IsSigned, BuildsLiteral, BuildsSignal};
 
 use crate::room::{check_narrow, check_room, check_width};
-use std::alloc::Global;
+use base_values::{Items, OutOfMemory};
 use sat_circuits::compare::{equal, less};
 use sat_circuits::constants::number;
 use sat_circuits::gates::Gates;
 use sat_circuits::quotients::choose;
 use sat_circuits::word::{Word, fitted};
 use sat_clauses::lit::Lit;
-use base_values::{Items, OutOfMemory};
+use std::alloc::Global;
 
 /// A truth value is a literal, and a number or a symbol is a word.
 #[derive(Drop)]

@@ -1,10 +1,10 @@
 //! What is learned from a clause that is false, and which assumptions refute another one.
 use crate::clauses::{at, exchange, put, small};
 use crate::kernel::Kernel;
+use base_values::OutOfMemory;
 use sat_clauses::clause::Clause;
 use sat_clauses::lit::Lit;
 use sat_clauses::step::{HintList, Step};
-use base_values::OutOfMemory;
 
 /// The literal with a code, where it is one.
 pub fn literal(code: u32) -> Option<Lit> {

@@ -1,6 +1,6 @@
 //! The clauses of a kernel: codes of literals, one clause behind the other, and the lists of those that watch a literal.
-use std::alloc::Global;
 use base_values::OutOfMemory;
+use std::alloc::Global;
 
 /// A clause.
 #[derive(Clone, Copy)]

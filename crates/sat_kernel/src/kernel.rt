@@ -4,11 +4,11 @@ ghost use Rattle.std.specs.Prelude.{◌≡◌, ◌<◌, ◌^◌};
 use crate::analysis::literal;
 use crate::clauses::{Clauses, at, exchange, put, small};
 use crate::trail::{FALSE, FREE, TRUE, Trail};
-use std::alloc::Global;
+use base_values::OutOfMemory;
 use sat_adviser::Panel;
 use sat_clauses::lit::Lit;
 use sat_clauses::step::Step;
-use base_values::OutOfMemory;
+use std::alloc::Global;
 
 /// How many learned clauses are kept from one question to the next.
 const MOST_LESSONS: usize = 1000;

@@ -1,7 +1,7 @@
 //! What a kernel made true: the literals in order, with the level, the reason and the place of each variable.
 use crate::clauses::{at, put, small};
-use std::alloc::Global;
 use base_values::OutOfMemory;
+use std::alloc::Global;
 
 /// Nothing is known of the literal.
 pub const FREE: u8 = 0;

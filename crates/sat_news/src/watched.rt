@@ -1,10 +1,10 @@
 //! The adviser that prints news.
 ghost use Rattle.std.specs.Prelude.{◌≡◌};
 
-use std::io;
+use base_values::OutOfMemory;
 use sat_adviser::{Adviser, News};
 use sat_clauses::lit::Lit;
-use base_values::OutOfMemory;
+use std::io;
 
 /// An adviser that advises as another one, and prints the news of the search on standard error.
 #[derive(Drop)]

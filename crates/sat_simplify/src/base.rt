@@ -12,10 +12,10 @@ ghost use Rattle.sat_simplify.specs.Based.{IsSound, Becomes, Adds, AddsAll, Take
 use crate::occurrences::Occurrences;
 use crate::resolving::resolve_all;
 use crate::slots::{count_each, cover_each, drop_each, gather, shrink_each, slot_covered};
-use std::alloc::Global;
+use base_values::OutOfMemory;
 use sat_clauses::clause::{Clause, ClauseList};
 use sat_clauses::lit::Lit;
-use base_values::OutOfMemory;
+use std::alloc::Global;
 
 /// The most products of occurrences of a variable and of its negation with which it is eliminated.
 pub const PRODUCT: usize = 16;

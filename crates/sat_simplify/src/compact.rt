@@ -7,10 +7,10 @@ ghost use Rattle.std.specs.Prelude.{◌≡◌, ◌<◌, ◌^◌, IfOk, OnOk, All
 ghost use Rattle.sat_simplify.specs.Meeting.{AreMetAlike, HasNoHigherVariable};
 ghost use Rattle.sat_simplify.specs.Compacting.{KeepsMarks, IsMarked, HasMarked, gap_after, gaps, compacted_literal, compacted_clause, compacted_list};
 
-use std::alloc::Global;
+use base_values::OutOfMemory;
 use sat_clauses::clause::{Clause, ClauseList};
 use sat_clauses::lit::Lit;
-use base_values::OutOfMemory;
+use std::alloc::Global;
 
 // Makes a place for each number up to this one.
 #[tactic(auto, using(crate::proofs::CompactMarks::marks_grown, crate::proofs::CompactMarks::marks_itself, crate::proofs::CompactMarks::marks_all))]

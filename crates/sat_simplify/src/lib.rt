@@ -32,9 +32,9 @@ mod queue;
 mod resolving;
 mod slots;
 
-use std::alloc::Global;
-use sat_clauses::clause::{Clause, ClauseList};
 use base_values::OutOfMemory;
+use sat_clauses::clause::{Clause, ClauseList};
+use std::alloc::Global;
 
 /// A list of clauses that is met with the same values of the variables 2 to `places` as this one. Its variables above
 /// the places are numbered without gaps, and none is higher than in this list. Takes memory for each number up to the

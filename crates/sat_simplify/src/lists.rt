@@ -11,10 +11,10 @@ ghost use Rattle.sat_simplify.specs.Based.{IsEntered};
 use crate::base::Base;
 use crate::literals::each_once;
 use crate::resolving::push_open;
-use std::alloc::Global;
+use base_values::OutOfMemory;
 use sat_clauses::clause::{Clause, ClauseList};
 use sat_clauses::lit::Lit;
-use base_values::OutOfMemory;
+use std::alloc::Global;
 
 // A clause with each literal once, or none if it is a tautology.
 fn entered(alloc: Global, lits: &[Lit]) -> Result<ClauseList, OutOfMemory>

@@ -5,10 +5,10 @@
 ghost use Rattle.std.specs.Prelude.{◌≡◌, ◌++◌, ◌∷◌, [], IfOk, OnOk};
 ghost use Rattle.sat_simplify.specs.Resolution.{has_literal, is_tautology as tautology, joined, each_once as once, resolvent as resolved, with_literal, without as rest_of};
 
-use std::alloc::Global;
+use base_values::OutOfMemory;
 use sat_clauses::clause::Clause;
 use sat_clauses::lit::Lit;
-use base_values::OutOfMemory;
+use std::alloc::Global;
 
 /// Whether the literal is one of these.
 pub fn has(lits: &[Lit], lit: Lit) -> bool

@@ -5,10 +5,10 @@ ghost use Rattle.std.specs.Prelude.{◌≡◌, ◌<◌, ◌++◌, ◌∷◌, [],
 ghost use Rattle.sat_clauses.specs.Code.{code_of};
 ghost use Rattle.sat_simplify.specs.Occurring.{noted_at, KeepsNotes, IsNotedAt, HasNoted};
 
+use base_values::OutOfMemory;
+use sat_clauses::lit::Lit;
 use std::alloc::Global;
 use std::marker::Model;
-use sat_clauses::lit::Lit;
-use base_values::OutOfMemory;
 
 /// A list of numbers.
 #[derive(Drop)]

@@ -9,9 +9,9 @@ ghost use Rattle.std.specs.Prelude.{OnOk};
 
 use crate::base::Base;
 use crate::queue::{MANY, Queue};
+use base_values::OutOfMemory;
 use sat_clauses::clause::Clause;
 use sat_clauses::lit::Lit;
-use base_values::OutOfMemory;
 
 /// How many rounds there are at most.
 pub const ROUNDS: u32 = 8;

@@ -1,9 +1,9 @@
 //! A queue of variables in which those with the fewest clauses come first.
 //!
 //! To eliminate such a variable costs the least and leaves the shortest resolvents. No proof depends on the order.
-use std::alloc::Global;
-use sat_clauses::lit::Lit;
 use base_values::OutOfMemory;
+use sat_clauses::lit::Lit;
+use std::alloc::Global;
 
 /// From how many clauses on variables are no longer told apart.
 pub const MANY: usize = 64;

@@ -6,10 +6,10 @@ ghost use Rattle.std.specs.Prelude.{◌≡◌, ◌++◌, IfOk, OnOk, IfSome, tru
 ghost use Rattle.sat_simplify.specs.Elimination.{resolvents, resolvents_with, unless_tautology};
 
 use crate::literals::{is_tautology, resolvent};
-use std::alloc::Global;
+use base_values::OutOfMemory;
 use sat_clauses::clause::{Clause, ClauseList};
 use sat_clauses::lit::Lit;
-use base_values::OutOfMemory;
+use std::alloc::Global;
 
 /// The most literals of a resolvent.
 pub const LONGEST: usize = 10;

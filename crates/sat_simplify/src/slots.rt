@@ -7,10 +7,10 @@ ghost use Rattle.sat_simplify.specs.Changes.{changed, changed_at, covered, dropp
 ghost use Rattle.sat_simplify.specs.Resolution.{subsumes};
 
 use crate::literals::{has, without};
-use std::alloc::Global;
+use base_values::OutOfMemory;
 use sat_clauses::clause::{Clause, ClauseList};
 use sat_clauses::lit::Lit;
-use base_values::OutOfMemory;
+use std::alloc::Global;
 
 // Whether a slot's clause has the literal.
 fn slot_has(slot: &Option<Clause>, lit: Lit) -> bool

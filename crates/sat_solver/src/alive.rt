@@ -8,10 +8,10 @@ ghost use Rattle.sat_solver.specs.Alive.{IsAlive};
 
 use crate::arena::Arena;
 use crate::proposed::is_learned;
-use std::alloc::Global;
-use sat_kernel::Kernel;
-use sat_clauses::store::Store;
 use base_values::OutOfMemory;
+use sat_clauses::store::Store;
+use sat_kernel::Kernel;
+use std::alloc::Global;
 
 /// Clauses that stay.
 #[derive(Drop)]

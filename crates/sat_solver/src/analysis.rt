@@ -12,13 +12,13 @@ ghost use Rattle.sat_solver.specs.Analysis.{marked, is_decision, is_alone, may_r
 
 use crate::clauses::lits;
 use crate::trail::{Entry, Reason, Trail};
-use std::alloc::Global;
-use std::marker::Model;
+use base_values::OutOfMemory;
 use sat_clauses::clause::Clause;
 use sat_clauses::lit::Lit;
 use sat_clauses::step::{HintList, Step};
 use sat_clauses::store::Store;
-use base_values::OutOfMemory;
+use std::alloc::Global;
+use std::marker::Model;
 
 /// A flag for each variable.
 #[derive(Drop)]

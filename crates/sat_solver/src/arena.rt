@@ -9,14 +9,14 @@ ghost use Rattle.sat_solver.specs.Threads.{at};
 use crate::pass::pass;
 use crate::pick::pick;
 use crate::threads::Threads;
-use std::alloc::Global;
-use std::marker::Model;
+use base_values::OutOfMemory;
 use sat_clauses::assign::Assign;
 use sat_clauses::clause_store::ClauseStore;
 use sat_clauses::lit::Lit;
 use sat_clauses::store::Store;
 use sat_clauses::trail::Trail;
-use base_values::OutOfMemory;
+use std::alloc::Global;
+use std::marker::Model;
 
 /// A flat store of clauses with two watched literals.
 #[derive(Drop)]

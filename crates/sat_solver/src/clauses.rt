@@ -7,10 +7,10 @@ ghost use Rattle.std.specs.Prelude.{◌≡◌, ◌+◌, ◌<◌, [], ◌∷◌, 
 ghost use Rattle.sat_clauses.specs.Models.{ClauseBelow};
 ghost use Rattle.sat_clauses.specs.Derivation.{IsUpTo};
 
+use base_values::OutOfMemory;
 use sat_clauses::clause::ClauseList;
 use sat_clauses::lit::Lit;
 use sat_clauses::store::Store;
-use base_values::OutOfMemory;
 
 /// How many clauses there are.
 pub fn len<S: Store>(store: &S) -> usize

@@ -11,10 +11,10 @@ ghost use Rattle.sat_solver.specs.Complete.{IsFilled, IsCompletion, WouldBeTrue,
 
 use crate::clauses::{len, lits};
 use crate::trail::Trail;
+use base_values::OutOfMemory;
 use sat_clauses::assign::Assign;
 use sat_clauses::lit::Lit;
 use sat_clauses::store::Store;
-use base_values::OutOfMemory;
 
 // Whether a literal is true once each free variable is false.
 fn would_be_true(lit: Lit, assign: &Assign) -> bool

@@ -9,9 +9,9 @@ ghost use Rattle.sat_solver.specs.Trail.{lits_of, followed_whole, IsLawful, IsFo
 
 use crate::clauses::{len, lits};
 use crate::trail::Trail;
+use base_values::OutOfMemory;
 use sat_clauses::lit::Lit;
 use sat_clauses::store::Store;
-use base_values::OutOfMemory;
 
 // Notes the short ones of the clauses that are new: a literal twice is one literal.
 fn note_short<S: Store>(store: &S, trail: &mut Trail) -> Result<(), OutOfMemory>

@@ -21,15 +21,15 @@ use crate::proposed::{Question, proposed, refuted};
 use crate::solve::{Verdict, solve_on};
 use crate::trail::Trail;
 use crate::work::Work;
-use std::alloc::Global;
-use std::marker::Model;
+use base_values::OutOfMemory;
 use sat_adviser::Panel;
-use sat_kernel::Kernel;
 use sat_clauses::clause::Clause;
 use sat_clauses::lit::Lit;
 use sat_clauses::recorder::{KeepNone, Recorder};
 use sat_clauses::store::Store;
-use base_values::OutOfMemory;
+use sat_kernel::Kernel;
+use std::alloc::Global;
+use std::marker::Model;
 
 /// How many clauses may be learned, beside twice those that were left the last time, until those go that the kernel has forgotten: so at
 /// least so many are learned from one copy of the others to the next.

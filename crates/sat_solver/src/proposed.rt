@@ -13,9 +13,8 @@ ghost use Rattle.sat_solver.specs.Proposed.{HasTrue, IsRight};
 
 use crate::arena::Arena;
 use crate::solve::Verdict;
-use std::alloc::Global;
+use base_values::OutOfMemory;
 use sat_adviser::Panel;
-use sat_kernel::{Kernel, Proposal};
 use sat_clauses::assign::Assign;
 use sat_clauses::checker_trail::Trail;
 use sat_clauses::clause::Clause;
@@ -25,7 +24,8 @@ use sat_clauses::lit::{Lit, are_up_to, contains};
 use sat_clauses::recorder::Recorder;
 use sat_clauses::step::Step;
 use sat_clauses::store::Store;
-use base_values::OutOfMemory;
+use sat_kernel::{Kernel, Proposal};
+use std::alloc::Global;
 
 /// Whether a step's clause follows by its hints.
 fn is_step(judge: &mut Trail, clauses: &ClauseStore, step: &Step, vars: u64) -> bool

@@ -30,7 +30,7 @@ use crate::find::{Found, Pick, find, next_pick};
 use crate::follow::follow;
 use crate::propagate::propagate;
 use crate::trail::{Reason, Trail};
-use std::alloc::Global;
+use base_values::OutOfMemory;
 use sat_adviser::Panel;
 use sat_clauses::assign::Assign;
 use sat_clauses::clause::{Clause, ClauseList, Truth};
@@ -38,7 +38,7 @@ use sat_clauses::hints::has_no_opposites;
 use sat_clauses::lit::{Lit, are_up_to};
 use sat_clauses::recorder::Recorder;
 use sat_clauses::store::Store;
-use base_values::OutOfMemory;
+use std::alloc::Global;
 
 // How often a search restarts at most.
 const MOST_RESTARTS: u64 = 64;

@@ -5,9 +5,9 @@
 ghost use Rattle.std.specs.Prelude.{◌≡◌, ◌≢◌, ℕ, ◌+◌, ◌<◌, [], ◌∷◌, ◌++◌, length, slice_set, IfOk, IfSome, IfNone, OnOk, OnErr};
 ghost use Rattle.sat_solver.specs.Threads.{at};
 
+use base_values::OutOfMemory;
 use std::alloc::Global;
 use std::marker::Model;
-use base_values::OutOfMemory;
 
 /// The numbers from 0 on, each in one list or in none. List 0 is none.
 #[derive(Drop)]

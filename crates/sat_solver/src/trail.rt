@@ -11,11 +11,11 @@ ghost use Rattle.sat_solver.specs.Trail.{assigned, followed_whole, IsLawful, Has
 ghost use Rattle.sat_solver.specs.Analysis.{is_decision};
 
 use crate::choose::least_free;
-use std::alloc::Global;
-use std::marker::Model;
+use base_values::OutOfMemory;
 use sat_clauses::assign::Assign;
 use sat_clauses::lit::Lit;
-use base_values::OutOfMemory;
+use std::alloc::Global;
+use std::marker::Model;
 
 /// Why a literal was made true.
 #[derive(Clone, Copy, Debug, PartialEq, Eq)]

@@ -6,9 +6,9 @@ ghost use Rattle.smv_language.specs.Written.{tree_of, trees_of, branches_of};
 ghost use Rattle.smv_evaluation.specs.Asked.{value_at, known_value, answer, on_left, on_right, operation, in_span, asked_of, members_of, taken_of};
 
 use crate::operate::{applied, between, either, is_true, negative, opposite, same};
+use base_values::Value;
 use smv_language::model::Flat;
 use smv_language::{Expr, Op};
-use base_values::Value;
 
 /// The values of variables and definitions, by their numbers.
 #[derive(Clone, Copy)]

@@ -10,9 +10,9 @@ ghost use Rattle.smv_evaluation.specs.Failed.{has_symbol, HasVariable};
 ghost use Rattle.smv_evaluation.specs.Named.{IsEvaluable, IsLawful};
 ghost use Rattle.smv_language.specs.Told.{told_trace};
 
+use base_values::{MomentList, Valuation, Value};
 use smv_language::model::Fault;
 use smv_types::Typed;
-use base_values::{MomentList, Valuation, Value};
 
 /// Whether the mode of a fault stands at some moment. Takes no memory.
 pub fn has_failed(t: &Typed, fault: &Fault, trace: &MomentList) -> bool

@@ -6,8 +6,8 @@ ghost use Rattle.smv_type_laws.specs.Intervals.{fits_number};
 ghost use Rattle.smv_types.specs.Told.{IsSmall};
 ghost use Rattle.smv_evaluation.specs.Operated.{same, opposite, negative, either, is_true, calculated, fitting, compared, on_numbers, on_truths, on_symbols, applied, between};
 
-use smv_language::Op;
 use base_values::Value;
+use smv_language::Op;
 
 /// Whether both are the same value.
 pub(crate) fn same(a: Value, b: Value) -> bool

@@ -7,11 +7,11 @@ ghost use Rattle.smv_evaluation.specs.Filled.{definition_value, definition_value
 ghost use Rattle.smv_evaluation.specs.Named.{IsEvaluable, IsLawful, IsFilled};
 
 use crate::ask::{Asked, Known, ask};
-use std::alloc::Global;
-use std::marker::Model;
+use base_values::{OutOfMemory, Valuation, Value};
 use smv_language::model::{FlatModel, Formula};
 use smv_types::Typed;
-use base_values::{OutOfMemory, Valuation, Value};
+use std::alloc::Global;
+use std::marker::Model;
 
 /// A value for each variable and each definition of a model, by their numbers from 0.
 #[derive(Drop)]

@@ -16,11 +16,11 @@ use crate::conditions::{first_holds, step_holds};
 use crate::operate::is_true;
 use crate::table::Table;
 use crate::values::value_in;
-use std::mem::swap;
+use base_values::{MomentList, Valuation};
 use smv_language::Expr;
 use smv_language::model::{Flat, FlatModel};
 use smv_types::Typed;
-use base_values::{MomentList, Valuation};
+use std::mem::swap;
 
 /// What becomes of a list of moments: it is a trace that reaches the top event; it is one, and the event is
 /// FALSE at its last moment; its first moment breaks a condition; or the moment of this number, from 0, is

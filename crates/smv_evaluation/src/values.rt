@@ -14,10 +14,10 @@ ghost use Rattle.smv_evaluation.specs.declared.ask.Asked.TheVariants.{ItsValue, 
 use crate::ask::{Asked, ask};
 use crate::operate::is_true;
 use crate::table::Table;
+use base_values::Value;
 use smv_language::Expr;
 use smv_language::model::{Flat, Formula};
 use smv_types::Typed;
-use base_values::Value;
 
 /// The value of an expression that breaks no rule and is no set, from the tables of a moment and of the
 /// next. Takes no memory.

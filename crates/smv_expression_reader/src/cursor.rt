@@ -13,10 +13,10 @@ use crate::fault::BuildFault;
 use crate::mark::{Mark, is_same};
 use crate::token::{Digits, TokenText};
 use crate::tree::tree;
+use base_values::{Dotted, Name};
+use smv_language::Expr;
 use std::alloc::Global;
 use std::marker::Model;
-use smv_language::Expr;
-use base_values::{Dotted, Name};
 
 /// What is left of the tokens, which contracts see as a list.
 #[derive(Drop)]

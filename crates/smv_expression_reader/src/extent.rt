@@ -10,8 +10,8 @@ use crate::frames::Frames;
 use crate::grown::DEEPEST;
 use crate::machine::{Mode, is_stuck, is_whole, step};
 use crate::token::TokenText;
-use std::alloc::Global;
 use base_values::OutOfMemory;
+use std::alloc::Global;
 
 /// How many groups may be open at once.
 const MOST_GROUPS: usize = DEEPEST as usize;

@@ -7,8 +7,8 @@ ghost use Rattle.smv_expression_reader.specs.declared.fault.GrowFault.TheVariant
 ghost use Rattle.smv_expression_reader.specs.declared.fault.BuildFault.TheVariants as stop;
 ghost use Rattle.smv_expression_reader.specs.Faults.{build_fault};
 
-use smv_lexer::LexFault;
 use base_values::OutOfMemory;
+use smv_lexer::LexFault;
 
 /// Why bytes spell no tree, or none within the limits. A place counts bytes from 0.
 #[derive(Clone, Copy, Debug, PartialEq, Eq)]

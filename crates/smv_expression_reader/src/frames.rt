@@ -5,9 +5,9 @@ ghost use Rattle.std.specs.Prelude.{◌≡◌, ◌≤◌, ◌∷◌, [], OnOk, I
 ghost use Rattle.smv_expression_reader.specs.Views.{frame_view, has_no_frame};
 ghost use Rattle.smv_expression_reader.specs.Depth.{groups};
 
+use base_values::OutOfMemory;
 use std::alloc::Global;
 use std::marker::Model;
-use base_values::OutOfMemory;
 
 /// What is open.
 #[derive(Clone, Copy, Debug, PartialEq, Eq)]

@@ -8,9 +8,9 @@ ghost use Rattle.smv_language.specs.Written.{tree_of, branch_trees};
 ghost use Rattle.smv_language.specs.Limits.{deepest};
 
 use crate::fault::GrowFault;
-use std::alloc::Global;
-use smv_language::{BranchList, Expr, ExprList, Op};
 use base_values::{Dotted, Items, OutOfMemory};
+use smv_language::{BranchList, Expr, ExprList, Op};
+use std::alloc::Global;
 
 /// How high a tree may be, and how deep its parentheses may be nested.
 pub const DEEPEST: u32 = 1000;

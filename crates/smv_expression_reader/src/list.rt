@@ -19,9 +19,9 @@ use crate::machine::{Mode, Role, is_stuck, is_whole, step};
 use crate::mark::Mark;
 use crate::reading::Reading;
 use crate::token::TokenText;
-use std::alloc::Global;
-use smv_language::ExprList;
 use base_values::{Dotted, Items, OutOfMemory};
+use smv_language::ExprList;
+use std::alloc::Global;
 
 /// Where a list of expressions is read.
 #[derive(Clone, Copy, Debug, PartialEq, Eq)]

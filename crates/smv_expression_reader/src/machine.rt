@@ -7,8 +7,8 @@ ghost use Rattle.smv_expression_reader.specs.Recognise as machine;
 ghost use Rattle.smv_expression_reader.specs.Views.{role_view, frame_view, state_with};
 
 use crate::frames::{Frame, Frames};
-use smv_language::Op;
 use base_values::OutOfMemory;
+use smv_language::Op;
 
 /// What a token is in an expression.
 #[derive(Clone, Copy, Debug, PartialEq, Eq)]

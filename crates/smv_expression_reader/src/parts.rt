@@ -17,9 +17,9 @@ use crate::lines::{
     AT_AND, AT_CHOICE, AT_EXPRESSION, AT_IFF, AT_NEGATION, AT_NOT, AT_OR, AT_PRODUCT, AT_RELATION,
     AT_SUM, AT_UNION, AT_WITHIN,
 };
-use std::alloc::Global;
-use smv_language::Op;
 use base_values::OutOfMemory;
+use smv_language::Op;
+use std::alloc::Global;
 
 /// What waits for the operand to its right.
 #[derive(Drop)]

@@ -22,10 +22,10 @@ use crate::list::{list_trees, read_list};
 use crate::reading::Reading;
 use crate::token::{TokenText, token_texts};
 use crate::tree::tree;
-use std::alloc::Global;
-use smv_lexer::{LexFault, TokenList, tokens};
-use smv_language::{Expr, ExprList};
 use base_values::Dotted;
+use smv_language::{Expr, ExprList};
+use smv_lexer::{LexFault, TokenList, tokens};
+use std::alloc::Global;
 
 /// The tokens of the bytes.
 #[tactic(auto, using(crate::proofs::FaultLaws::lexical))]

@@ -17,11 +17,11 @@ ghost use Rattle.smv_expression_reader.specs.Stops.{is_left_out};
 use crate::machine::Role;
 use crate::mark::Mark;
 use crate::words::{begins_section, is_left_out, is_reserved, is_same, is_skipped};
+use base_values::{Name, OutOfMemory};
+use smv_language::Op;
+use smv_lexer::{Token, TokenKind, TokenList};
 use std::alloc::Global;
 use std::marker::Model;
-use smv_lexer::{Token, TokenKind, TokenList};
-use smv_language::Op;
-use base_values::{Name, OutOfMemory};
 
 /// The value of a number token.
 #[derive(Clone, Copy, Debug, PartialEq, Eq)]

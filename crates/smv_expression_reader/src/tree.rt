@@ -19,9 +19,9 @@ use crate::lines::{AT_EXPRESSION, AT_OR, AT_SUM};
 use crate::machine::Role;
 use crate::parts::{Part, level, pop, push, reduce};
 use crate::token::{Digits, TokenText};
-use std::alloc::Global;
-use smv_language::{Expr, Op};
 use base_values::{Dotted, OutOfMemory};
+use smv_language::{Expr, Op};
+use std::alloc::Global;
 
 /// The operand that stands last.
 #[derive(Drop)]

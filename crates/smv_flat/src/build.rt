@@ -28,7 +28,12 @@ ghost use Rattle.smv_flat.specs.Asked.{told, asked_definition, IsReady, AreReady
 
 use crate::clauses::{Asked, Clause, clause_of};
 use crate::resolve::{Source, resolve};
-use std::alloc::Global;
+use base_values::{Dotted, Items, Name, NameList, OutOfMemory};
+use smv_language::copy_model::{boxed, copy_path};
+use smv_language::model::{
+    Flat, FlatList, FlatModel, Formula, Instance, InstanceList, VariableList,
+};
+use smv_language::{Expr, Op};
 use smv_scope::bounds::Bounds;
 use smv_scope::fault::FlatFault;
 use smv_scope::items::{Item, number_of};
@@ -37,10 +42,7 @@ use smv_scope::names::Scene;
 use smv_scope::needs::Needs;
 use smv_scope::symbols::symbol_names;
 use smv_scope::walk::{Meaning, Spot};
-use smv_language::copy_model::{boxed, copy_path};
-use smv_language::model::{Flat, FlatList, FlatModel, Formula, Instance, InstanceList, VariableList};
-use smv_language::{Expr, Op};
-use base_values::{Dotted, Items, Name, NameList, OutOfMemory};
+use std::alloc::Global;
 
 /// The flat model of a scene with these variables.
 pub(crate) fn build(

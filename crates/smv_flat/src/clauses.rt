@@ -10,10 +10,10 @@ ghost use Rattle.smv_flat_laws.specs.Model.{kept_declared, assigned_first, assig
 ghost use Rattle.smv_scope.specs.ItemTree.{item_tree};
 ghost use Rattle.smv_flat.specs.Asked.{conditions_asked, clauses_told};
 
-use smv_scope::items::Item;
+use base_values::{Dotted, Name};
 use smv_language::model::Role;
 use smv_language::{Assignment, Decl, Declared, Expr, Moment};
-use base_values::{Dotted, Name};
+use smv_scope::items::Item;
 
 /// Which formulas are asked for: those of the first moment, those of each, those of each step, or those
 /// that keep frozen variables as they are.

@@ -29,16 +29,16 @@ use crate::build::build;
 use crate::judge::judge;
 use crate::resolve::{Source, resolve};
 use crate::values::{Judged, judge_value};
-use std::alloc::Global;
+use base_values::Dotted;
+use smv_language::model::{Flat, FlatModel, VariableList};
+use smv_language::{Expr, Program};
 use smv_scope::bounds::Bounds;
 use smv_scope::fault::{FlatFault, Rule};
 use smv_scope::modules::{Modules, main_place};
 use smv_scope::names::Scene;
 use smv_scope::needs::Needs;
 use smv_scope::walk::Walk;
-use smv_language::model::{Flat, FlatModel, VariableList};
-use smv_language::{Expr, Program};
-use base_values::Dotted;
+use std::alloc::Global;
 
 /// The tables of a program, for expressions at its instances: each costs its own size alone.
 #[derive(Drop)]

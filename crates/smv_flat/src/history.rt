@@ -12,12 +12,12 @@ ghost use Rattle.smv_language.specs.Flat.{flat_symbol};
 ghost use Rattle.smv_flat_laws.specs.History.{with_history as history_of, with_bit, bit_variable as bit_tree, bit_at_first as first_tree, bit_at_step as step_tree, added as added_tree};
 
 use crate::build::{within, within_next};
-use std::alloc::Global;
-use smv_scope::items::number_of;
+use base_values::{Dotted, Name, OutOfMemory};
 use smv_language::copy_model::boxed;
 use smv_language::model::{Fault, FaultList, Flat, FlatModel, Formula, Role, Variable};
 use smv_language::{Declared, Expr, Op};
-use base_values::{Dotted, Name, OutOfMemory};
+use smv_scope::items::number_of;
+use std::alloc::Global;
 
 /// A copy of a model with a last boolean state variable `failed#i` for each fault i from 1 on, which is
 /// TRUE at a moment exactly where the fault's mode stands there or stood before. What is added has item 0

@@ -23,17 +23,17 @@ ghost use Rattle.smv_scope.specs.Faults.{first_of, IsFaultOf};
 ghost use Rattle.smv_scope.specs.declared.fault.Rule.TheVariants.{NoSuchName, DefineLoop, NextHere, InputHere};
 
 use crate::values::{Judged, JudgedActual, is_on_meaning_circle, judge_actuals, judge_value};
+use base_values::{Dotted, Name, OutOfMemory};
 use indexmap::IndexMap;
-use std::alloc::Global;
+use smv_language::model::Role;
+use smv_language::{Assignment, Decl, Declared, Define, Expr, Moment};
 use smv_scope::fault::{FlatFault, Rule};
 use smv_scope::items::Item;
 use smv_scope::modules::Local;
 use smv_scope::names::Scene;
 use smv_scope::needs::Needs;
 use smv_scope::walk::Meaning;
-use smv_language::model::Role;
-use smv_language::{Assignment, Decl, Declared, Define, Expr, Moment};
-use base_values::{Dotted, Name, OutOfMemory};
+use std::alloc::Global;
 
 /// The moments of which the assignments so far speak, for one target.
 #[derive(Clone, Copy)]

@@ -10,17 +10,17 @@ ghost use Rattle.smv_scope.specs.Faults.{IsWant};
 ghost use Rattle.smv_language.specs.ModelTree.{leaf_of};
 ghost use Rattle.smv_flat.specs.ResolverOf.{leaf_at, leaf_placed, is_leaf_within, told_tree, asked_tree, told_branch, asked_branch, IsKnown, IsBranchKnown};
 
-use std::alloc::Global;
+use base_values::{Dotted, Items};
+use smv_language::copy_model::boxed;
+use smv_language::model::Flat;
+use smv_language::{BranchList, Expr, ExprList};
 use smv_scope::bounds::Bounds;
 use smv_scope::fault::{FlatFault, Rule};
 use smv_scope::items::number_of;
 use smv_scope::names::Scene;
 use smv_scope::needs::Needs;
 use smv_scope::walk::Meaning;
-use smv_language::copy_model::boxed;
-use smv_language::model::Flat;
-use smv_language::{BranchList, Expr, ExprList};
-use base_values::{Dotted, Items};
+use std::alloc::Global;
 
 /// Where an expression is written, and what it may name: the instance, the item that a fault tells, and
 /// the numbers that are there.

@@ -14,14 +14,14 @@ ghost use Rattle.smv_flat.specs.Judging.{IsJudged};
 ghost use Rattle.smv_scope.specs.Links.{is_marked as is_marked_in};
 ghost use Rattle.smv_flat.specs.Verdicts.{is_without_value, is_input_found, is_circle_found, with_flags, AreJudged, is_nothing_known, is_circle_known, is_circle_meant, JudgesActual, JudgesActuals, joined_actual};
 
-use std::alloc::Global;
+use base_values::{Dotted, OutOfMemory};
+use smv_language::Expr;
+use smv_language::model::Role;
 use smv_scope::names::{Formal, Scene};
 use smv_scope::needs::Needs;
 use smv_scope::uses::{Use, Uses};
 use smv_scope::walk::Meaning;
-use smv_language::Expr;
-use smv_language::model::Role;
-use base_values::{Dotted, OutOfMemory};
+use std::alloc::Global;
 
 /// What may be wrong with a value, wherever it stands: a name that means nothing or an instance, `next`,
 /// `next` under another, an input, and an input under `next`.

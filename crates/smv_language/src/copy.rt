@@ -4,8 +4,8 @@ ghost use Rattle.std.specs.Prelude.{◌≡◌, IfOk, map};
 ghost use Rattle.smv_language.specs.Written.{tree_of, branch_trees};
 
 use crate::expr::{BranchList, Expr, ExprList};
-use std::alloc::Global;
 use base_values::{Dotted, Items, OutOfMemory};
+use std::alloc::Global;
 
 impl Expr<Dotted> {
     /// A copy of its own, which is the same tree.

@@ -9,8 +9,8 @@ use crate::model::{
     Fault, FaultList, Flat, FlatList, FlatModel, Formula, Instance, InstanceList, Variable,
     VariableList,
 };
-use std::alloc::Global;
 use base_values::{Dotted, Items, NameList, OutOfMemory};
+use std::alloc::Global;
 
 /// A copy of a flat expression, which is the same tree.
 #[cycle(copy_flat)]

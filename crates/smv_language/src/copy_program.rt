@@ -8,8 +8,8 @@ use crate::program::{
     AssignList, Assignment, Decl, DeclList, Declared, Define, DefineList, Member, MemberList,
     Module, ModuleList, Program, Section, SectionList,
 };
-use std::alloc::Global;
 use base_values::{Items, OutOfMemory};
+use std::alloc::Global;
 
 impl Program {
     /// A copy of its own, which is the same program.

@@ -39,6 +39,7 @@ mod print;
 mod print_modules;
 mod program;
 
+pub use base_values::NameList;
 pub use copy::{copy_branches, copy_expressions};
 pub use copy_program::{
     copy_assignments, copy_decls, copy_defines, copy_members, copy_modules, copy_sections,
@@ -55,4 +56,3 @@ pub use program::{
     AssignList, Assignment, Decl, DeclList, Declared, Define, DefineList, Member, MemberList,
     Module, ModuleList, Moment, Program, Section, SectionList,
 };
-pub use base_values::NameList;

@@ -7,8 +7,8 @@ ghost use Rattle.smv_language.specs.Printed.{IsWritable};
 ghost use Rattle.smv_language.specs.Bytes.{BytesSpellExpr};
 
 use crate::expr::{Expr, Op};
-use std::alloc::Global;
 use base_values::{ByteList, Dotted, Name, OutOfMemory};
+use std::alloc::Global;
 
 /// The text of an expression: atoms are bare, and every other expression stands in parentheses. A span
 /// under a unary minus stands in parentheses too, since that minus would be read as the sign of its

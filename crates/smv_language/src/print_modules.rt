@@ -12,8 +12,8 @@ use crate::print::{append_dotted, append_expr, append_expressions, append_names,
 use crate::program::{
     Assignment, Decl, Declared, Define, Member, Module, Moment, Program, Section,
 };
-use std::alloc::Global;
 use base_values::{ByteList, Dotted, Name, OutOfMemory};
+use std::alloc::Global;
 
 /// The text of a program: each module's header, then its sections in order, each section's word on a line
 /// of its own and each item on a line after two spaces.

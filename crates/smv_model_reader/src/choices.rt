@@ -8,8 +8,8 @@ ghost use Rattle.smv_expression_reader.specs.MarkView.{mark_view};
 ghost use Rattle.smv_model_reader.specs.Symbols.{symbol_view, choice, Chosen};
 
 use crate::symbols::{Symbol, Symbols};
-use smv_expression_reader::mark::Mark;
 use base_values::OutOfMemory;
+use smv_expression_reader::mark::Mark;
 
 // Parts that are one token: whether the mark is that of the token.
 

@@ -13,13 +13,13 @@ ghost use Rattle.smv_model_reader.specs.Symbols.{symbol_view, position_view, aft
 
 use crate::choices::after;
 use crate::symbols::{Symbol, Symbols, may_be_empty};
-use std::alloc::Global;
+use base_values::OutOfMemory;
 use smv_expression_reader::frames::Frames;
 use smv_expression_reader::machine::{Mode, is_stuck, is_whole, step};
 use smv_expression_reader::mark::Mark;
 use smv_expression_reader::reading::Reading;
 use smv_expression_reader::token::TokenText;
-use base_values::OutOfMemory;
+use std::alloc::Global;
 
 /// Where a program is read.
 #[derive(Clone, Copy, Debug, PartialEq, Eq)]

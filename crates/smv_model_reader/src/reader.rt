@@ -11,15 +11,15 @@ ghost use Rattle.smv_expression_reader.specs.Stops.{FaultMeans};
 
 use crate::expected::read_program;
 use crate::sections::program_tree;
-use std::alloc::Global;
 use smv_expression_reader::ParseFault;
 use smv_expression_reader::cursor::Cursor;
 use smv_expression_reader::fault::BuildFault;
 use smv_expression_reader::reader::{split, stop_at};
 use smv_expression_reader::reading::Reading;
 use smv_expression_reader::token::{TokenText, token_texts};
-use smv_lexer::TokenList;
 use smv_language::Program;
+use smv_lexer::TokenList;
+use std::alloc::Global;
 
 /// Refuses what is no program.
 fn check_program(

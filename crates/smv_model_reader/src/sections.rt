@@ -10,7 +10,7 @@ ghost use Rattle.smv_expression_reader.specs.MarkView.{mark_view};
 ghost use Rattle.smv_expression_reader.specs.Reads.{got, deep, none};
 ghost use Rattle.smv_model_reader.specs.ProgramParts as part;
 
-use std::alloc::Global;
+use base_values::{Dotted, Items};
 use smv_expression_reader::cursor::Cursor;
 use smv_expression_reader::fault::BuildFault;
 use smv_expression_reader::mark::Mark;
@@ -18,7 +18,7 @@ use smv_language::{
     AssignList, Assignment, Decl, DeclList, Declared, Define, DefineList, Expr, ExprList, Member,
     MemberList, Module, ModuleList, Moment, NameList, Program, Section, SectionList,
 };
-use base_values::{Dotted, Items};
+use std::alloc::Global;
 
 /// One or more names with dots between.
 fn dotted(alloc: Global, cursor: &mut Cursor) -> Result<Dotted, BuildFault>

@@ -3,9 +3,9 @@ ghost use Rattle.std.specs.Prelude.{◌≡◌, ◌∷◌, [], OnOk, IfOk, IfSome
 ghost use Rattle.smv_model_reader.specs.ProgramRead as read;
 ghost use Rattle.smv_model_reader.specs.Symbols.{symbol_view, Chosen};
 
+use base_values::OutOfMemory;
 use std::alloc::Global;
 use std::marker::Model;
-use base_values::OutOfMemory;
 
 /// A part of the grammar that may still come.
 #[derive(Clone, Copy, Debug, PartialEq, Eq)]

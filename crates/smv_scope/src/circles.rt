@@ -11,8 +11,8 @@ ghost use Rattle.smv_scope.specs.Links.{graph_of, AreTurned, IsCircle, AreCircle
 ghost use Rattle.smv_scope.specs.Components.{IsFinished, component_at, members, with_own, joined_of, join_by, AreComponents, is_same as is_same_component, is_back};
 
 use crate::links::Links;
-use std::alloc::Global;
 use base_values::OutOfMemory;
+use std::alloc::Global;
 
 /// A definition that may be in a component.
 #[derive(Clone, Copy)]

@@ -3,8 +3,8 @@
 //! All fourteen rules have one list, though those from 8 to 13 are tried in the layer above (`smv_flat`). Want of memory
 //! counts as the last one, and every call below turns it into a [`FlatFault`] by `From`.
 
-use std::alloc::{AllocError, AllocFailed};
 use base_values::OutOfMemory;
+use std::alloc::{AllocError, AllocFailed};
 
 /// A rule that a program breaks. Its number, from 1 on, is `rule as u32`, and of two rules that an item
 /// breaks in one group the one with the lower number is told.

@@ -13,8 +13,8 @@ ghost use Rattle.smv_scope.specs.Waiting.{IsFormal, IsFrame, LastWaits, IsReady,
 
 use crate::names::{Formal, Scene, Step, plain_name_of, told};
 use crate::walk::Meaning;
-use std::alloc::Global;
 use base_values::{Name, OutOfMemory};
+use std::alloc::Global;
 
 /// A look-up that has begun: the formal of an instance, and the parts of its actual that are still to be
 /// looked up, at the instance `here`.

@@ -7,10 +7,10 @@ ghost use Rattle.smv_flat_laws.specs.Items.{items_of, items_of_section, a_declar
 ghost use Rattle.smv_language.specs.ModelTree.{role_of};
 ghost use Rattle.smv_scope.specs.ItemTree.{item_tree, counted_of, with_items, counted_below};
 
-use std::alloc::Global;
+use base_values::{Dotted, NameList, OutOfMemory};
 use smv_language::model::Role;
 use smv_language::{Assignment, Decl, Define, Expr, Module, Section};
-use base_values::{Dotted, NameList, OutOfMemory};
+use std::alloc::Global;
 
 /// What an item is. Of the assignments, defines and declarations of a section each is one; every other
 /// section is one item as a whole.

@@ -3,8 +3,8 @@
 ghost use Rattle.std.specs.Prelude.{◌≡◌, [], ◌∷◌, ◌++◌, replicate, IfOk, OnOk};
 ghost use Rattle.smv_scope.specs.Links.{graph_of, rows, linked_to, all_linked_to, AreTurned};
 
-use std::alloc::Global;
 use base_values::OutOfMemory;
+use std::alloc::Global;
 
 /// For each definition the others that it is linked to, by their places in the scene's list.
 #[derive(Drop)]

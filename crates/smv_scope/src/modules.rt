@@ -13,10 +13,10 @@ ghost use Rattle.smv_scope.specs.SceneTree.{AreModules, module_from, named, modu
 
 use crate::fault::{FlatFault, Rule};
 use crate::items::{Item, ItemList, Numbered, number_after};
-use indexmap::IndexMap;
-use std::alloc::Global;
-use smv_language::{Module, Program};
 use base_values::Name;
+use indexmap::IndexMap;
+use smv_language::{Module, Program};
+use std::alloc::Global;
 
 /// What a name is in its own module: a formal or an item, by its place in the module's list of these.
 #[derive(Clone, Copy)]

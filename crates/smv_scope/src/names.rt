@@ -20,10 +20,10 @@ use crate::items::{Item, Numbered};
 use crate::modules::{Local, Modules, Names};
 use crate::symbols::symbols_of;
 use crate::walk::{Meaning, Spot};
-use indexmap::IndexSet;
-use std::alloc::Global;
-use smv_language::{Decl, Declared, Expr};
 use base_values::{Dotted, Name, OutOfMemory};
+use indexmap::IndexSet;
+use smv_language::{Decl, Declared, Expr};
+use std::alloc::Global;
 
 /// What is known of a formal: nothing yet, that its look-up has begun, what it means, or that its look-up
 /// comes back to itself.

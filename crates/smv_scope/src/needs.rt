@@ -23,9 +23,9 @@ use crate::links::Links;
 use crate::names::{Defined, Scene};
 use crate::uses::Uses;
 use crate::walk::Meaning;
-use std::alloc::Global;
-use smv_language::model::Role;
 use base_values::{Dotted, OutOfMemory};
+use smv_language::model::Role;
+use std::alloc::Global;
 
 /// What the definitions of a scene need of one another.
 #[derive(Drop)]

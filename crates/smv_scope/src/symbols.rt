@@ -10,10 +10,10 @@ ghost use Rattle.smv_language.specs.BorrowedTexts.{texts};
 
 use crate::items::{Item, Numbered};
 use crate::modules::Modules;
-use indexmap::IndexSet;
-use std::alloc::Global;
-use smv_language::{Declared, Member};
 use base_values::{Items, Name, NameList, OutOfMemory};
+use indexmap::IndexSet;
+use smv_language::{Declared, Member};
+use std::alloc::Global;
 
 /// The symbols in order of first appearance as a member of a type or in CONSTANTS, over the whole text.
 pub fn symbols_of<'a>(

@@ -8,10 +8,10 @@ ghost use Rattle.smv_flat_laws.specs.Rules.{next_under_next};
 ghost use Rattle.smv_scope.specs.Flagged.{flagged};
 ghost use Rattle.smv_scope.specs.Seen.{seen_in, seen_after, seen_after_trees, seen_after_branches};
 
+use base_values::{Dotted, OutOfMemory};
+use smv_language::Expr;
 use std::alloc::Global;
 use std::marker::Model;
-use smv_language::Expr;
-use base_values::{Dotted, OutOfMemory};
 
 /// A name of an expression, and whether it stands under `next`.
 #[derive(Drop)]

@@ -19,10 +19,10 @@ ghost use Rattle.smv_scope.specs.Walking.{HasEntered, HasGone, HasMet, IsEntry, 
 use crate::fault::{FlatFault, Rule};
 use crate::items::{Item, Numbered, number_of};
 use crate::modules::Modules;
-use std::alloc::Global;
+use base_values::{Dotted, Items, Name, OutOfMemory};
 use smv_language::model::{Role, Variable, VariableList};
 use smv_language::{Decl, Declared, Expr, ExprList};
-use base_values::{Dotted, Items, Name, OutOfMemory};
+use std::alloc::Global;
 
 /// The most instances, with `main`.
 const INSTANCE_LIMIT: usize = 1000;

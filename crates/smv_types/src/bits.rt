@@ -7,8 +7,8 @@ ghost use Rattle.smv_type_laws.specs.Costs.{digits_of, digits_above, width_of, w
 ghost use Rattle.smv_types.specs.Types.{widened, spread};
 
 use crate::numbers::TextNumbers;
-use std::marker::Model;
 use smv_language::{Declared, Member};
+use std::marker::Model;
 
 /// The least and the greatest of some numbers.
 #[derive(Clone, Copy)]

@@ -10,9 +10,9 @@ ghost use Rattle.smv_types.specs.Types.{begins_with_number, numbers_in, symbols_
 use crate::members::judge_members;
 use crate::numbers::TextNumbers;
 use crate::sort::{Class, Judged, Sort, kept, range};
-use std::alloc::Global;
-use smv_language::{Declared, Member};
 use base_values::{Domain, Members, NumList, OutOfMemory, SymList};
+use smv_language::{Declared, Member};
+use std::alloc::Global;
 
 /// What is known of the values of a declared type, and the first rule that it breaks. An instance is no
 /// variable; it counts as a truth value.

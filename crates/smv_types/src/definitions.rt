@@ -15,9 +15,9 @@ ghost use Rattle.smv_types.specs.Sites.{earlier_site, site_at};
 use crate::judge::{Sorts, judge};
 use crate::site::{Site, earlier, site_of};
 use crate::sort::Sort;
-use std::alloc::Global;
-use smv_language::model::{FlatModel, Formula};
 use base_values::OutOfMemory;
+use smv_language::model::{FlatModel, Formula};
+use std::alloc::Global;
 
 /// The definitions in order, each judged over those before it: what is known of them and of the variables,
 /// and the first rule that one breaks.

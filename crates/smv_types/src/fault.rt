@@ -4,8 +4,8 @@
 ghost use Rattle.std.specs.Prelude.{◌≡◌};
 ghost use Rattle.smv_types.specs.Rows.{rule_number, lower, lesser_rule, unless};
 
-use std::alloc::{AllocError, AllocFailed};
 use base_values::OutOfMemory;
+use std::alloc::{AllocError, AllocFailed};
 
 /// A rule of kinds and limits that a model or an expression breaks. Its number, from 1 on, is
 /// `rule as u32`, and of several rules that an item breaks the one with the lowest number is told.

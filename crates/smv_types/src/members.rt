@@ -10,10 +10,10 @@ ghost use Rattle.smv_types.specs.Met.{has_met, AddsMember, IsFirstMet};
 use crate::fault::{Rule, lower, unless};
 use crate::several::{Several, add_to, no_sort};
 use crate::sort::{Class, Judged, Sort, kept, literal, one_value};
-use indexmap::IndexSet;
-use std::alloc::Global;
-use smv_language::Member;
 use base_values::OutOfMemory;
+use indexmap::IndexSet;
+use smv_language::Member;
+use std::alloc::Global;
 
 /// Members that were met.
 #[derive(Drop)]

@@ -5,10 +5,10 @@ ghost use Rattle.std.specs.Prelude.{◌≡◌, ◌≤◌, length, IfOk, IsOk, On
 ghost use Rattle.smv_type_laws.specs.Costs.{symbol_number, member_number};
 ghost use Rattle.smv_types.specs.Numbering.{number_from, AreNumbered};
 
-use indexmap::IndexMap;
-use std::alloc::Global;
-use smv_language::Member;
 use base_values::{Name, OutOfMemory};
+use indexmap::IndexMap;
+use smv_language::Member;
+use std::alloc::Global;
 
 /// Texts, each with its first place, from 0.
 #[derive(Drop)]

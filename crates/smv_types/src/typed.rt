@@ -15,9 +15,9 @@ use crate::fault::TypeFault;
 use crate::judge::{Sorts, name_sort};
 use crate::sort::Sort;
 use crate::whole::{Found, fault_of, find_all};
-use std::alloc::Global;
-use smv_language::model::{Flat, FlatModel};
 use base_values::Domain;
+use smv_language::model::{Flat, FlatModel};
+use std::alloc::Global;
 
 /// A flat model that breaks no rule of kinds and keeps the limits, with the domains of its variables.
 #[derive(Drop)]

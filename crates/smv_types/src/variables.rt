@@ -19,9 +19,9 @@ use crate::declare::{declare, judge_declared};
 use crate::numbers::TextNumbers;
 use crate::site::{Site, earlier, site_of};
 use crate::sort::Sort;
-use std::alloc::Global;
-use smv_language::model::{FlatModel, Role, Variable};
 use base_values::{Domain, OutOfMemory};
+use smv_language::model::{FlatModel, Role, Variable};
+use std::alloc::Global;
 
 /// Variables: their domains, what is known of their values, the first rule that a declaration breaks, and
 /// their state bits, where one more than the limit of costs stands for every greater number.

@@ -17,9 +17,9 @@ use crate::fault::{Rule, TypeFault};
 use crate::judge::Sorts;
 use crate::site::{Site, earlier};
 use crate::variables::{Declarations, declare_all};
-use std::alloc::Global;
-use smv_language::model::FlatModel;
 use base_values::{Domain, OutOfMemory};
+use smv_language::model::FlatModel;
+use std::alloc::Global;
 
 /// The most state bits of a model.
 const BITS_LIMIT: u64 = 4096;

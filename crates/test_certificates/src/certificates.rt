@@ -1,9 +1,9 @@
 //! The text of certificates: texts that are read are written as the same bytes, and others are refused at their line.
 
+use cert_text::{CertFault, read, write};
 use std::alloc::Global;
 use std::rt::HostRuntime;
 use std::test::Fail;
-use cert_text::{CertFault, read, write};
 
 const TINY: &[u8] =
     b"xsap-certificate 2\nbits 1 faults 0 size 0\nsets 0\ninvariant 1\nclause -2\nfirst 1\nstep -2 : 1 6 4\nnext 1\nstep -3 : 6 4 7\nbad 1\nstep : 2 3\nend\n";

@@ -8,17 +8,17 @@ ghost use Rattle.smv_evaluation.specs.Named.{IsEvaluable};
 
 use crate::clauses::{holds_in, is_list_of};
 use crate::models::{Bits, Place, is_first, model_of, program_of, typed_of};
-use std::alloc::Global;
-use std::process::Abort;
-use std::test::Fail;
+use base_values::{Dotted, FaultSet, OutOfMemory, SetList};
+use sat_clauses::clause::ClauseList;
 use sat_encoding::{bad_clauses, encode};
 use smv_expression_reader::expression;
 use smv_flat::{FlatFault, resolve_top};
-use sat_clauses::clause::ClauseList;
 use smv_language::model::{Flat, FlatModel, Role, Variable};
 use smv_language::{Expr, Program};
 use smv_types::{TypeFault, Typed, check_top};
-use base_values::{Dotted, FaultSet, OutOfMemory, SetList};
+use std::alloc::Global;
+use std::process::Abort;
+use std::test::Fail;
 
 /// A number and three switches, which are the history bits: of three bits by their variables, those of the number two.
 const SWITCHES: &[u8] =

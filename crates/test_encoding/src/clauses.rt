@@ -1,11 +1,11 @@
 //! What is asked of clause lists: whether they can be made true with given bits, and whether they are those of numbers.
-use std::alloc::Global;
+use base_values::OutOfMemory;
 use sat_adviser::Panel;
 use sat_clauses::clause::ClauseList;
 use sat_clauses::lit::Lit;
 use sat_clauses::recorder::KeepNone;
 use sat_solver::solve::{Verdict, can_solve, solve};
-use base_values::OutOfMemory;
+use std::alloc::Global;
 
 /// The literal of a variable from 1 to a thousand.
 fn literal(variable: u64, negated: bool) -> Lit {

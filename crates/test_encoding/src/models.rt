@@ -9,16 +9,16 @@ ghost use Rattle.sat_encoding_laws.specs.Laws.{HasMember};
 ghost use Rattle.smv_evaluation.specs.Named.{IsEvaluable, IsLawful, IsFilled};
 ghost use Rattle.test_encoding.specs.Values.{HasAt, IsKnownSymbol};
 
+use base_values::{Domain, OutOfMemory, Valuation, Value};
+use smv_evaluation::{Table, fill, holds_first, holds_step};
+use smv_flat::flatten;
+use smv_language::model::{FlatModel, Variable};
+use smv_language::{Declared, Program};
+use smv_model_reader::program;
+use smv_types::{Typed, check_model};
 use std::alloc::Global;
 use std::process::Abort;
 use std::test::Fail;
-use smv_evaluation::{Table, fill, holds_first, holds_step};
-use smv_flat::flatten;
-use smv_model_reader::program;
-use smv_language::model::{FlatModel, Variable};
-use smv_language::{Declared, Program};
-use smv_types::{Typed, check_model};
-use base_values::{Domain, OutOfMemory, Valuation, Value};
 
 /// The bits of a variable, by how many patterns they have: of a state variable, of one whose last bit is a sign, or of an
 /// input.

@@ -5,15 +5,15 @@ ghost use Rattle.smv_evaluation.specs.Named.{IsEvaluable};
 
 use crate::clauses::{can_be_true, holds_in, push_bits};
 use crate::models::{Bits, Place, is_first, is_step, model_of};
-use std::alloc::Global;
-use std::process::Abort;
-use std::test::Fail;
-use sat_encoding::encode;
+use base_values::OutOfMemory;
 use sat_clauses::System;
 use sat_clauses::clause::ClauseList;
 use sat_clauses::lit::Lit;
+use sat_encoding::encode;
 use smv_types::Typed;
-use base_values::OutOfMemory;
+use std::alloc::Global;
+use std::process::Abort;
+use std::test::Fail;
 
 /// A model in two parts, what holds at each moment and what holds of first moments and steps; the bits of its
 /// variables, how many those of a state and of the inputs are; and how many states, first states and steps there are.

@@ -1,9 +1,9 @@
 //! Copies of a program of several modules, of its flat model and of instructions: each list has what was copied.
 use crate::texts::{instructions_of, is_text, model_of, program_of};
-use std::alloc::Global;
 use fault_instructions::{Instructions, print_instructions};
 use smv_language::model::FlatModel;
 use smv_language::{Program, print_program};
+use std::alloc::Global;
 
 static POWER: &[u8] = b"MODULE Generator VAR live : boolean; ASSIGN live := TRUE;
     MODULE Battery VAR charge : 0..3; ASSIGN init(charge) := 3; next(charge) := charge;

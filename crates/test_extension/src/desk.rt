@@ -1,11 +1,11 @@
 //! What a desk in memory keeps where one of its calls fails.
-use std::alloc::Global;
-use std::test::Fail as TestFail;
 use base_files::{
     CallKind, DeskFault, Fail, FailList, FileList, MemoryDesk, NamedFile, WriteStop, read_whole,
     say_whole, write_whole,
 };
 use base_values::OutOfMemory;
+use std::alloc::Global;
+use std::test::Fail as TestFail;
 
 const LAMP: &[u8] = b"MODULE main";
 

@@ -1,10 +1,10 @@
 //! Which effects a type refuses, and what effects come to in a woven program.
 use crate::texts::is_text;
-use std::alloc::Global;
+use base_values::{Name, OutOfMemory};
 use fault_instructions::EffectFault::{OneValueOnly, Outside, WrongKind};
 use fault_instructions::{Constant, Effect, EffectFault, allowed, branch, first_rule, rule};
 use smv_language::{Declared, Section, print_expr};
-use base_values::{Name, OutOfMemory};
+use std::alloc::Global;
 
 /// The variable `x`, the slice `S` and its mode `m`.
 #[derive(Drop)]

@@ -1,11 +1,11 @@
 //! Which rule of names a program breaks first, and the flat models of programs of one variable.
 use crate::texts::{expression_of, model_of, program_of};
-use std::alloc::Global;
+use base_values::{Dotted, Name, OutOfMemory};
 use smv_flat::{flatten, resolve_at, resolve_top, with_history};
 use smv_language::copy_model::copy_faults;
 use smv_language::model::{Fault, FaultList, Flat, FlatModel};
 use smv_language::{Expr, Op, Program};
-use base_values::{Dotted, Name, OutOfMemory};
+use std::alloc::Global;
 
 /// Programs, and the number of the rule that each breaks with its item.
 static WRONG: [(&[u8], (u32, u32)); 9] = [

@@ -2,12 +2,12 @@
 ghost use Rattle.std.specs.Prelude.{◌<◌, ◌^◌, length};
 
 use crate::texts::nested;
+use base_values::OutOfMemory;
+use fault_reader::instructions;
+use smv_expression_reader::ParseFault;
+use smv_lexer::LexFault;
 use std::alloc::Global;
 use std::test::Fail;
-use smv_expression_reader::ParseFault;
-use fault_reader::instructions;
-use smv_lexer::LexFault;
-use base_values::OutOfMemory;
 
 /// A text, and its refusal where it has one.
 type Case = (&'static [u8], Option<ParseFault>);

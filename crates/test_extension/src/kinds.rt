@@ -1,11 +1,11 @@
 //! Which rule of kinds and limits a model of one variable breaks, and the kinds of single expressions.
 use crate::texts::{expression_of, joined, model_of, program_of};
-use std::alloc::Global;
+use base_values::Value;
 use smv_flat::resolve_top;
 use smv_language::model::{Flat, FlatModel};
 use smv_language::{Expr, Program};
 use smv_types::{Kind, Typed, check_model, check_top, check_value, kind_of};
-use base_values::Value;
+use std::alloc::Global;
 
 /// The type of `x`, a formula of TRANS, and the rule that the model breaks and its item; 0 and the number
 /// of bits where it breaks none.

@@ -1,6 +1,6 @@
 //! Lists, names, domains and valuations.
-use std::alloc::Global;
 use base_values::{Domain, Dotted, Members, Name, NumList, OutOfMemory, SymList, Valuation, Value};
+use std::alloc::Global;
 
 /// A list that was given these numbers.
 fn numbers_of(alloc: Global, numbers: &[i64]) -> Result<NumList, OutOfMemory> {

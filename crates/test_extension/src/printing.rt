@@ -1,8 +1,8 @@
 //! What is printed of copies of expressions, programs and instructions.
 use crate::texts::{expression_of, instructions_of, is_text, program_of};
-use std::alloc::Global;
 use fault_instructions::print_instructions;
 use smv_language::{print_expr, print_program};
+use std::alloc::Global;
 
 /// The text of a copy of the expression that a text spells.
 fn expression_text(alloc: Global, text: &[u8]) -> Option<Vec<u8>> {

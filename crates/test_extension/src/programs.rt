@@ -2,11 +2,11 @@
 ghost use Rattle.std.specs.Prelude.{◌<◌, ◌^◌, length};
 
 use crate::texts::nested;
-use std::alloc::Global;
-use std::test::Fail;
+use base_values::OutOfMemory;
 use smv_expression_reader::{ParseFault, expression, expressions};
 use smv_model_reader::program;
-use base_values::OutOfMemory;
+use std::alloc::Global;
+use std::test::Fail;
 
 /// What a text is read as.
 #[derive(Clone, Copy, Debug, PartialEq, Eq)]

@@ -1,9 +1,9 @@
 //! Which rule of items and numbers instructions break first.
 use crate::texts::{instructions_of, joined, program_of};
-use std::alloc::Global;
-use fault_instructions::{EffectFault, Instructions};
 use base_values::{Name, OutOfMemory};
+use fault_instructions::{EffectFault, Instructions};
 use fault_rules::{Rule, RuleFault, judge_counts, placed_slices};
+use std::alloc::Global;
 
 static MODEL: &[u8] = b"MODULE main VAR on : boolean; VAR up : boolean; IVAR key : boolean;";
 

@@ -3,15 +3,15 @@
 //! The proof of a test shows only that it is safe, and what it costs is its form: each call leaves what it promises to
 //! all that follows. So the tests are tables of plain data, each walked by one short function that answers with the
 //! place of the first case that fails, and a call whose contract is long stands in a function that promises nothing.
-use std::alloc::Global;
-use smv_expression_reader::expression;
+use base_values::{Dotted, OutOfMemory};
 use fault_instructions::Instructions;
 use fault_reader::instructions;
+use smv_expression_reader::expression;
 use smv_flat::flatten;
-use smv_model_reader::program;
 use smv_language::model::FlatModel;
 use smv_language::{Expr, Program};
-use base_values::{Dotted, OutOfMemory};
+use smv_model_reader::program;
+use std::alloc::Global;
 
 /// The program that a text spells.
 pub fn program_of(alloc: Global, text: &[u8]) -> Option<Program> {

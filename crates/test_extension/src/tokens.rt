@@ -1,8 +1,8 @@
 //! Where the tokens of texts stand, and where a text has none.
-use std::alloc::Global;
-use std::test::Fail;
 use smv_lexer::TokenKind::{And, AtMost, Dots, Iff, Implies, Minus, Number, Word};
 use smv_lexer::{LexFault, OutOfMemory, TokenKind, TokenList, tokens};
+use std::alloc::Global;
+use std::test::Fail;
 
 /// A token's kind, its first place and the place behind it.
 type Spot = (TokenKind, u32, u32);

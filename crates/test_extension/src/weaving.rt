@@ -1,11 +1,11 @@
 //! The order of a woven program's faults with the variables and symbols of their modes, and how guards are judged.
 use crate::texts::{instructions_of, joined, model_of, program_of};
-use std::alloc::Global;
 use fault_extend::{Cause, WeaveFault, Woven, weave};
 use fault_instructions::Instructions;
 use smv_flat::FlatFault;
 use smv_language::model::FlatModel;
 use smv_types::TypeFault;
+use std::alloc::Global;
 
 static LEFT_AND_RIGHT: &[u8] =
     b"MODULE Left VAR out : boolean; ASSIGN out := TRUE; MODULE Right VAR out : boolean; ASSIGN out := TRUE; MODULE main VAR a : Left; VAR b : Right;";

@@ -5,10 +5,10 @@
 // asked, or once it was told, ends the run with want of memory. One that was neither would not. The same holds of what one has heard.
 
 use crate::desks::{BOTH, File, PAIR, SWITCHES, desk_of, joined, ran};
-use std::alloc::Global;
+use base_values::OutOfMemory;
 use sat_adviser::{Active, Adviser, InOrder, News};
 use sat_clauses::lit::Lit;
-use base_values::OutOfMemory;
+use std::alloc::Global;
 
 /// What an adviser has no room after.
 #[derive(Clone, Copy, PartialEq, Eq)]

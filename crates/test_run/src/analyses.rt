@@ -2,10 +2,10 @@
 // are free.
 
 use crate::desks::{BOTH, GLITCH, LAMP, PAIR, PULSE, desk_of, ends, ran};
-use std::alloc::Global;
-use sat_adviser::{Active, Adviser, CodeList, InOrder, Scripted};
 use base_files::MemoryDesk;
 use base_values::OutOfMemory;
+use sat_adviser::{Active, Adviser, CodeList, InOrder, Scripted};
+use std::alloc::Global;
 
 /// The lamp, whose first moment is none.
 const NEVER: &[u8] =

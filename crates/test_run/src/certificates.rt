@@ -1,8 +1,8 @@
 // Rows of certificates that are judged, over desks in memory.
 
 use crate::desks::{DARK, LAMP, TINY, ends, joined, written};
-use std::alloc::Global;
 use base_values::OutOfMemory;
+use std::alloc::Global;
 
 static CHECK: [&str; 9] = [
     "check", "--model", "m", "--faults", "f", "--top", "!on", "--cert", "c",

@@ -4,11 +4,11 @@
 //! of `run` is long, so it is called in one place, by a function that promises nothing; and the rows are tables of
 //! plain data, each walked by one short loop.
 
-use std::alloc::Global;
-use sat_adviser::Adviser;
 use base_files::{Fail, FailList, FileList, MemoryDesk, NamedFile};
-use verb_run::run::run;
 use base_values::OutOfMemory;
+use sat_adviser::Adviser;
+use std::alloc::Global;
+use verb_run::run::run;
 
 pub const LAMP: &[u8] =
     b"MODULE main\nVAR\n  on : boolean;\nASSIGN\n  init(on) := TRUE;\n  next(on) := on;\n";

@@ -2,11 +2,11 @@
 ghost use Rattle.std.specs.Prelude.{◌<◌, ◌^◌, length};
 
 use crate::desks::{DARK, LAMP, declared, desk_of, joined, ran, rest_from};
-use std::alloc::Global;
 use base_files::{CallKind, Fail, MemoryDesk};
+use base_values::OutOfMemory;
 use smv_expression_reader::expression;
 use smv_language::print_expr;
-use base_values::OutOfMemory;
+use std::alloc::Global;
 
 const EXTENDED: &[u8] =
     b"MODULE main\nVAR\n  on : boolean;\nASSIGN\n  init(on#nominal) := TRUE;\n  next(on#nominal) := on;\nVAR\n  on#nominal : boolean;\n  Lamp#mode : {Lamp#nominal, Lamp#dark};\nASSIGN\n  init(Lamp#mode) := Lamp#nominal;\n  next(Lamp#mode) := case (Lamp#mode = Lamp#dark) : Lamp#dark; TRUE : ({Lamp#nominal} union (TRUE ? {Lamp#dark} : {Lamp#nominal})); esac;\n  on := case (Lamp#mode = Lamp#dark) : FALSE; TRUE : on#nominal; esac;\n";

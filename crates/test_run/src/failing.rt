@@ -1,9 +1,9 @@
 // Each verb ends as one whose desk failed, and not for want of memory, wherever a read, a start, an append or a say fails.
 
 use crate::desks::{FLASH, File, LAMP, SWITCHES, desk_of, ran};
-use std::alloc::Global;
 use base_files::{CallKind, Fail};
 use base_values::OutOfMemory;
+use std::alloc::Global;
 
 /// The switch b may be stuck only where a is, and both modes have a mark.
 const MARKED: &[u8] =

@@ -2,9 +2,9 @@
 // written is accepted, and what stands where a call of the desk fails.
 
 use crate::desks::{BOTH, DARK, FLASH, File, LAMP, SWITCHES, desk_of, ran, shows, written};
-use std::alloc::Global;
 use base_files::{CallKind, Fail, write_whole};
 use base_values::OutOfMemory;
+use std::alloc::Global;
 
 /// The switch b may be stuck only where a is.
 const AFTER: &[u8] =

@@ -5,9 +5,9 @@ use crate::desks::{
     DARK, File, GLITCH, LAMP, PULSE, TINY, declared, desk_of, ends, joined, ran, rest_from, spaces,
     written,
 };
-use std::alloc::Global;
 use base_files::{CallKind, Fail};
 use base_values::OutOfMemory;
+use std::alloc::Global;
 
 const PASSED: &str = "seen & !pulse";
 

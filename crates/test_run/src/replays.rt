@@ -1,8 +1,8 @@
 // Rows of replays, of top events and of words that are refused, over desks in memory.
 
 use crate::desks::{DARK, GLITCH, LAMP, PULSE, ends, joined};
-use std::alloc::Global;
 use base_values::OutOfMemory;
+use std::alloc::Global;
 
 const PASSED: &str = "seen & !pulse";
 

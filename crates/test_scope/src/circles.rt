@@ -4,15 +4,15 @@ ghost use Rattle.std.specs.Prelude.{◌≡◌, Some, codes, IfOk};
 ghost use Rattle.smv_language.specs.ProgramTree.{program_tree};
 ghost use Rattle.smv_scope.specs.SceneTree.{module_from, IsScene};
 
-use std::alloc::Global;
+use base_values::{Dotted, Items, Name, OutOfMemory};
 use smv_expression_reader::expression;
+use smv_language::{Define, Expr, Module, Program, Section};
 use smv_scope::FlatFault;
 use smv_scope::modules::{Modules, main_place};
 use smv_scope::names::Scene;
 use smv_scope::needs::Needs;
 use smv_scope::walk::Walk;
-use smv_language::{Define, Expr, Module, Program, Section};
-use base_values::{Dotted, Items, Name, OutOfMemory};
+use std::alloc::Global;
 
 /// Definitions of one module, named `a`, `b` and so on by their places, and of each whether it is on a circle: `o`
 /// for one that is, and `.` for one that is not.

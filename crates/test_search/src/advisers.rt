@@ -1,9 +1,9 @@
 //! Which adviser of a panel is asked, and what each kind of them answers.
-use std::alloc::Global;
-use std::test::Fail;
+use base_values::OutOfMemory;
 use sat_adviser::{Active, Adviser, CodeList, InOrder, Panel, Scripted};
 use sat_clauses::lit::Lit;
-use base_values::OutOfMemory;
+use std::alloc::Global;
+use std::test::Fail;
 
 /// An adviser that answers these codes in turn.
 fn scripted(alloc: Global, codes: &[u64]) -> Result<Scripted, OutOfMemory> {

@@ -1,12 +1,12 @@
 //! What is chosen where a panel's adviser answers this or that, and when an adviser is dropped.
 use crate::advisers::{add_in_order, add_scripted};
 use crate::clauses::make_true;
-use std::alloc::Global;
-use std::test::Fail;
+use base_values::OutOfMemory;
 use sat_adviser::{Adviser, Panel};
 use sat_clauses::assign::Assign;
 use sat_solver::choose::{choose, least_free};
-use base_values::OutOfMemory;
+use std::alloc::Global;
+use std::test::Fail;
 
 // The code of the literal that is chosen, or 0 where no variable is free.
 fn chosen(panel: &mut Panel, assign: &Assign) -> u64 {

@@ -2,12 +2,12 @@
 ghost use Rattle.std.specs.Prelude.{◌<◌, IsTrue};
 
 use crate::clauses::{are, literal, number_of};
-use std::alloc::Global;
-use std::test::Fail;
+use base_values::OutOfMemory;
 use sat_circuits::gates::Gates;
 use sat_clauses::clause::ClauseList;
 use sat_clauses::lit::Lit;
-use base_values::OutOfMemory;
+use std::alloc::Global;
+use std::test::Fail;
 
 // Whether the clauses are these, in their order.
 fn are_all(clauses: &ClauseList, wanted: &[&[i64]]) -> bool {

@@ -2,11 +2,11 @@
 ghost use Rattle.std.specs.Prelude.{◌↔◌, IsTrue, All};
 ghost use Rattle.sat_clauses.specs.Derivation.{IsUpTo};
 
-use std::alloc::Global;
+use base_values::OutOfMemory;
 use sat_clauses::assign::Assign;
 use sat_clauses::clause::ClauseList;
 use sat_clauses::lit::Lit;
-use base_values::OutOfMemory;
+use std::alloc::Global;
 
 /// The literal of a number other than 0, up to a million.
 pub fn literal(number: i64) -> Lit {

@@ -1,12 +1,12 @@
 //! Steps that a checker takes and refuses, by hints that were worked out by hand, and a long derivation.
 use crate::clauses::{are_up_to, lits_of};
-use std::alloc::Global;
-use std::test::Fail;
+use base_values::OutOfMemory;
 use sat_clauses::checker::Checker;
 use sat_clauses::clause::Clause;
 use sat_clauses::recorder::{KeepAll, KeepNone, Recorder};
 use sat_clauses::step::{HintList, Step, StepFault};
-use base_values::OutOfMemory;
+use std::alloc::Global;
+use std::test::Fail;
 
 // The answer to a step as a number: of a bad hint its place.
 const TAKEN: u64 = 0;

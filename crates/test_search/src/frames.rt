@@ -1,14 +1,14 @@
 //! Small systems by tables of their steps, and rings, each with what its frames end in.
 use crate::clauses::{add, list_of, literal};
-use std::alloc::Global;
-use std::test::Fail;
-use sat_adviser::Panel;
+use base_values::OutOfMemory;
 use cut_frames::{Advanced, Cleared, Frames, StepList, can_frame};
+use sat_adviser::Panel;
 use sat_clauses::System;
 use sat_clauses::assign::Assign;
 use sat_clauses::clause::ClauseList;
 use sat_clauses::lit::Lit;
-use base_values::OutOfMemory;
+use std::alloc::Global;
+use std::test::Fail;
 
 // How a search through frames ends.
 #[derive(Drop)]

@@ -1,13 +1,13 @@
 //! What advisers hear of a search: each clause that it learned, and as often as it restarted another one of
 //! them has the word.
 use crate::clauses::crowd;
-use std::alloc::Global;
-use std::test::Fail;
+use base_values::OutOfMemory;
 use sat_adviser::{Adviser, Panel};
 use sat_clauses::lit::Lit;
 use sat_clauses::recorder::{KeepAll, Recorder};
 use sat_solver::solve::{Verdict, can_solve, solve};
-use base_values::OutOfMemory;
+use std::alloc::Global;
+use std::test::Fail;
 
 // Picks no literal, but tells by its picks what it heard: the mix of all literals, and one more for each
 // clause.

@@ -1,11 +1,11 @@
 //! What a clause is while its literals get values.
 use crate::clauses::{are_up_to, literal, lits_of, make_true, number_of};
-use std::alloc::Global;
-use std::test::Fail;
+use base_values::OutOfMemory;
 use sat_clauses::assign::Assign;
 use sat_clauses::clause::{Clause, ClauseList, Truth};
 use sat_clauses::truth::truth;
-use base_values::OutOfMemory;
+use std::alloc::Global;
+use std::test::Fail;
 
 // What a clause is as a number: of a unit clause that of its free literal.
 const UNKNOWN: i64 = 0;

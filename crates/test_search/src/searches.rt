@@ -5,8 +5,7 @@ ghost use Rattle.std.specs.Prelude.{◌≡◌, None, OnOk};
 use crate::advisers::add_in_order;
 use crate::clauses::{add, are_up_to, crowd, list_of, literal, lits_of};
 use crate::stores::push;
-use std::alloc::Global;
-use std::test::Fail;
+use base_values::OutOfMemory;
 use sat_adviser::{Adviser, Panel};
 use sat_clauses::assign::Assign;
 use sat_clauses::checker::Checker;
@@ -20,7 +19,8 @@ use sat_clauses::truth::truth;
 use sat_solver::arena::Arena;
 use sat_solver::kept::Search;
 use sat_solver::solve::{Verdict, can_solve, solve, solve_in};
-use base_values::OutOfMemory;
+use std::alloc::Global;
+use std::test::Fail;
 
 // Picks no literal, but tells by its picks how often it was asked and told.
 #[derive(Drop)]

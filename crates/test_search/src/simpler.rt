@@ -1,11 +1,11 @@
 //! Simpler lists say the same of their places as the lists that they were made of: by trying every value of every
 //! variable of small lists, and by what is left of lists whose gates follow from each other.
-use std::alloc::Global;
-use std::test::Fail;
+use base_values::OutOfMemory;
 use sat_clauses::clause::{Clause, ClauseList};
 use sat_clauses::lit::Lit;
 use sat_simplify::simplified;
-use base_values::OutOfMemory;
+use std::alloc::Global;
+use std::test::Fail;
 
 // The highest place, the highest variable of the small lists, and how many of them are tried.
 const PLACES: u64 = 4;

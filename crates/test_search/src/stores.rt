@@ -1,10 +1,10 @@
 //! What stores find right after a literal was made true: the plain one and the one with watched literals.
 use crate::clauses::{are, are_up_to, literal, lits_of};
-use std::alloc::Global;
-use std::test::Fail;
+use base_values::OutOfMemory;
 use sat_clauses::store::{PlainStore, Store};
 use sat_solver::arena::Arena;
-use base_values::OutOfMemory;
+use std::alloc::Global;
+use std::test::Fail;
 
 // What is done to a store: a clause is appended, a literal made true, all but so many literals of the
 // trail are dropped, or a variable comes.

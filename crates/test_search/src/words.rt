@@ -2,8 +2,7 @@
 ghost use Rattle.std.specs.Prelude.{◌≤◌, ◌-◌, ◌^◌, length};
 ghost use Rattle.sat_circuits.specs.Words.{IsWordOf};
 
-use std::alloc::Global;
-use std::test::Fail;
+use base_values::OutOfMemory;
 use sat_circuits::compare::{equal, less};
 use sat_circuits::constants::number_at;
 use sat_circuits::counts::at_most;
@@ -14,7 +13,8 @@ use sat_circuits::sums::{add, negate, subtract};
 use sat_circuits::word::Word;
 use sat_clauses::clause::{Clause, ClauseList};
 use sat_clauses::lit::Lit;
-use base_values::OutOfMemory;
+use std::alloc::Global;
+use std::test::Fail;
 
 #[derive(Clone, Copy)]
 enum Operation {

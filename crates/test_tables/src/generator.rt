@@ -1,9 +1,9 @@
 //! The model of eight stages, the instructions and the top event, as they are printed.
 
-use std::alloc::Global;
-use fault_instructions::print_instructions;
 use fault_generator::{generated_instructions, generated_model, generated_top};
+use fault_instructions::print_instructions;
 use smv_language::{print_expr, print_program};
+use std::alloc::Global;
 
 /// Of number 1, stages 1, 2 and 7 are on rail A, and the others on rail B.
 const EIGHT_STAGES: &[u8] =

@@ -1,8 +1,8 @@
 //! The bounds of two sets, and their sum.
 
-use std::test::Fail;
-use fault_odds::{OddsList, bound, print_odds};
 use base_values::{FaultSet, SetList};
+use fault_odds::{OddsList, bound, print_odds};
+use std::test::Fail;
 
 const PRINTED: &[u8] =
     b"odds 1 0.025000000000000000\nodds 2 1.000000000000000000\nsum 1.025000000000000000 within 1\n";

@@ -2,10 +2,10 @@
 
 ghost use Rattle.std.specs.Prelude.{◌≡◌, [], ◌∷◌, IfOk};
 
+use base_values::{Ending, FaultSet, OutOfMemory, SetList};
+use cut_tables::{Column, ColumnList, print_table, table};
 use std::alloc::Global;
 use std::test::Fail;
-use cut_tables::{Column, ColumnList, print_table, table};
-use base_values::{Ending, FaultSet, OutOfMemory, SetList};
 
 const PRINTED: &[u8] =
     b"faults 2\ntops 2\ntop 1 complete\ntop 2 bounded 7 bits 11\nrow : no unknown\nrow 1 : no yes\nrow 2 : no unknown\nrow 1 2 : yes yes\n";

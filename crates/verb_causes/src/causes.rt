@@ -18,21 +18,21 @@ ghost use Rattle.verb_causes.specs.Causes.{staged_in, events_in, IsStagedEvent, 
 ghost use Rattle.verb_causes.specs.Refusals.{RefusesStaged, BreaksLine, RefusesJudged, RefusesCauseCheck};
 
 use crate::staged::{StagedEvent, discard, load_staged};
-use std::alloc::Global;
-use sat_adviser::Panel;
-use cut_model_search::{analyse, certify, told};
-use cert_text::{Certificate, write};
+use base_files::{Desk, say_whole};
+use base_values::{ByteList, OutOfMemory};
+use cert_check::{Judged, check};
 use cert_file::certificate::{accepted_report, line_stop, load_certificate};
 use cert_file::conclusion::{Conclusion, conclude};
-use cert_check::{Judged, check};
+use cert_text::{Certificate, write};
+use cut_model_search::{analyse, certify, told};
+use cut_report::print_analysis;
 use cut_search::answer::{Analysis, End};
-use base_files::{Desk, say_whole};
+use sat_adviser::Panel;
+use smv_scope::items::number_of;
+use std::alloc::Global;
+use verb_command_line::{CheckCauses, FindCauses};
 use verb_loading::input::Stop;
 use verb_loading::status::{Status, ended_as};
-use cut_report::print_analysis;
-use smv_scope::items::number_of;
-use base_values::{ByteList, OutOfMemory};
-use verb_command_line::{CheckCauses, FindCauses};
 
 /// A search gives each symbol a number below this. A model of three files within their limits has far fewer.
 const MOST_SYMBOLS: usize = 2_147_483_648;

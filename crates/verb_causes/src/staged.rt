@@ -20,10 +20,14 @@ ghost use Rattle.verb_loading.specs.declared.input.Stop.TheVariants as stop;
 ghost use Rattle.verb_causes.specs.Causes.{stop_at_causes, flat_in, modes_in, faults_in, extension_in, IsSomeCase, AreCausesOf, HoldsCauses, HasCauses, IsStagedCase, IsStagedEvent};
 ghost use Rattle.verb_causes.specs.Refusals.{cause_number, stop_of_causes, IsRefusedCausesFile, BreaksStaged, RefusesBytes, RefusesCauses, RefusesStaged};
 
-use std::alloc::Global;
-use fault_causes_reader::{CauseFault, CauseRule, read_causes};
 use base_files::{Desk, DeskFault, read_whole};
+use fault_causes_reader::{CauseFault, CauseRule, read_causes};
+use fault_staging::{CauseList, with_causes};
 use smv_flat::with_history;
+use smv_language::Expr;
+use smv_language::model::{FaultList, Flat};
+use smv_types::Typed;
+use std::alloc::Global;
 use verb_loading::event::LoadedEvent;
 use verb_loading::input::Stop;
 use verb_loading::loaded::{LoadedCase, load_case, typed_whole};
@@ -31,10 +35,6 @@ use verb_loading::model::{LoadedModel, load_model};
 use verb_loading::status::{InputFault, Part, Refusal};
 use verb_loading::top::load_top;
 use verb_loading::wrong::Wrong;
-use fault_staging::{CauseList, with_causes};
-use smv_language::Expr;
-use smv_language::model::{FaultList, Flat};
-use smv_types::Typed;
 
 /// The limit of a causes file, in bytes.
 const LIMIT: u64 = 1_048_576;

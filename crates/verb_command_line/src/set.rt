@@ -5,8 +5,8 @@ ghost use Rattle.verb_command_line.specs.Sets.{words_of, numbers_of, IsSet};
 ghost use Rattle.verb_command_line.specs.Reading.{rises as rises_to, is_rising, is_set_text, same_number as are_same, has_number as has_number_in, words_left, left_length, smalls};
 
 use crate::number::{number, small_number};
-use std::alloc::Global;
 use base_values::OutOfMemory;
+use std::alloc::Global;
 
 /// The largest number of a set.
 const MOST: u64 = 256;

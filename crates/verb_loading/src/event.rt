@@ -13,10 +13,10 @@ use crate::input::Stop;
 use crate::loaded::{LoadedCase, load_case};
 use crate::model::{LoadedModel, load_model};
 use crate::top::load_top;
-use std::alloc::Global;
 use base_files::Desk;
 use smv_language::Expr;
 use smv_language::model::Flat;
+use std::alloc::Global;
 
 /// A model, its extension, and a top event over that.
 #[derive(Drop)]

@@ -22,15 +22,15 @@ use crate::input::{Input, Stop, read_input};
 use crate::model::LoadedModel;
 use crate::report::report;
 use crate::wrong::Wrong;
-use std::alloc::Global;
 use base_files::Desk;
+use base_values::{ByteList, OutOfMemory};
 use fault_extend::{Woven, fault_list, weave_typed};
 use fault_reader::instructions;
 use smv_flat::{FlatFault, flatten, with_history};
 use smv_language::model::{FaultList, FlatModel};
 use smv_language::{Program, print_program};
 use smv_types::{TypeFault, check_model};
-use base_values::{ByteList, OutOfMemory};
+use std::alloc::Global;
 
 /// What is written and said once every refusal was tried.
 #[derive(Drop)]

@@ -10,9 +10,9 @@ ghost use Rattle.verb_loading.specs.declared.input.Stop.TheVariants as stop;
 
 use crate::status::{InputFault, Part, Refusal};
 use crate::wrong::Wrong;
-use std::alloc::Global;
 use base_files::{Desk, DeskFault, WriteStop, read_whole};
 use base_values::OutOfMemory;
+use std::alloc::Global;
 
 /// The limit of an input file, in bytes.
 const LIMIT: u64 = 1_048_576;

@@ -20,7 +20,6 @@ use crate::faults::flat_whole;
 use crate::input::{Input, Stop, read_input};
 use crate::model::LoadedModel;
 use crate::wrong::Wrong;
-use std::alloc::Global;
 use base_files::Desk;
 use fault_extend::{Woven, fault_list, weave_typed};
 use fault_instructions::Instructions;
@@ -28,6 +27,7 @@ use fault_reader::instructions;
 use smv_flat::with_history;
 use smv_language::model::{FaultList, FlatModel};
 use smv_types::{TypeFault, Typed, check_model};
+use std::alloc::Global;
 
 /// The extension of a model by instructions: the program, the numbers of its faults, and its flat model with its
 /// kinds.

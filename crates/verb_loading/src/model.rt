@@ -14,12 +14,12 @@ ghost use Rattle.verb_loading.specs.declared.input.Stop.TheVariants as stop;
 
 use crate::input::{Input, Stop, read_input};
 use crate::wrong::Wrong;
-use std::alloc::Global;
 use base_files::Desk;
 use smv_flat::flatten;
-use smv_model_reader::program;
 use smv_language::Program;
+use smv_model_reader::program;
 use smv_types::{Typed, check_model};
+use std::alloc::Global;
 
 /// A model that is taken: its program, and the flat model of that with its kinds.
 #[derive(Drop)]

@@ -7,11 +7,11 @@ ghost use Rattle.cut_report.specs.FaultText.{faults_text};
 ghost use Rattle.verb_loading.specs.Reports.{name_text, place_text, parts_text};
 ghost use Rattle.smv_language.specs.ModelTree.{place_of, name_of_fault};
 
-use std::alloc::Global;
-use fault_extend::WovenFault;
-use cut_report::print_faults;
-use smv_language::model::FaultList;
 use base_values::{ByteList, Dotted, Name, OutOfMemory};
+use cut_report::print_faults;
+use fault_extend::WovenFault;
+use smv_language::model::FaultList;
+use std::alloc::Global;
 
 /// The number of faults, each fault with its number and name, and that the extension is written.
 pub(crate) fn report(alloc: Global, faults: &FaultList) -> Result<ByteList, OutOfMemory>

@@ -5,8 +5,8 @@ ghost use Rattle.std.specs.Prelude.{◌≡◌, ◌≤ℤ◌, pos, ◌++◌, IfOk
 ghost use Rattle.cut_text_laws.specs.Analysis.{told_ending};
 ghost use Rattle.verb_loading.specs.Statuses.{ended_with, IsFinished, number_of, status_of, part_text, rule_text, fault_text, words_text, refusal_text, why_text, moment_text, line_text};
 
-use std::alloc::Global;
 use base_values::{ByteList, Ending, OutOfMemory};
+use std::alloc::Global;
 use verb_command_line::WordFault;
 
 /// What is wrong with an input: how far the work on it came.

@@ -24,13 +24,13 @@ use crate::loaded::LoadedCase;
 use crate::model::LoadedModel;
 use crate::status::{InputFault, Part, Refusal};
 use crate::wrong::Wrong;
-use std::alloc::Global;
+use base_values::Dotted;
 use smv_expression_reader::expression;
 use smv_flat::resolve_top;
 use smv_language::model::{Flat, FlatModel};
 use smv_language::{Expr, Program};
 use smv_types::check_top;
-use base_values::Dotted;
+use std::alloc::Global;
 
 /// The limit of the text of a top event, in bytes.
 const TOP_LIMIT: usize = 65_536;

@@ -6,14 +6,14 @@ ghost use Rattle.verb_loading.specs.declared.wrong.Wrong.TheVariants as wrong;
 ghost use Rattle.verb_loading.specs.Wrongs.{lex_wrong, parse_wrong, flat_wrong, type_wrong, weave_wrong, weave_rule};
 
 use crate::status::{InputFault, Part};
-use smv_expression_reader::ParseFault;
+use base_values::OutOfMemory;
 use fault_extend::{Cause, WeaveFault};
 use fault_instructions::EffectFault;
+use fault_rules as weave;
+use smv_expression_reader::ParseFault;
 use smv_flat::{FlatFault, Rule};
 use smv_lexer::LexFault;
 use smv_types::TypeFault;
-use base_values::OutOfMemory;
-use fault_rules as weave;
 
 /// Why an input is not taken.
 #[derive(Clone, Copy, Debug, PartialEq, Eq)]

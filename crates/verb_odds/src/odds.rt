@@ -21,22 +21,22 @@ ghost use Rattle.verb_loading.specs.Statuses.{ended_with, IsBoundedAt, IsFinishe
 ghost use Rattle.verb_odds.specs.Odds.{mark_rule, mark_refusal, RefusesOdds, RefusesMark, IsMarked, IsOddsFinding, FindsOdds, HasOdds, SaysOddsInPart};
 
 use crate::report::{append_ending, append_sets};
-use std::alloc::Global;
-use sat_adviser::Panel;
+use base_files::{Desk, say_whole};
+use base_values::{ByteList, Ending, OutOfMemory};
 use cut_model_search::search::{analysed, size_of};
 use cut_model_search::told;
+use cut_report::print_faults;
 use cut_search::answer::Analysis;
-use base_files::{Desk, say_whole};
+use fault_odds::{MarkFault, OddsFault, OddsList, marks, print_odds};
+use sat_adviser::Panel;
+use std::alloc::Global;
+use verb_command_line::FindOdds;
 use verb_loading::event::LoadedEvent;
 use verb_loading::input::Stop;
 use verb_loading::loaded::{LoadedCase, load_case};
 use verb_loading::model::load_model;
 use verb_loading::status::{InputFault, Part, Refusal, Status, ended_as};
 use verb_loading::top::load_top;
-use fault_odds::{MarkFault, OddsFault, OddsList, marks, print_odds};
-use cut_report::print_faults;
-use base_values::{ByteList, Ending, OutOfMemory};
-use verb_command_line::FindOdds;
 
 /// A case with a top event and its word, the units of each of its faults, and how far it is to be searched.
 #[derive(Drop)]

@@ -3,8 +3,8 @@ ghost use Rattle.std.specs.Prelude.{◌≡◌, ◌++◌, OnOk};
 ghost use Rattle.cut_text_laws.specs.Analysis.{told_ending};
 ghost use Rattle.verb_odds.specs.Reports.{sets_text, ending_line};
 
-use std::alloc::Global;
 use base_values::{ByteList, Ending, FaultSet, OutOfMemory};
+use std::alloc::Global;
 
 /// Appends the number of the sets, and a line for each with its numbers.
 #[tactic(auto, using(verb_loading::proofs::ReportLaws::report_rules))]

@@ -19,18 +19,18 @@ ghost use Rattle.verb_orders.specs.Claimed.{staged_in, against_in};
 
 use crate::pair::{PairWords, StagedCase, discard_case, load_pair};
 use crate::searched::{are_few, expression};
-use std::alloc::Global;
-use cert_text::Certificate;
-use cert_file::certificate::{line_stop, load_certificate};
-use cert_check::{Judged, check_unlisted};
 use base_files::{Desk, say_whole};
-use verb_loading::input::Stop;
-use verb_loading::status::Status;
+use base_values::OutOfMemory;
+use cert_check::{Judged, check_unlisted};
+use cert_file::certificate::{line_stop, load_certificate};
+use cert_text::Certificate;
 use fault_orders::Relation;
 use smv_language::Expr;
 use smv_language::model::Flat;
-use base_values::OutOfMemory;
+use std::alloc::Global;
 use verb_command_line::CheckOrders;
+use verb_loading::input::Stop;
+use verb_loading::status::Status;
 
 /// Judges a certificate of an order, and says that it is accepted.
 pub fn check_orders<D: Desk>(

@@ -19,18 +19,18 @@ ghost use Rattle.verb_orders.specs.Claimed.{IsSearchOf, IsTraceAgainst, IsToldBy
 use crate::pair::{PairWords, StagedCase, discard_case, load_pair};
 use crate::searched::{Searched, discard_search, search};
 use crate::verdict::{cut, relation_of, report_claim, report_either};
-use std::alloc::Global;
-use sat_adviser::Panel;
-use cut_model_search::{certify, told};
-use cert_text::write;
-use cert_file::conclusion::{Conclusion, conclude};
-use cut_search::answer::End;
 use base_files::Desk;
+use base_values::{ByteList, Ending, MomentList, OutOfMemory, TraceList};
+use cert_file::conclusion::{Conclusion, conclude};
+use cert_text::write;
+use cut_model_search::{certify, told};
+use cut_search::answer::End;
+use fault_orders::Relation;
+use sat_adviser::Panel;
+use std::alloc::Global;
+use verb_command_line::FindOrders;
 use verb_loading::input::Stop;
 use verb_loading::status::{Status, ended_as};
-use fault_orders::Relation;
-use base_values::{ByteList, Ending, MomentList, OutOfMemory, TraceList};
-use verb_command_line::FindOrders;
 
 /// Searches for the order of the two faults, writes a certificate of a complete answer, and says the line of the pair.
 pub fn find_orders<D: Desk>(

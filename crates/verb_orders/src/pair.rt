@@ -20,9 +20,14 @@ ghost use Rattle.verb_loading.specs.declared.status.Refusal.{Refusal};
 ghost use Rattle.verb_loading.specs.declared.input.Stop.TheVariants as stops;
 ghost use Rattle.verb_orders.specs.Pairs.{IsPair, IsAsked, IsFirstOutside, outside_refusal, stage_refusal, RefusesStage, RefusesAsked, IsStaged, IsStagedCase};
 
-use std::alloc::Global;
-use cert_check::is_fault;
 use base_files::Desk;
+use cert_check::is_fault;
+use cut_sets::has_number;
+use fault_orders::stage;
+use smv_language::model::FaultList;
+use smv_types::Typed;
+use std::alloc::Global;
+use verb_command_line::set::set_numbers;
 use verb_loading::event::LoadedEvent;
 use verb_loading::input::{Input, Stop};
 use verb_loading::loaded::{Limited, load_case, typed_whole};
@@ -30,11 +35,6 @@ use verb_loading::model::load_model;
 use verb_loading::status::{InputFault, Part, Refusal};
 use verb_loading::top::load_top;
 use verb_loading::wrong::Wrong;
-use fault_orders::stage;
-use cut_sets::has_number;
-use smv_language::model::FaultList;
-use smv_types::Typed;
-use verb_command_line::set::set_numbers;
 
 /// The files of a model and its instructions, and the words of a top event, a set of faults, and two of its numbers.
 #[derive(Clone, Copy)]

@@ -8,14 +8,14 @@ ghost use Rattle.verb_orders.specs.Pairs.{IsStagedCase};
 ghost use Rattle.verb_orders.specs.Claimed.{HasFew, SpeaksFor, IsAnswerAlone, IsSearchOf};
 
 use crate::pair::StagedCase;
-use std::alloc::Global;
-use sat_adviser::Panel;
+use base_values::OutOfMemory;
 use cut_model_search::analyse;
 use cut_search::answer::Analysis;
 use fault_orders::{Relation, against};
+use sat_adviser::Panel;
 use smv_language::Expr;
 use smv_language::model::Flat;
-use base_values::OutOfMemory;
+use std::alloc::Global;
 
 /// A search gives each symbol a number below this. A model of two files within their limits has far fewer.
 const MOST_SYMBOLS: usize = 2_147_483_648;

@@ -11,11 +11,11 @@ ghost use Rattle.verb_orders.specs.Orders.{claimed, either, claim_word, order_te
 ghost use Rattle.verb_orders.specs.Claimed.{is_true_value, relation_at as relation_at_end, relation_in};
 
 use crate::pair::StagedCase;
-use std::alloc::Global;
-use fault_orders::Relation;
-use cut_report::print_trace;
-use smv_types::Typed;
 use base_values::{ByteList, Ending, MomentList, OutOfMemory, Valuation, Value};
+use cut_report::print_trace;
+use fault_orders::Relation;
+use smv_types::Typed;
+use std::alloc::Global;
 
 /// The relation of the pair that a trace of the staged model has: its last two values say whether the first fault came
 /// ahead of the second, and whether it came behind it.

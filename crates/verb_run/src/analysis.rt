@@ -9,13 +9,13 @@ ghost use Rattle.verb_loading.specs.LoadedEvents.{IsEvent};
 ghost use Rattle.verb_run.specs.Findings.{analysed_case, analysed_size};
 
 use crate::search::search;
-use std::alloc::Global;
-use sat_adviser::Panel;
-use cert_file::conclusion::conclude;
 use base_files::{Desk, WriteStop, write_whole};
+use cert_file::conclusion::conclude;
+use sat_adviser::Panel;
+use smv_language::print_program;
+use std::alloc::Global;
 use verb_loading::event::LoadedEvent;
 use verb_loading::status::{Status, ended_as};
-use smv_language::print_program;
 
 /// What is to be analysed, and where its files go.
 #[derive(Drop)]

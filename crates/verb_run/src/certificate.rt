@@ -11,15 +11,15 @@ ghost use Rattle.verb_run.specs.Certificates.{RefusesLine, IsAcceptedFor, CertRe
 ghost use Rattle.verb_loading.specs.declared.status.Refusal.{Refusal};
 ghost use Rattle.verb_loading.specs.declared.input.Stop.TheVariants as stop;
 
-use std::alloc::Global;
-use cert_text::Certificate;
-use cert_file::certificate::{accepted_report, line_stop, load_certificate};
-use cert_check::{Judged, check};
 use base_files::Desk;
+use base_values::ByteList;
+use cert_check::{Judged, check};
+use cert_file::certificate::{accepted_report, line_stop, load_certificate};
+use cert_text::Certificate;
+use std::alloc::Global;
 use verb_loading::event::LoadedEvent;
 use verb_loading::input::Stop;
 use verb_loading::status::Refusal;
-use base_values::ByteList;
 
 /// A judgement gives each symbol a number below this. A model of two files within their limits has far fewer.
 const MOST_SYMBOLS: usize = 2_147_483_648;

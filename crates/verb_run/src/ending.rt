@@ -10,13 +10,13 @@ ghost use Rattle.verb_loading.specs.Statuses.{IsFinished, status_of, refusal_tex
 ghost use Rattle.verb_run.specs.Findings.{finished_as};
 ghost use Rattle.verb_run.specs.Delivered.{ended_as, Stopped, Concluded};
 
-use std::alloc::Global;
 use base_files::{Desk, WriteStop, say_whole, write_whole};
+use base_values::OutOfMemory;
+use std::alloc::Global;
+use verb_command_line::WordFault;
 use verb_loading::faults::Made;
 use verb_loading::input::Stop;
 use verb_loading::status::{Refusal, Status, words_line};
-use base_values::OutOfMemory;
-use verb_command_line::WordFault;
 
 /// Ends a run that can't go on: a refusal says its line.
 pub(crate) fn stopped<D: Desk>(alloc: Global, desk: &mut D, stop: Stop) -> Status

@@ -10,15 +10,15 @@ ghost use Rattle.verb_run.specs.Runs.{IsCarriedOut, IsLeftInPart};
 ghost use Rattle.verb_run.specs.Short.{IsOfCommand};
 
 use crate::ending::concluded;
-use std::alloc::Global;
-use sat_adviser::Panel;
 use base_files::Desk;
+use sat_adviser::Panel;
+use std::alloc::Global;
 use verb_causes::causes::{check_causes, find_causes};
+use verb_command_line::{CheckCauses, CheckOrders, FindCauses, FindOdds, FindOrders};
+use verb_loading::status::Status;
 use verb_odds::odds::find_odds;
 use verb_orders::claims::check_orders;
 use verb_orders::orders::find_orders;
-use verb_loading::status::Status;
-use verb_command_line::{CheckCauses, CheckOrders, FindCauses, FindOdds, FindOrders};
 
 /// Finds the minimal cut sets of faults and common causes.
 pub(crate) fn causes<D: Desk>(

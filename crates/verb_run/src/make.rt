@@ -24,13 +24,16 @@ ghost use Rattle.verb_loading.specs.declared.input.Stop.TheVariants as stops;
 ghost use Rattle.verb_loading.specs.Wrongs.{IfRefused};
 ghost use Rattle.verb_run.specs.Made.{dead_word, IsOfGenerator, IsGeneratedText, HasMade, MakesInPart, summary_line, made_case, IsMaking, IsSummary};
 
-use std::alloc::Global;
-use sat_adviser::Panel;
+use base_files::{Desk, WriteStop, say_whole, write_whole};
+use base_values::{ByteList, Ending, OutOfMemory};
 use cut_model_search::search::{analysed, size_of};
 use cut_model_search::told;
-use base_files::{Desk, WriteStop, say_whole, write_whole};
-use fault_instructions::print_instructions;
 use fault_generator::{generated_instructions, generated_model};
+use fault_instructions::print_instructions;
+use sat_adviser::Panel;
+use smv_language::model::Flat;
+use smv_language::{Expr, print_program};
+use std::alloc::Global;
 use verb_loading::event::LoadedEvent;
 use verb_loading::input::Stop;
 use verb_loading::loaded::{LoadedCase, case_of};
@@ -38,9 +41,6 @@ use verb_loading::model::{LoadedModel, model_of};
 use verb_loading::status::{Status, ended_as};
 use verb_loading::top::load_top;
 use verb_loading::wrong::Wrong;
-use smv_language::model::Flat;
-use smv_language::{Expr, print_program};
-use base_values::{ByteList, Ending, OutOfMemory};
 
 /// A generated case with its top event, and the texts of its model and its instructions.
 #[derive(Drop)]

@@ -25,19 +25,19 @@ ghost use Rattle.cert_check.specs.Moments.{CanBeReplayed};
 ghost use Rattle.smv_language.specs.Told.{told_trace};
 
 use crate::trace::load_trace;
-use std::alloc::Global;
 use base_files::Desk;
-use smv_evaluation::{Replayed, Table, has_failed, replay};
+use base_values::{ByteList, MomentList, OutOfMemory};
 use fault_extend::WovenFault;
+use smv_evaluation::{Replayed, Table, has_failed, replay};
+use smv_language::Expr;
+use smv_language::model::{Fault, Flat};
+use smv_types::Typed;
+use std::alloc::Global;
 use verb_loading::input::Stop;
 use verb_loading::loaded::LoadedCase;
 use verb_loading::model::LoadedModel;
 use verb_loading::report::append_name;
 use verb_loading::status::{Objection, Refusal, Why};
-use smv_language::Expr;
-use smv_language::model::{Fault, Flat};
-use smv_types::Typed;
-use base_values::{ByteList, MomentList, OutOfMemory};
 
 /// Judges the trace of a file over the extension, and makes what is to be said of it.
 pub(crate) fn replay_file<D: Desk>(

@@ -26,9 +26,9 @@ ghost use Rattle.verb_odds.specs.Odds.{HasOdds};
 use crate::asked::{Askable, command_asked};
 use crate::ending::reject;
 use crate::verbs::carry_out;
-use std::alloc::Global;
-use sat_adviser::{Adviser, Panel};
 use base_files::Desk;
+use sat_adviser::{Adviser, Panel};
+use std::alloc::Global;
 use verb_loading::status::Status;
 
 /// Does what the words ask for. `extend` reads a model and instructions, writes the model extended with

@@ -13,18 +13,18 @@ ghost use Rattle.cut_model_search.specs.Searches.{IsSearched, HasCertificate};
 ghost use Rattle.verb_run.specs.Findings.{IsFinding, analysed_case, analysed_size};
 
 use crate::analysis::Analysing;
-use std::alloc::Global;
-use sat_adviser::Panel;
+use base_values::{ByteList, OutOfMemory};
+use cert_file::conclusion::Conclusion;
+use cert_text::write;
 use cut_model_search::search::{analysed, size_of};
 use cut_model_search::{certify, told};
-use cert_text::write;
-use cert_file::conclusion::Conclusion;
-use cut_search::answer::{Analysis, End};
-use verb_loading::loaded::LoadedCase;
 use cut_report::print_analysis;
+use cut_search::answer::{Analysis, End};
+use sat_adviser::Panel;
 use smv_language::Expr;
 use smv_language::model::Flat;
-use base_values::{ByteList, OutOfMemory};
+use std::alloc::Global;
+use verb_loading::loaded::LoadedCase;
 
 /// The text of a certificate of a complete analysis.
 fn certificate_text(

@@ -29,24 +29,24 @@ ghost use Rattle.verb_loading.specs.declared.input.Stop.TheVariants as stop;
 ghost use Rattle.verb_loading.specs.declared.wrong.Wrong.{Wrong};
 ghost use Rattle.smv_flat_laws.specs.ValueRules.{KeepsValue};
 
-use std::alloc::Global;
-use sat_adviser::Panel;
+use base_files::{Desk, DeskFault, WriteStop, read_whole, say_whole};
+use base_values::{Dotted, Ending, Items, OutOfMemory};
+use cut_frames::Frames;
 use cut_model_search::search::{analysed_in, frames_of_case, size_of};
 use cut_model_search::told;
-use base_files::{Desk, DeskFault, WriteStop, read_whole, say_whole};
-use smv_expression_reader::expressions;
+use cut_report::print_faults;
 use cut_tables::{Column, ColumnList, print_table, table};
-use cut_frames::Frames;
+use sat_adviser::Panel;
+use smv_expression_reader::expressions;
+use smv_language::model::Flat;
+use smv_language::{Expr, ExprList};
+use std::alloc::Global;
 use verb_loading::input::Stop;
 use verb_loading::loaded::{LoadedCase, load_case};
 use verb_loading::model::{LoadedModel, load_model};
 use verb_loading::status::{InputFault, Part, Refusal, Status};
 use verb_loading::top::{judge_top, over_extension, top_stop};
 use verb_loading::wrong::Wrong;
-use cut_report::print_faults;
-use smv_language::model::Flat;
-use smv_language::{Expr, ExprList};
-use base_values::{Dotted, Ending, Items, OutOfMemory};
 
 /// The limit of a file of top events, in bytes.
 const LIMIT: u64 = 1_048_576;

@@ -15,13 +15,13 @@ ghost use Rattle.verb_loading.specs.declared.status.Objection.TheVariants as obj
 ghost use Rattle.verb_loading.specs.declared.input.Stop.TheVariants as stop;
 ghost use Rattle.cert_check.specs.Moments.{CanBeReplayed};
 
-use std::alloc::Global;
 use base_files::{Desk, DeskFault, read_whole};
-use verb_loading::input::Stop;
-use verb_loading::status::{InputFault, Objection, Part, Refusal};
+use base_values::MomentList;
 use cut_report::{TraceFault, read_trace};
 use smv_types::Typed;
-use base_values::MomentList;
+use std::alloc::Global;
+use verb_loading::input::Stop;
+use verb_loading::status::{InputFault, Objection, Part, Refusal};
 
 /// The limit of the file of a trace, in bytes.
 const TRACE_LIMIT: u64 = 16_777_216;

@@ -23,9 +23,11 @@ use crate::further::{causes, checked_causes, checked_orders, odds, orders};
 use crate::make::{Making, deliver_made, generate};
 use crate::replay::replay_file;
 use crate::tops::{Tabulating, deliver_table, load_table};
-use std::alloc::Global;
-use sat_adviser::Panel;
 use base_files::{Desk, say_whole};
+use base_values::{ByteList, OutOfMemory};
+use sat_adviser::Panel;
+use std::alloc::Global;
+use verb_command_line::{Analyse, Check, Command, Extend, Fmea, Make, Replay};
 use verb_loading::event::load_event;
 use verb_loading::faults::{Made, load_extension};
 use verb_loading::input::Stop;
@@ -33,8 +35,6 @@ use verb_loading::loaded::load_case;
 use verb_loading::model::load_model;
 use verb_loading::status::Status;
 use verb_loading::top::load_top;
-use base_values::{ByteList, OutOfMemory};
-use verb_command_line::{Analyse, Check, Command, Extend, Fmea, Make, Replay};
 
 /// Carries out what was asked for.
 pub(crate) fn carry_out<D: Desk>(

@@ -9,6 +9,7 @@
 //! ```
 #![tactic(auto)]
 
+use smv_lexer::OutOfMemory;
 use std::alloc::{AllocError, Global};
 use std::io::{ErrorKind, Read};
 use std::process::ExitCode;
@@ -16,7 +17,6 @@ use std::rt::Files;
 use std::str::from_utf8;
 use std::{env, io};
 use xsap_refusals::{Explanation, look_up, read_refusal};
-use smv_lexer::OutOfMemory;
 
 /// No line of a refusal has so many bytes.
 const LONGEST_LINE: u64 = 256;

@@ -5,11 +5,11 @@ ghost use Rattle.std.specs.Prelude.{◌≤◌, None, IsErrOf, IfOk, length};
 ghost use Rattle.base_files.specs.Desk.{Rose};
 ghost use Rattle.base_files.specs.declared.desk.WriteStop.TheVariants as write_stop;
 
+use base_files::{Desk, ReadStop, WriteStop};
 use std::fs::{OpenFile, OpenOptions};
 use std::io;
 use std::io::{ErrorKind, Read, Seek, SeekFrom, Write};
 use std::rt::Files;
-use base_files::{Desk, ReadStop, WriteStop};
 
 /// Files of the system, by their names, and standard output.
 #[derive(Drop)]

@@ -23,16 +23,16 @@
 ghost use Rattle.std.specs.Prelude.{IfOk, map};
 ghost use Rattle.xsap_main.specs.Ended.{HasRun, IsEnded};
 
+use base_files::Desk;
+use base_values::OutOfMemory;
+use sat_adviser::{Active, Adviser, InOrder};
 use std::alloc::{AllocError, Global};
 use std::env;
 use std::io::ErrorKind;
 use std::process::ExitCode;
-use sat_adviser::{Active, Adviser, InOrder};
-use base_files::Desk;
 use verb_loading::status::Status;
-use xsap_main::{NOT_TEXT, RealDesk, exit_number};
 use verb_run::run::run;
-use base_values::OutOfMemory;
+use xsap_main::{NOT_TEXT, RealDesk, exit_number};
 
 /// Runs what the words of the command line ask for, and ends with the number of its status.
 fn main(rt: HostRuntime) -> ExitCode {

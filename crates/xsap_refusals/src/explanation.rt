@@ -12,8 +12,8 @@ use crate::lines::spot_of;
 use crate::meanings::meaning;
 use crate::refusal::Refusal;
 use crate::showing::{append_line, append_spot, append_text, line_of_moment, line_of_number};
-use std::alloc::Global;
 use smv_lexer::OutOfMemory;
+use std::alloc::Global;
 
 /// What a refusal means, the place that it tells, how that is found, and what is shown of the file that was refused.
 #[derive(Clone, Copy)]

@@ -5,8 +5,8 @@ ghost use Rattle.std.specs.Prelude.{◌≡◌, ◌≤◌, length, slice_range};
 
 use crate::counting::{Counter, Role};
 use crate::finding::Items;
-use std::alloc::Global;
 use smv_lexer::{LexFault, OutOfMemory, Token, tokens};
+use std::alloc::Global;
 
 /// Where an item stands in its file, in bytes from 0.
 #[derive(Clone, Copy)]

@@ -4,8 +4,8 @@ ghost use Rattle.std.specs.Prelude.{◌≡◌, IfOk, IfSome};
 ghost use Rattle.xsap_refusals.specs.Spelled.{line_of};
 
 use crate::refusal::{Part, Refusal, Subject, Why};
-use std::alloc::Global;
 use smv_lexer::OutOfMemory;
+use std::alloc::Global;
 
 /// The refusal of a line, without its line feed, where it is one's to the byte.
 pub fn read_refusal(alloc: Global, line: &str) -> Result<Option<Refusal>, OutOfMemory>

@@ -4,8 +4,8 @@
 ghost use Rattle.std.specs.Prelude.{◌≡◌, IfOk, string_bytes};
 ghost use Rattle.xsap_refusals.specs.Spelled.{subject_text, part_text, why_text, words_line, file_line, moment_line, rule_line, line_of, place_of};
 
-use std::alloc::Global;
 use smv_lexer::OutOfMemory;
+use std::alloc::Global;
 
 /// What is refused: the model, the instructions, the top event or the file of top events, the trace, the certificate, the file of
 /// causes, or the set of an order.

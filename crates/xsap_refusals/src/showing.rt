@@ -5,8 +5,8 @@ ghost use Rattle.std.specs.Prelude.{◌≡◌, ◌+◌, ◌<◌, length, IfSome,
 ghost use Rattle.xsap_refusals.specs.Lines.{is_feed, feeds_before, HasNoLine};
 
 use crate::lines::{Spot, spot_of, until_feed};
-use std::alloc::Global;
 use smv_lexer::OutOfMemory;
+use std::alloc::Global;
 
 /// Appends a line of a file, and a line with a caret under the place.
 pub(crate) fn append_spot(text: &mut Vec<u8>, spot: &Spot<'_>) -> Result<(), OutOfMemory> {

@@ -9,8 +9,8 @@ ghost use Rattle.xsap_reports.specs.Reports.{names_in, set_names};
 use crate::endings::append_ending;
 use crate::names::{append_set, name_at};
 use crate::report::{Ending, Report};
-use std::alloc::Global;
 use base_values::{ByteList, OutOfMemory};
+use std::alloc::Global;
 
 /// What two reports have in common.
 #[derive(Drop)]

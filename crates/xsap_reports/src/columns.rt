@@ -4,8 +4,8 @@
 //! another name at a place has no value of the variable there. The main functions are [`columns_of`] and [`stretches_of`].
 
 use crate::report::Moment;
-use std::alloc::Global;
 use base_values::OutOfMemory;
+use std::alloc::Global;
 
 /// What the values of a variable are.
 #[derive(Clone, Copy, Debug, PartialEq, Eq)]

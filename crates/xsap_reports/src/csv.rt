@@ -9,8 +9,8 @@ ghost use Rattle.xsap_reports.specs.Reports.{HasNames, names_in, set_names};
 
 use crate::names::append_names;
 use crate::report::Report;
-use std::alloc::Global;
 use base_values::{ByteList, OutOfMemory};
+use std::alloc::Global;
 
 /// A table with the head `set,size,faults`, and a row for each set: its number from 1, how many faults it has, and their names with a
 /// space between them. A field with a comma, a quote or the end of a line in it stands in quotes.

@@ -6,8 +6,8 @@
 use crate::endings::append_ending;
 use crate::pieces::{append_numbered, number_of};
 use crate::report::Report;
-use std::alloc::Global;
 use base_values::{ByteList, OutOfMemory};
+use std::alloc::Global;
 
 /// The tree in the language DOT: the node `top`, the nodes `s1`, `s2`, .. of the sets and `f1`, `f2`, .. of the faults, each with its label
 /// in a line of its own, and a line for the edges from a node. How the analysis ended is the label of the graph.

@@ -1,8 +1,8 @@
 //! How an analysis ended, in plain words.
 
 use crate::report::{Ending, Report};
-use std::alloc::Global;
 use base_values::{ByteList, OutOfMemory};
+use std::alloc::Global;
 
 /// Appends how an analysis ended, in one line without its line feed.
 pub(crate) fn append_ending(

@@ -12,8 +12,8 @@ use crate::page::{BEGIN, END};
 use crate::pieces::{append_numbered, number_of};
 use crate::report::{Line, Report, Trace};
 use crate::svg::append_picture;
-use std::alloc::Global;
 use base_values::{ByteList, OutOfMemory};
+use std::alloc::Global;
 
 /// The report as a page. The table of a trace has a row for each value that is shown, with its moment, and the fault that strikes there.
 pub fn html_of(alloc: Global, report: &Report<'_>, values: Values) -> Result<Vec<u8>, OutOfMemory> {

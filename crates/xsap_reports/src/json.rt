@@ -8,8 +8,8 @@ ghost use Rattle.xsap_reports.specs.Reports.{HasNames, set_names};
 use crate::json_sets::{append_sets, append_string};
 use crate::moments::{Values, is_changed};
 use crate::report::{Ending, Line, Moment, Report, Trace};
-use std::alloc::Global;
 use base_values::{ByteList, OutOfMemory};
+use std::alloc::Global;
 
 /// The report as an object: `sets` (each an object of `names` and `numbers`), `faults` (their names), `values` (`all` or `changes`, as
 /// asked for), `traces` (each a list of moments, which are objects of values by variables), `first` (whether there is a first moment),

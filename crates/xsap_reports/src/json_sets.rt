@@ -7,8 +7,8 @@ ghost use Rattle.xsap_reports.specs.Reports.{names_in};
 
 use crate::names::name_at;
 use crate::words::is_plain;
-use std::alloc::Global;
 use base_values::{ByteList, OutOfMemory};
+use std::alloc::Global;
 
 /// Appends an object for each set, with commas between.
 #[tactic(auto, using(crate::proofs::TextRules::text_rules))]

@@ -4,8 +4,8 @@
 use crate::columns::{Kind, Stretch, columns_of, stretches_of, whole_of};
 use crate::moments::strike;
 use crate::report::{Line, Moment};
-use std::alloc::Global;
 use base_values::OutOfMemory;
+use std::alloc::Global;
 
 /// A variable and its bars, which follow one another from the first moment to the last.
 #[derive(Drop)]

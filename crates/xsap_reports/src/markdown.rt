@@ -7,8 +7,8 @@ use crate::endings::append_ending;
 use crate::moments::{Row, Values, rows_of};
 use crate::names::name_at;
 use crate::report::{Line, Report, Trace};
-use std::alloc::Global;
 use base_values::{ByteList, OutOfMemory};
+use std::alloc::Global;
 
 /// The report as Markdown. The table of a trace has a row for each value that is shown, with its moment, and the fault that strikes
 /// there.

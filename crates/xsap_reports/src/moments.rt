@@ -1,8 +1,8 @@
 //! The rows of a trace's table: what is shown of each moment, and where faults strike. [`rows_of`] is the main function.
 
 use crate::report::{Line, Moment};
-use std::alloc::Global;
 use base_values::OutOfMemory;
+use std::alloc::Global;
 
 /// Which values of a moment are shown.
 #[derive(Clone, Copy, Debug, PartialEq, Eq)]

@@ -13,8 +13,8 @@ ghost use Rattle.xsap_reports.specs.Reports.{HasNames, set_names};
 use crate::endings::append_ending;
 use crate::escapes::append_characters;
 use crate::report::Report;
-use std::alloc::Global;
 use base_values::{ByteList, OutOfMemory};
+use std::alloc::Global;
 
 /// The tree, with how the analysis ended in a comment at the end. It has no probabilities, since a report has none.
 pub fn open_psa_of(alloc: Global, report: &Report<'_>) -> Result<Vec<u8>, OutOfMemory>

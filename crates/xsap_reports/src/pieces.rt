@@ -1,7 +1,7 @@
 //! Pieces of text with numbers in them.
 
-use std::alloc::Global;
 use base_values::{ByteList, OutOfMemory};
+use std::alloc::Global;
 
 /// Appends a text and a number behind it.
 pub(crate) fn append_numbered(

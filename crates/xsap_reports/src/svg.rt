@@ -9,8 +9,8 @@ use crate::columns::Kind;
 use crate::escapes::append_characters;
 use crate::lanes::{Bar, HIGH, Lane};
 use crate::pieces::append_numbered;
-use std::alloc::Global;
 use base_values::{ByteList, OutOfMemory};
+use std::alloc::Global;
 
 /// Where the first moment begins, how wide a moment is, and how many there are.
 #[derive(Clone, Copy)]

@@ -4,8 +4,8 @@ use crate::endings::append_ending;
 use crate::moments::{Row, Values, rows_of};
 use crate::names::append_set;
 use crate::report::{Line, Report, Trace};
-use std::alloc::Global;
 use base_values::{ByteList, OutOfMemory};
+use std::alloc::Global;
 
 /// The report as plain text, in tables whose columns are two spaces apart or more. The table of a trace has a row for each value that
 /// is shown, with the moment at the first of them, and the fault that strikes there.

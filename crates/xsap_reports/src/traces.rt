@@ -9,8 +9,8 @@ ghost use Rattle.xsap_reports.specs.Reports.{HasWords, IsMomentOfWords, IsTraceO
 use crate::fault::{Expected, Stop};
 use crate::report::{Line, Moment, Trace};
 use crate::words::{first_word, is_word, number_behind, stop, take_line};
-use std::alloc::Global;
 use base_values::first_line;
+use std::alloc::Global;
 
 /// So many traces, numbered from 1, and the bytes behind them.
 pub(crate) fn read_traces(

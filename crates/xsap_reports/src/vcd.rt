@@ -9,8 +9,8 @@ use crate::endings::append_ending;
 use crate::moments::is_changed;
 use crate::pieces::{append_numbered, number_of};
 use crate::report::{Moment, Report, Trace};
-use std::alloc::Global;
 use base_values::{ByteList, OutOfMemory};
+use std::alloc::Global;
 
 /// The value changes of all traces. In the name of a variable each of the signs `$`, `%`, `[`, `\` and `]` stands as `%` and its number in
 /// two hexadecimal digits; in a string a backslash stands twice.

@@ -5,8 +5,8 @@ ghost use Rattle.std.specs.List.{list_all};
 ghost use Rattle.xsap_reports.specs.Reports.{is_plain, is_word, IsListed};
 
 use crate::fault::{Expected, Stop};
-use std::alloc::{AllocError, Global};
 use base_values::{cut, first_line};
+use std::alloc::{AllocError, Global};
 
 /// The first line and the bytes behind its line feed, or the stop there.
 pub(crate) fn take_line(bytes: &[u8], expected: Expected) -> Result<(&[u8], &[u8]), Stop>

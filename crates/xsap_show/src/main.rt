@@ -9,6 +9,7 @@
 //! ```
 #![tactic(auto)]
 
+use base_values::OutOfMemory;
 use std::alloc::{AllocError, Global};
 use std::io::{ErrorKind, Read};
 use std::process::ExitCode;
@@ -18,7 +19,6 @@ use xsap_reports::{
     Fault, Report, ReportFault, Values, changes_of, csv_of_sets, dot_of, html_of, json_of,
     markdown_of, open_psa_of, read, text_of, vcd_of,
 };
-use base_values::OutOfMemory;
 
 /// A longer file is no report.
 const LONGEST_FILE: u64 = 1_073_741_824;
