@@ -11,6 +11,7 @@ mod clauses;
 mod decisions;
 mod kernel;
 mod numbers;
+mod order;
 mod propagation;
 mod trail;
 
