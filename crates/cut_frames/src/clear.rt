@@ -116,6 +116,7 @@ fn blocking(
     let after = join(alloc, bits, &none, core)?;
     let clause = chosen(alloc, bits, &broken, first, &after)?;
     let least = smaller(outline, system, frames, level, clause, kept, panel)?;
+    outline.weights.note(least.lits())?;
     Ok(least)
 }
 

@@ -47,6 +47,7 @@ mod shown;
 mod shrink;
 mod smaller;
 mod steps;
+mod weights;
 
 pub use advance::Advanced;
 pub use clear::Cleared;

@@ -1,7 +1,7 @@
 //! What is known of the first states: the value that all of them give a bit, where they agree, and some of them. A clause that says such a
 //! value is true in every first state, and one that a known first state breaks is not, so nearly all questions about first states are
 //! answered without the search. [`Outline::find`] asks once, one easy question for each state bit at most; [`Outline::core`] answers
-//! which literals of a clause every first state makes true.
+//! which literals of a clause every first state makes true. Beside that, how often literals stood in clauses that block.
 ghost use Rattle.std.specs.Prelude.{◌≡◌, ◌≤◌, ◌<◌, ◌-◌, ◌^◌, [], IfOk, OnOk, IfSome, Some, None, All, Contains, not, slice_index_or, map};
 ghost use Rattle.sat_clauses.specs.Hints.{HasNoOpposites};
 ghost use Rattle.sat_clauses.specs.Literal.{opposite};
@@ -13,6 +13,7 @@ ghost use Rattle.cut_frames.specs.Parts.{IsPart, IsOfFirst, IsAgreed, AreAgreed,
 
 use crate::bits::{State, broken_by, literals, read, turned};
 use crate::guarded::{Beside, Guarded};
+use crate::weights::Weights;
 use base_values::OutOfMemory;
 use sat_adviser::Panel;
 use sat_clauses::System;
@@ -30,6 +31,8 @@ const STARTS: usize = 64;
 pub struct Outline {
     /// For each state bit the value that every first state gives it, where they are known to agree.
     pub agreed: Vec<Option<bool>>,
+    /// How often literals stood in clauses that block.
+    pub weights: Weights,
     /// First states that answers have shown, the newest last.
     starts: Vec<State>,
     /// Whether [`Outline::find`] has asked.
@@ -55,6 +58,7 @@ impl Outline {
     {
         Outline {
             agreed: Vec::new(alloc),
+            weights: Weights::new(alloc),
             starts: Vec::new(alloc),
             is_found: false,
         }

@@ -1,6 +1,7 @@
 //! Smaller clauses: what blocks a state holds more literals than it needs, and one with fewer blocks more states. [`smaller`] takes literals
-//! out of a blocking clause one by one. Each try is made by the questions that showed the clause, about the first states and about the
-//! steps from the frame before, and takes over what their answers need; after some tries in vain the clause stays as it is.
+//! out of a blocking clause one by one, first those that stand in few other clauses. Each try is made by the questions that showed the
+//! clause, about the first states and about the steps from the frame before, and takes over what their answers need; after some tries in
+//! vain the clause stays as it is.
 ghost use Rattle.std.specs.Prelude.{◌≡◌, ◌≤◌, ◌<◌, ◌+◌, ◌^◌, ℕ, not, nat_eq, length, IfOk, IfSome, All, true, false, slice_index_or, filter};
 ghost use Rattle.sat_clauses.specs.Hints.{HasNoOpposites};
 ghost use Rattle.cut_frames.specs.Chain.{IsOverBits};
@@ -13,6 +14,7 @@ use crate::bits::{join, turn_next};
 use crate::guarded::{Beside, Guarded};
 use crate::levels::Levels;
 use crate::outline::Outline;
+use crate::weights::Weights;
 use base_values::OutOfMemory;
 use sat_adviser::Panel;
 use sat_clauses::System;
@@ -191,28 +193,22 @@ fn part_of(
 struct Attempt {
     /// The clause so far.
     clause: Clause,
-    /// How many of its first literals were tried, and are needed.
-    tried: usize,
-    /// How many literals may be tried in vain from here on.
-    left: usize,
+    /// The variables of literals that were tried in vain.
+    needed: Vec<u64>,
 }
 
 impl Attempt {
-    /// The variable of the literal that is tried next, unless the clause stays as it is.
-    fn next(&self) -> Option<u64> {
-        if self.left == 0 || self.clause.lits().len() < 2 {
+    /// The variable of the literal that is tried next, unless the clause stays as it is: of those that were not tried the one of the least
+    /// weight.
+    fn next(&self, weights: &Weights) -> Option<u64> {
+        if self.needed.len() >= TRIES || self.clause.lits().len() < 2 {
             return None;
         }
-        match self.clause.lits().get(self.tried) {
+        match weights.least(self.clause.lits(), self.needed.as_slice()) {
             Some(lit) => Some(lit.var()),
             None => None,
         }
     }
-}
-
-/// How many literals have a variable below this one.
-fn count_below(lits: &[Lit], var: u64) -> usize {
-    lits.iter().filter(|lit| lit.var() < var).count()
 }
 
 /// One literal tried: the clause without it and without those that the answers do not need, where they show that such a clause may be put
@@ -238,24 +234,23 @@ fn try_next(
     ensures stands { IfOk result (λ a. MayStand system.now (frames_of frames.now) level a.clause) }
     ensures asked { IfOk result (λ _. HasAsked kept.old kept.new) }
 {
-    let Some(var) = attempt.next() else {
+    let Some(var) = attempt.next(&outline.weights) else {
         return Ok(attempt);
     };
     let fewer = without(*frames.held.allocator(), attempt.clause.lits(), var)?;
     match part_of(outline, system, frames, level, &fewer, kept, panel)? {
-        Some(part) => {
-            let tried = count_below(part.lits(), var);
+        Some(part) => Ok(Attempt {
+            clause: part,
+            needed: attempt.needed,
+        }),
+        None => {
+            let mut needed = attempt.needed;
+            needed.push(var)?;
             Ok(Attempt {
-                clause: part,
-                tried,
-                left: attempt.left,
+                clause: attempt.clause,
+                needed,
             })
         }
-        None => Ok(Attempt {
-            clause: attempt.clause,
-            tried: attempt.tried.saturating_add(1),
-            left: attempt.left.saturating_sub(1),
-        }),
     }
 }
 
@@ -284,8 +279,7 @@ pub fn smaller(
     let turns = clause.lits().len();
     let mut attempt = Attempt {
         clause,
-        tried: 0,
-        left: TRIES,
+        needed: Vec::new(*frames.held.allocator()),
     };
     'turns: for _turn in 0..turns {
         attempt = try_next(outline, system, frames, level, attempt, kept, panel)?;
