@@ -34,11 +34,11 @@ returns-in-Some-2-clause-stands g c = some_of c.in_ok-part.field-0 c.in-Some-2.p
 pub returns-in-Some-2-clause-asked : goal.returns-in-Some-2-clause-asked
 returns-in-Some-2-clause-asked g c = c.in_ok-part.ensures.asked
 
-pub returns-in-None-clause-part : goal.returns-in-None-clause-part
-returns-in-None-clause-part g c = part_itself c.args.attempt.clause
+pub returns-in_ok-push-in-None-clause-part : goal.returns-in_ok-push-in-None-clause-part
+returns-in_ok-push-in-None-clause-part g c = part_itself c.args.attempt.clause
 
-pub returns-in-None-clause-stands : goal.returns-in-None-clause-stands
-returns-in-None-clause-stands g c = c.requires.stands
+pub returns-in_ok-push-in-None-clause-stands : goal.returns-in_ok-push-in-None-clause-stands
+returns-in_ok-push-in-None-clause-stands g c = c.requires.stands
 
-pub returns-in-None-clause-asked : goal.returns-in-None-clause-asked
-returns-in-None-clause-asked g c = c.in_ok-part.ensures.asked
+pub returns-in_ok-push-in-None-clause-asked : goal.returns-in_ok-push-in-None-clause-asked
+returns-in_ok-push-in-None-clause-asked g c = c.in_ok-part.ensures.asked
