@@ -411,3 +411,59 @@ fn forgets_what_refuted(rt: HostRuntime) -> Result<(), Fail> {
     assert_eq!(rt; forgotten, ((MODEL, 1, MODEL), 3));
     Ok(())
 }
+
+// Adds a clause that counts only while variable 111 is true.
+fn add_under(
+    alloc: Global,
+    search: &mut Search<KeepNone>,
+    clause: &Clause,
+) -> Result<(), OutOfMemory>
+    requires { search.old.kept.vars ≡ 111 }
+    ensures { OnOk result (search.new.kept.vars ≡ 111) }
+{
+    let mut lits = Vec::new(alloc);
+    lits.extend_from_slice(clause.lits())?;
+    lits.push(Lit::new(111, true))?;
+    let under = Clause::from_lits(alloc, &lits)?;
+    if !are_up_to(under.lits(), 111) {
+        return Ok(());
+    }
+    search.add(&under)
+}
+
+// Eleven pigeons in ten holes, while variable 111 is true.
+fn crowded(alloc: Global) -> Result<Search<KeepNone>, OutOfMemory>
+    ensures { IfOk result (λ s. s.kept.vars ≡ 111) }
+{
+    let list = crowd(alloc, 10, 11)?;
+    let mut search = Search::forgetful(alloc, 111)?;
+    'clauses: for clause in list.as_slice() {
+        add_under(alloc, &mut search, clause)?;
+    }
+    Ok(search)
+}
+
+// How long the clauses are that refute the pigeons, before what was learned is dropped and after that, and what comes of no assumption;
+// whether more than 2,000 clauses had been learned, and whether half of all clauses went.
+fn forgetful_answers(alloc: Global) -> Result<((usize, usize, usize), (bool, bool)), OutOfMemory> {
+    let mut panel = Panel::new(Vec::new(alloc));
+    let mut search = crowded(alloc)?;
+    let guard = Lit::new(111, false);
+    let first = ask(&mut search, 111, &[guard], &mut panel)?;
+    let is_much = search.learned() > 2000;
+    let before = search.count();
+    search.forget()?;
+    let is_less = search.count() < before / 2;
+    let again = ask(&mut search, 111, &[guard], &mut panel)?;
+    let free = ask(&mut search, 111, &[], &mut panel)?;
+    Ok(((first, again, free), (is_much, is_less)))
+}
+
+#[test]
+fn drops_what_it_learned_and_answers_alike(rt: HostRuntime) -> Result<(), Fail> {
+    assert_eq!(rt;
+        forgetful_answers(rt.alloc())?,
+        ((1, 1, MODEL), (true, true))
+    );
+    Ok(())
+}
