@@ -82,30 +82,12 @@ fn search_over(
     Ok(search)
 }
 
-/// Ends news that were told.
-fn end(news: News<'_>) {
-    // (a value without a destructor ends where it is taken apart)
-    match news {
-        News::Frontier(_steps) => {}
-        News::Set {
-            faults: _faults,
-            steps: _steps,
-        } => {}
-        News::Invariant => {}
-        News::Goal {
-            derived: _derived,
-            count: _count,
-        } => {}
-    }
-}
-
 /// Tells the panel how many goals of a certificate are derived, of so many.
 fn tell(derived: usize, count: usize, panel: &mut Panel)
     requires { count < 2 ^ 64 }
 {
     let news = News::Goal { derived, count };
     panel.hears(&news);
-    end(news);
 }
 
 // Derives one more goal.

@@ -19,30 +19,12 @@ use sat_adviser::{News, Panel};
 use sat_clauses::clause::ClauseList;
 use std::alloc::Global;
 
-/// Ends news that were told.
-fn end(news: News<'_>) {
-    // (a value without a destructor ends where it is taken apart)
-    match news {
-        News::Frontier(_steps) => {}
-        News::Set {
-            faults: _faults,
-            steps: _steps,
-        } => {}
-        News::Invariant => {}
-        News::Goal {
-            derived: _derived,
-            count: _count,
-        } => {}
-    }
-}
-
 /// Tells the panel of a frontier.
 fn tell_frontier(steps: usize, panel: &mut Panel)
     requires { steps < 2 ^ 64 }
 {
     let news = News::Frontier(steps);
     panel.hears(&news);
-    end(news);
 }
 
 /// Tells the panel of a set that was found, with a trace of so many steps.
@@ -54,7 +36,6 @@ fn tell_found(found: &Found, steps: usize, panel: &mut Panel)
         steps,
     };
     panel.hears(&news);
-    end(news);
 }
 
 /// Tells the panel that an invariant was found, where so many sets are listed.
@@ -63,7 +44,6 @@ fn tell_end(count: usize, panel: &mut Panel)
 {
     let news = News::Invariant;
     panel.hears(&news);
-    end(news);
 }
 
 /// Looks once for a bad state of the frontier's frame: lists the set of a path into it, or finds the frame clear.

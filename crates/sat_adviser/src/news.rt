@@ -1,6 +1,7 @@
 //! What a search has come to, as its panel tells it to an adviser. Nothing rests on it: it is there to be shown.
 
 /// What a search has come to.
+#[derive(Drop)]
 pub enum News<'s> {
     /// It looks for paths of this many steps; those of fewer steps lead to no set that is not listed. At 0 the search for the sets of
     /// a top event begins.
