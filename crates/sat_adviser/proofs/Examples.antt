@@ -1,7 +1,10 @@
 -- Examples that the checker computes.
 use Rattle.std.proofs.Common.{ℕ, ◌≡◌, ◌∷◌, [], ⊎_elim, refl, arith}
+use Rattle.std.specs.Prelude.{Some, None}
+use Rattle.sat_clauses.specs.Literal.{plain}
 use Rattle.sat_adviser.specs.Count.{risen_at}
 use Rattle.sat_adviser.specs.Drops.{Drops}
+use Rattle.sat_adviser.specs.Heard.{Gives, heard_at}
 use Rattle.sat_adviser.specs.Judges.{Judges}
 use Rattle.sat_adviser.specs.Round.{answer_of, negations, place_after}
 
@@ -12,6 +15,17 @@ asked_once_more = refl
 -- where no one is present, none is asked
 nobody_asked : risen_at (4 ∷ 7 ∷ []) 2 ≡ 4 ∷ 7 ∷ []
 nobody_asked = refl
+
+-- of those that answer 3, that don't tell and that answer 7, the third one gives 7
+third_gives : Gives (Some 3 ∷ None ∷ Some 7 ∷ []) 2 7
+third_gives = refl
+
+-- one that tells hears the clause, and one that doesn't still tells nothing
+first_heard : heard_at (Some [] ∷ None ∷ []) 0 (plain 4 ∷ []) ≡ Some (plain 4 ∷ []) ∷ None ∷ []
+first_heard = refl
+
+second_does_not_tell : heard_at (Some [] ∷ None ∷ []) 1 (plain 4 ∷ []) ≡ Some [] ∷ None ∷ []
+second_does_not_tell = refl
 
 -- the three negations in order, and the first one after the last
 three_negations : negations 3 ≡ 3 ∷ 5 ∷ 7 ∷ []

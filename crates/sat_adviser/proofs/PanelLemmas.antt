@@ -1,11 +1,13 @@
 -- One adviser of a list hears a clause, is asked, made ready or judged.
 use Rattle.std.proofs.Common.{zero, suc, ◌≡◌, ◌+◌, ◌<◌, ◌≤◌, inl, inr, ⊎_elim, ◌∙◌, ℕ, List, [], ◌∷◌, length, map, min, refl, ap, sym, subst, slice_set, slice_index_or, arith}
-use Rattle.std.specs.Prelude.{Option, remove, if◌then◌else◌, nat_lt}
+use Rattle.std.specs.Prelude.{Option, None, remove, if◌then◌else◌, nat_lt}
 use Rattle.std.specs.Option.{option_map}
 use Rattle.std.proofs.lemmas.List.{map-set, get_or-map, length-map}
 use Rattle.std.proofs.Math.Seq.{map-set_same}
 use Rattle.sat_adviser.specs.Count.{risen_at}
 use Rattle.sat_adviser.specs.Drops.{Drops}
+use Rattle.sat_adviser.specs.Heard.{heard_at}
+use Rattle.sat_clauses.specs.Literal.{Literal}
 use Rattle.sat_adviser.specs.Judges.{Stays, Judges}
 use Rattle.sat_adviser.specs.Room.{first_mapped, AreSomeReady}
 use Rattle.base_values.specs.Counts.{next_count}
@@ -22,6 +24,13 @@ counts_risen f xs i x y lt at e =
 pub counts_same : {X Y : Type 0} (f : X → Y) (xs : List X) (i : ℕ) (x y : X)
     → x ≡ slice_index_or xs i x → f y ≡ f x → map f (slice_set xs i y) ≡ map f xs
 counts_same f xs i x y at e = map-set_same f xs i y x (e ∙ ap f at)
+
+-- the clauses heard where the adviser x at place i has become y, which has heard a clause
+pub clause_heard : {X : Type 0} (f : X → Option (List Literal)) (xs : List X) (i : ℕ) (x y : X) (lits : List Literal)
+    → i < length xs → x ≡ slice_index_or xs i x → f y ≡ option_map (λ _. lits) (f x) → map f (slice_set xs i y) ≡ heard_at (map f xs) i lits
+clause_heard f xs i x y lits lt at e =
+    let here : f x ≡ slice_index_or (map f xs) i None = ap f at ∙ sym (get_or-map f xs i x None lt) in
+    map-set f xs i y ∙ ap (λ o. slice_set (map f xs) i o) (e ∙ ap (option_map (λ _. lits)) here)
 
 pub one_more_mapped : {Y : Type 0} (g : Y → Y) (n : ℕ) (ys : List Y) (d : Y) → n < length ys
     → slice_set (first_mapped g n ys) n (g (slice_index_or (first_mapped g n ys) n d)) ≡ first_mapped g (suc n) ys

@@ -47,12 +47,15 @@ impl InOrder {
 
 impl Adviser for InOrder {
     ghost use Rattle.std.specs.Prelude.{Some, length};
+    ghost use Rattle.sat_adviser.specs.Round.{answer_of};
 
     ghost told = { λ a. a.told };
 
     ghost asked = { λ a. a.asked };
 
     ghost room = { λ a. Some (length a.answers) };
+
+    ghost answer = { λ a. Some (answer_of a) };
 
     // No literal has a variable of 2^63 or more.
     fn ready(&mut self, vars: u64) -> Result<(), OutOfMemory>

@@ -2,11 +2,13 @@
 //! many of its picks in a row were not taken. Another one is present once the search turns to the next one, and
 //! where one is dropped.
 //!
-//! How often each was told and asked, and its room, stand in contracts as the lists of these meanings over the boxes.
-ghost use Rattle.std.specs.Prelude.{◌≡◌, ◌<◌, ◌≤◌, ◌^◌, IsTrue, OnOk, OnErr, length, map};
+//! How often each was told and asked, its room, what it answers next and which clause it heard last stand in contracts as the lists of
+//! these meanings over the boxes.
+ghost use Rattle.std.specs.Prelude.{◌≡◌, ◌<◌, ◌≤◌, ◌^◌, IsTrue, IfSome, OnOk, OnErr, length, map};
 ghost use Rattle.std.specs.Option.{option_map};
 ghost use Rattle.sat_adviser.specs.Count.{risen_at};
 ghost use Rattle.sat_adviser.specs.Drops.{Drops};
+ghost use Rattle.sat_adviser.specs.Heard.{Gives, heard_at};
 ghost use Rattle.sat_adviser.specs.Judges.{Judges};
 ghost use Rattle.sat_adviser.specs.Room.{AreSomeReady};
 ghost use Rattle.sat_adviser.specs.Round.{place_after};
@@ -50,6 +52,7 @@ fn ready(adviser: &mut Boxed, vars: u64) -> Result<(), OutOfMemory>
 
 // The adviser's answer.
 fn ask(adviser: &mut Boxed) -> u64
+    ensures answer { IfSome (answer adviser.old) (λ n. result ≡ n) }
     ensures told { told adviser.new ≡ told adviser.old }
     ensures asked { asked adviser.new ≡ next_count (asked adviser.old) }
     ensures room { room adviser.new ≡ room adviser.old }
@@ -59,6 +62,7 @@ fn ask(adviser: &mut Boxed) -> u64
 
 // Tells the adviser a learned clause.
 fn tell(adviser: &mut Boxed, lits: &[Lit])
+    ensures heard { heard adviser.new ≡ option_map (λ _. lits.now) (heard adviser.old) }
     ensures told { told adviser.new ≡ next_count (told adviser.old) }
     ensures asked { asked adviser.new ≡ asked adviser.old }
     ensures room { room adviser.new ≡ room adviser.old }
@@ -151,6 +155,8 @@ impl Panel {
 
     /// Asks the present adviser and no other, and answers 0 where there is none.
     pub fn pick(&mut self) -> u64
+        ensures answer { Gives (map (λ b. (⟦<dyn Adviser as Adviser>⟧ b.vtable).answer b.value) self.old.advisers.items)
+            self.old.present result }
         ensures nobody { length self.old.advisers.items ≤ self.old.present → result ≡ 0 }
         ensures last { self.new.last ≡ result }
         ensures asked { self.new.asked ≡ next_count self.old.asked }
@@ -173,6 +179,8 @@ impl Panel {
 
     // The answer of the present adviser, or 0 where there is none.
     fn present_answer(&mut self) -> u64
+        ensures answer { Gives (map (λ b. (⟦<dyn Adviser as Adviser>⟧ b.vtable).answer b.value) self.old.advisers.items)
+            self.old.present result }
         ensures nobody { length self.old.advisers.items ≤ self.old.present → result ≡ 0 }
         ensures misses { self.new.misses ≡ self.old.misses }
         ensures asked { self.new.asked ≡ self.old.asked }
@@ -195,6 +203,8 @@ impl Panel {
 
     /// Tells the present adviser, and no other, a learned clause.
     pub fn learned(&mut self, lits: &[Lit])
+        ensures heard { map (λ b. (⟦<dyn Adviser as Adviser>⟧ b.vtable).heard b.value) self.new.advisers.items
+            ≡ heard_at (map (λ b. (⟦<dyn Adviser as Adviser>⟧ b.vtable).heard b.value) self.old.advisers.items) self.old.present lits.now }
         ensures told { map (λ b. (⟦<dyn Adviser as Adviser>⟧ b.vtable).told b.value) self.new.advisers.items
             ≡ risen_at (map (λ b. (⟦<dyn Adviser as Adviser>⟧ b.vtable).told b.value) self.old.advisers.items) self.old.present }
         ensures asks { map (λ b. (⟦<dyn Adviser as Adviser>⟧ b.vtable).asked b.value) self.new.advisers.items

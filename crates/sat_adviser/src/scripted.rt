@@ -48,9 +48,14 @@ impl Scripted {
 }
 
 impl Adviser for Scripted {
+    ghost use Rattle.std.specs.Prelude.{Some};
+    ghost use Rattle.sat_adviser.specs.Round.{answer_of};
+
     ghost told = { λ s. s.told };
 
     ghost asked = { λ s. s.asked };
+
+    ghost answer = { λ s. Some (answer_of s) };
 
     fn ready(&mut self, _vars: u64) -> Result<(), OutOfMemory>
         ensures ok { IsOk result }

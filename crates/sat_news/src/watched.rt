@@ -29,6 +29,10 @@ impl<A: Adviser, R: Eprint + Drop> Adviser for Watched<A, R> {
 
     ghost room = { λ w. A.room w.adviser };
 
+    ghost answer = { λ w. A.answer w.adviser };
+
+    ghost heard = { λ w. A.heard w.adviser };
+
     fn ready(&mut self, vars: u64) -> Result<(), OutOfMemory> {
         self.adviser.ready(vars)
     }
