@@ -3,6 +3,7 @@ ghost use Rattle.std.specs.Prelude.{◌≡◌, ◌≢◌, ◌<◌, ◌≤◌, �
 ghost use Rattle.sat_clauses.specs.Literal.{Literal};
 ghost use Rattle.sat_clauses.specs.Assignment.{IsInRange, value_of};
 ghost use Rattle.sat_adviser.specs.Count.{risen_at};
+ghost use Rattle.sat_adviser.specs.Heard.{Gives};
 ghost use Rattle.sat_adviser.specs.Judges.{Judges};
 ghost use Rattle.sat_solver.specs.Choice.{HasFree, IsTaken, IsFallback, IsChoice};
 ghost use Rattle.sat_solver.specs.Trail.{IsLeast};
@@ -18,6 +19,8 @@ use sat_clauses::lit::Lit;
 pub fn choose(panel: &mut Panel, assign: &Assign) -> Lit
     requires { HasFree assign.now }
     ensures asked { panel.new.asked ≡ next_count panel.old.asked }
+    ensures answer { Gives (map (λ b. (⟦<dyn Adviser as Adviser>⟧ b.vtable).answer b.value) panel.old.advisers.items)
+        panel.old.present panel.new.last }
     ensures choice { IsChoice assign.now panel.new.last result }
     ensures judged { Judges (IsTaken assign.now panel.new.last result)
         (risen_at (map (λ b. (⟦<dyn Adviser as Adviser>⟧ b.vtable).asked b.value) panel.old.advisers.items) panel.old.present)
@@ -35,6 +38,8 @@ pub fn choose_from(panel: &mut Panel, assign: &Assign, from: u64) -> Lit
     requires free { HasFree assign.now }
     requires from { IsLeast assign.now from }
     ensures asked { panel.new.asked ≡ next_count panel.old.asked }
+    ensures answer { Gives (map (λ b. (⟦<dyn Adviser as Adviser>⟧ b.vtable).answer b.value) panel.old.advisers.items)
+        panel.old.present panel.new.last }
     ensures choice { IsChoice assign.now panel.new.last result }
     ensures judged { Judges (IsTaken assign.now panel.new.last result)
         (risen_at (map (λ b. (⟦<dyn Adviser as Adviser>⟧ b.vtable).asked b.value) panel.old.advisers.items) panel.old.present)
