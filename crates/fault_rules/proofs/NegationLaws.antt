@@ -1,9 +1,9 @@
 -- What the tests of negations say.
-use Rattle.std.proofs.Common.{◌≡◌, ℕ, ◌+◌, ◌<◌, drop, length, get_or, ap, Bool, true, false, ◌&&◌, Option, Some, None, List, [], ◌∷◌, map, All, arith}
+use Rattle.std.proofs.Common.{refl, ◌≡◌, ℕ, ◌+◌, ◌<◌, drop, length, get_or, ap, Bool, true, false, ◌&&◌, Option, Some, None, List, [], ◌∷◌, map, All, arith}
 use Rattle.std.specs.Prelude.{ℤ, if◌then◌else◌}
 use Rattle.std.specs.List.{list_all}
 use Rattle.std.proofs.lemmas.List.{drop_more}
-use Rattle.std.proofs.lemmas.List.Elements.{All-cons, All-nil}
+use Rattle.std.proofs.lemmas.List.Elements.{All-cons, All-nil, All-head, All-tail}
 use Rattle.smv_language.specs.declared.program.Member.{Member}
 use Rattle.smv_language.specs.declared.program.Member.TheVariants as member
 use Rattle.smv_language.specs.declared.program.Module.{Module}
@@ -131,3 +131,44 @@ extension_has x h = each_has slice_tree slice_negates SliceHasNegations slice_ha
 
 pub extensions_have : (xs : List Extension) → list_all extension_negates (map extension_tree xs) ≡ true → All ExtensionHasNegations xs
 extensions_have xs h = each_has extension_tree extension_negates ExtensionHasNegations extension_has xs h
+
+-- and the other way round: what has a negation passes the test
+has_number : (n : ℤ) → HasNegation n → has_negation n ≡ true
+has_number n h = grind arith
+
+both_hold : (a b : Bool) → a ≡ true → b ≡ true → (a && b) ≡ true
+both_hold true b h k = k
+both_hold false b h k = h
+
+each_negates : {A B : Type 0} (f : A → B) (test : B → Bool) (P : A → Type 0) → ((a : A) → P a → test (f a) ≡ true) → (xs : List A) → All P xs → list_all test (map f xs) ≡ true
+each_negates f test P one [] all = refl
+each_negates f test P one (x ∷ xs) all =
+    both_hold (test (f x)) (list_all test (map f xs)) (one x (All-head P x xs all)) (each_negates f test P one xs (All-tail P x xs all))
+
+value_negates_if : (c : Value) → ValueHasNegation c → value_negates c ≡ true
+value_negates_if (truth b) h = refl
+value_negates_if (number n) h = has_number n h
+value_negates_if (symbol x) h = refl
+
+effect_negates_if : (e : EffectTree) → EffectHasNegations e → effect_negates e ≡ true
+effect_negates_if (stuck_at c) h = value_negates_if c h
+effect_negates_if (follows e) h = refl
+effect_negates_if inverted h = refl
+effect_negates_if random h = refl
+effect_negates_if erroneous h = refl
+effect_negates_if frozen h = refl
+effect_negates_if stuck_at_pick h = refl
+effect_negates_if (offset d) h = has_number d h
+effect_negates_if (ramp_down d f) h = both_hold (has_negation d) (has_negation f) (has_number d h.0) (has_number f h.1)
+
+mode_negates_if : (m : ModeRule) → ModeHasNegations m → mode_negates (mode_tree m) ≡ true
+mode_negates_if m h = effect_negates_if (effect_tree m.effect) h
+
+slice_negates_if : (s : Slice) → SliceHasNegations s → list_all mode_negates (map mode_tree s.modes) ≡ true
+slice_negates_if s h = each_negates mode_tree mode_negates ModeHasNegations mode_negates_if s.modes h
+
+extension_negates_if : (x : Extension) → ExtensionHasNegations x → list_all slice_negates (map slice_tree x.slices) ≡ true
+extension_negates_if x h = each_negates slice_tree slice_negates SliceHasNegations slice_negates_if x.slices h
+
+pub extensions_negate : (xs : List Extension) → All ExtensionHasNegations xs → list_all extension_negates (map extension_tree xs) ≡ true
+extensions_negate xs h = each_negates extension_tree extension_negates ExtensionHasNegations extension_negates_if xs h

@@ -11,18 +11,21 @@ ghost use Rattle.fault_rules.specs.Negations.{has_negation as negates, member_ne
 use fault_instructions::{Constant, Effect, Extension, ModeRule, Slice};
 use smv_language::{Decl, Declared, Member, Module, Section};
 
-/// Whether each number of a type in the modules has a negation.
+/// Whether each number of a type that the modules declare has a negation: of each declaration, also of one whose name was
+/// declared before it.
 #[tactic(auto, using(crate::proofs::NegationLaws::modules_have))]
 pub fn modules_have_negations(modules: &[Module]) -> bool
-    ensures { IsTrue result → All ModuleHasNegations modules.now }
+    ensures negate { IsTrue result → All ModuleHasNegations modules.now }
+    ensures exact { result ≡ list_all module_negates (map module_tree modules.now) }
 {
     modules_negate(modules)
 }
 
 /// Whether each number of an effect in the extensions has a negation.
-#[tactic(auto, using(crate::proofs::NegationLaws::extensions_have))]
+#[tactic(auto, using(crate::proofs::NegationLaws::extensions_have, crate::proofs::NegationLaws::extensions_negate))]
 pub fn extensions_have_negations(extensions: &[Extension]) -> bool
-    ensures { IsTrue result → All ExtensionHasNegations extensions.now }
+    ensures negate { IsTrue result → All ExtensionHasNegations extensions.now }
+    ensures all { All ExtensionHasNegations extensions.now → IsTrue result }
 {
     extensions_negate(extensions)
 }
