@@ -4,12 +4,12 @@
 //! clauses that its domains and its INVAR formulas hold; the first states are one copy with INIT, the steps two
 //! with TRANS. What reads an input is left out of the copy of a state, so that states do not depend on inputs.
 
-ghost use Rattle.std.specs.Prelude.{◌≡◌, ◌≤◌, ◌<◌, [], false, IfOk, OnOk, map};
+ghost use Rattle.std.specs.Prelude.{◌≡◌, ◌≤◌, ◌<◌, ◌^◌, [], false, IfOk, IsOk, OnOk, map};
 ghost use Rattle.smv_language.specs.Trace.{Each};
 ghost use Rattle.smv_language.specs.ModelTree.{model_tree, formula_tree, flat_tree};
 ghost use Rattle.smv_type_laws.specs.Models.{judged_in};
 ghost use Rattle.sat_encoding_laws.specs.Widths.{symbol_width};
-ghost use Rattle.sat_encoding_laws.specs.Layout.{variable_signals, signals_now};
+ghost use Rattle.sat_encoding_laws.specs.Layout.{variable_signals, signals_now, gates_place};
 ghost use Rattle.sat_encoding_laws.specs.Meanings.{IsSignal};
 ghost use Rattle.sat_encoding_laws.specs.Encodable.{IsEncodable};
 ghost use Rattle.sat_encoding_laws.specs.Expressions.{its_value, encoded};
@@ -119,15 +119,27 @@ fn state_lists(alloc: Global, source: &Source<'_>) -> Result<(ClauseList, Clause
     Ok((state, first))
 }
 
-/// No gate yet: variable 1 is true, and gates begin past the bits.
-fn start(alloc: Global, source: &Source<'_>) -> Result<Gates, OutOfMemory>
+/// The variable of the first gate, past the bits. Want of memory, where it is none of those below 2^31, and only there.
+fn first_gate(source: &Source<'_>) -> Result<u64, OutOfMemory>
     requires source { IsSource source.now }
-    ensures { IfOk result (λ g. g ≡ start_of (source_model source.now)) }
+    ensures place { IfOk result (λ n. n ≡ gates_place (source_model source.now)) }
+    ensures least { IfOk result (λ n. 2 ≤ n) }
+    ensures few { IfOk result (λ n. n < 2 ^ 31) }
+    ensures fits { gates_place (source_model source.now) < 2 ^ 31 → IsOk result }
 {
     let first = 2 * source.model.bits() as u64 + source.inputs as u64 + 2;
     if first >= 2147483648 {
         return Err(OutOfMemory);
     }
+    Ok(first)
+}
+
+/// No gate yet: variable 1 is true, and gates begin past the bits.
+fn start(alloc: Global, source: &Source<'_>) -> Result<Gates, OutOfMemory>
+    requires source { IsSource source.now }
+    ensures { IfOk result (λ g. g ≡ start_of (source_model source.now)) }
+{
+    let first = first_gate(source)?;
     let gates = Gates::new(alloc, first)?;
     Ok(gates)
 }
