@@ -351,7 +351,7 @@ module _ (m : FlatModel) (is : IsEncodable m) where
         (ClausesBelow-more _ (bad_room m top history size) (size_most size) _ says.below)
         (ClausesBelow-from (bad_room m top history size) (map (unlisted_clause ls) sets) (sets_below (bad_room m top history size) (omega arith) ls start sets))
 
-  rooms_fit : input_bits m ≤ 2 ^ 30 → (top : Tree FlatLeaf) (history : List ℕ) (size : ℕ) → cost_of top ≤ 60000 → length history ≤ 256 → size ≤ 256 → bad_room m top history size < 2 ^ 31
+  rooms_fit : input_bits m ≤ 2 ^ 30 → (top : Tree FlatLeaf) (history : List ℕ) (size : ℕ) → cost_of top ≤ 60000 → length history ≤ 256 → size ≤ 256 → bad_room m top history size ≤ 2 ^ 31 - 20000
   rooms_fit inputs top history size cost few least =
       let small = both_false (nat_lt 50000 (model_cost m)) (nat_lt 4096 (state_bits m)) is.typed.small in
       let costs : model_cost m ≤ 50000 = let h = ltb-false 50000 (model_cost m) small.0 in omega (arith, h) in
@@ -368,7 +368,12 @@ module _ (m : FlatModel) (is : IsEncodable m) where
         states = ClausesBelow-more (state_circuit m).0.free (lists_room m) c.states (state_list m) (state_says m is us.0 us.1).goes.says.below;
         steps = ClausesBelow-more (step_circuit m).free (lists_room m) c.steps (step_list m) (step_says m is us.0 us.0 us.1 us.1).below;
         bad = λ top history sets size fit bits. bad_below top fit history bits sets size;
-        fits = rooms_fit;
+        fits = λ inputs top history size cost few least. let room = rooms_fit inputs top history size cost few least in omega (arith, room);
+        first_ends = c.first;
+        states_end = c.states;
+        steps_end = c.steps;
+        bad_ends = λ top history size fit bits. size_most top fit history bits size;
+        room = rooms_fit;
       }
 
 pub lists_small : ListsAreSmall

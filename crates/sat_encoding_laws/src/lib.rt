@@ -54,7 +54,7 @@ pub fn bits_go_by_role()
 
 /// The lists of first states, of states and of bad states use the constant, bits of the state now and gates,
 /// and no bit of a next state or of an input. All lists take few variables: with inputs of at most 2^30 bits
-/// and a top event within its limits, all are below 2^31.
+/// and a top event within its limits, all are below 2^31, and the circuits end with room for any one operation.
 pub fn lists_use_states()
     ensures states { ListsUseStates }
     ensures small { ListsAreSmall }

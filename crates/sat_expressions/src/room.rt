@@ -1,5 +1,8 @@
 //! Room for more gates. A circuit that would pass the highest variable, and a word that is wider than the
-//! arithmetic of words takes, are told as want of memory; no typed model within its limits comes to either.
+//! arithmetic of words takes, are told as want of memory, and only they are (`fits`). No list of an encodable model
+//! comes to the first, where its inputs have at most 2^30 bits and its top event, faults and size are within their
+//! limits: its circuit ends with room (`lists_use_states` of `sat_encoding_laws`), and circuits only grow. That no word
+//! of a typed expression comes to the second is open.
 
 ghost use Rattle.std.specs.Prelude.{◌≤◌, ◌-◌, ◌^◌, length, IsOk, OnOk};
 
