@@ -1,17 +1,18 @@
 -- How many variables the lists of a model take.
 use Rattle.std.proofs.Common.{◌≡◌, ◌⊎◌, inl, inr, ℕ, zero, suc, ◌+◌, ◌-◌, ◌*◌, ◌/◌, ◌<◌, ◌≤◌, ◌^◌, nat_eq, nat_lt, Bool, true, false, not, cond, ◌&&◌, ◌++◌, ℤ, pos, negsuc, List, [], ◌∷◌, length, map, Option, Some, None, refl, sym, ap, subst, arith}
 use Rattle.std.proofs.lemmas.List.Sums.{sum_by-cons}
-use Rattle.std.specs.Prelude.{slice_get, sum_by}
+use Rattle.std.specs.Prelude.{slice_get, sum_by, max}
 use Rattle.smv_language.specs.declared.program.Member.{Member}
 use Rattle.smv_language.specs.declared.program.Member.TheVariants as member
 use Rattle.smv_language.specs.Tree.{Tree, trees_from}
 use Rattle.smv_language.specs.ProgramTree.{Text, DeclaredTree, boolean, range, members, instance}
 use Rattle.smv_language.specs.Trace.{Each}
+use Rattle.smv_language.specs.Scope.{Role, state, input, frozen_role}
 use Rattle.smv_language.specs.Flat.{FlatLeaf, flat_variable, flat_symbol, flat_definition, FlatVariable, FlatFormula, FlatModel}
 use Rattle.smv_type_laws.specs.Intervals.{Interval}
-use Rattle.smv_type_laws.specs.Judged.{Class, truth_class, number_class, symbol_class}
+use Rattle.smv_type_laws.specs.Judged.{Class, truth_class, number_class, symbol_class, hull_of}
 use Rattle.smv_type_laws.specs.Declared.{judged_declared}
-use Rattle.smv_type_laws.specs.Costs.{digits_in, cost_of, trees_cost, declared_cost, width_of, formulas_cost, model_cost, state_bits}
+use Rattle.smv_type_laws.specs.Costs.{digits_in, digits_of, digits_above, cost_of, trees_cost, declared_cost, width_of, width_in, declared_width, member_number, number_kind, formulas_cost, model_cost, state_bits}
 use Rattle.smv_type_laws.specs.Models.{judged_in}
 use Rattle.sat_clauses.specs.Literal.{Literal}
 use Rattle.sat_clauses.specs.Models.{IsBelow, ClauseBelow, ClausesBelow}
@@ -25,7 +26,7 @@ use Rattle.sat_encoding_laws.specs.Signals.{Signal, bit, literal_in, as_bit}
 use Rattle.sat_encoding_laws.specs.Expressions.{its_value, whether_has, encoded}
 use Rattle.sat_encoding_laws.specs.Meanings.{IsSignal, IsReady}
 use Rattle.sat_encoding_laws.specs.Inputs.{is_input, reads_input}
-use Rattle.sat_encoding_laws.specs.Layout.{literals_from, with_sign, state_width, input_width, variable_signal, place_of, variable_signals, signals_now, signals_next, input_place, next_place, gates_place, input_bits}
+use Rattle.sat_encoding_laws.specs.Layout.{literals_from, with_sign, state_width, width_as_input, input_width, variable_signal, place_of, variable_signals, signals_now, signals_next, input_place, next_place, gates_place, input_bits}
 use Rattle.sat_encoding_laws.specs.Lists.{signal_or_false, leaf_signal, Copy, copy_of, names_of, definition_gates, definitions_gates, asserted, asserted_signal, formulas_gates, member_tree, type_tree, type_gates, domains_gates, copy_gates, start_of, state_circuit, first_circuit, step_circuit, state_list, first_list, step_list, bad_list, history_literals, literal_at, unlisted_clause, size_gates}
 use Rattle.sat_encoding_laws.specs.Encodable.{IsListedType, IsEncodable, IsFitTop, IsStateBoolean}
 use Rattle.sat_encoding_laws.specs.Variables.{lists_room, bad_room, AreSmallLists, ListsAreSmall}
@@ -73,6 +74,44 @@ kind_most symbols number_class (Some i) = width_most i
 kind_most symbols number_class None = width_most (symbol_interval symbols)
 kind_most symbols truth_class i = width_most (symbol_interval symbols)
 kind_most symbols symbol_class i = width_most (symbol_interval symbols)
+
+above_most : (z : ℤ) → digits_above z ≤ 64
+above_most (pos n) = digits_most 64 n
+above_most (negsuc n) = omega arith
+
+interval_most : (i : Interval) → width_of i ≤ 65
+interval_most i = by i.lo
+  where
+    by : (z : ℤ) → elim z as (λ c. ℕ) [ pos n ↦ max 1 (digits_above i.hi) | negsuc n ↦ suc (max (digits_of n) (digits_above i.hi)) ] ≤ 65
+    by (pos n) = let a = above_most i.hi in omega (arith, a)
+    by (negsuc n) = let a = above_most i.hi in let b = digits_most 64 n in omega (arith, a, b)
+
+known_most : (o : Option Interval) → width_in o ≤ 65
+known_most None = omega arith
+known_most (Some i) = interval_most i
+
+declared_most : (symbols : List Text) (d : DeclaredTree) → declared_width symbols d ≤ 65
+declared_most symbols boolean = omega arith
+declared_most symbols (range lo hi) = interval_most (record { lo = lo; hi = hi })
+declared_most symbols (members ms) = known_most (hull_of (map (λ m. number_kind (member_number symbols m)) ms))
+declared_most symbols (instance m actuals) = omega arith
+
+input_most : (symbols : List Text) (x : FlatVariable) → input_width symbols x ≤ 65
+input_most symbols x = by x.role
+  where
+    by : (role : Role) → width_as_input role (declared_width symbols x.declared) ≤ 65
+    by state = omega arith
+    by frozen_role = omega arith
+    by input = declared_most symbols x.declared
+
+-- the bits of inputs are at most 65 for each variable
+inputs_most : (symbols : List Text) (xs : List FlatVariable) → sum_by (input_width symbols) xs ≤ 65 * length xs
+inputs_most symbols [] = omega arith
+inputs_most symbols (x ∷ xs) =
+    let one = input_most symbols x in
+    let more = inputs_most symbols xs in
+    let sum = sum_by-cons (input_width symbols) x xs in
+    omega (arith, one, more, sum)
 
 abbrev AreShort : List Signal → Type 0
 AreShort es = Each IsShort es
@@ -369,6 +408,7 @@ module _ (m : FlatModel) (is : IsEncodable m) where
         steps = ClausesBelow-more (step_circuit m).free (lists_room m) c.steps (step_list m) (step_says m is us.0 us.0 us.1 us.1).below;
         bad = λ top history sets size fit bits. bad_below top fit history bits sets size;
         fits = λ inputs top history size cost few least. let room = rooms_fit inputs top history size cost few least in omega (arith, room);
+        inputs = inputs_most m.symbols m.variables;
         first_ends = c.first;
         states_end = c.states;
         steps_end = c.steps;

@@ -42,8 +42,8 @@ bad_circuit m top history size =
     let now = state_circuit m in size_gates (history_literals m history) size (asserted_signal (encoded (names_of m now.1 now.1) its_value top now.0))
 
 -- The variables of the lists are few: where the inputs have at most 2 ^ 30 bits, and the top event, the faults and the
--- size are within their limits, all are below 2 ^ 31. The circuits of the lists end there too, which leaves room for any
--- one operation, and so does whatever they grow from.
+-- size are within their limits, all are below 2 ^ 31. An input has at most 65 bits. The circuits of the lists end there too,
+-- which leaves room for any one operation, and so does whatever they grow from.
 pub record AreSmallLists (m : FlatModel) : Type 0 where
   pub first : ClausesBelow (lists_room m) (first_list m)
   pub states : ClausesBelow (lists_room m) (state_list m)
@@ -51,6 +51,7 @@ pub record AreSmallLists (m : FlatModel) : Type 0 where
   pub bad : (top : Tree FlatLeaf) (history : List ℕ) (sets : List (List ℕ)) (size : ℕ) → IsFitTop m top → Each (IsStateBoolean m) history
       → ClausesBelow (bad_room m top history size) (bad_list m top history sets size)
   pub fits : input_bits m ≤ 2 ^ 30 → (top : Tree FlatLeaf) (history : List ℕ) (size : ℕ) → cost_of top ≤ 60000 → length history ≤ 256 → size ≤ 256 → bad_room m top history size < 2 ^ 31
+  pub inputs : input_bits m ≤ 65 * length m.variables
   pub first_ends : (first_circuit m).free ≤ lists_room m
   pub states_end : (state_circuit m).0.free ≤ lists_room m
   pub steps_end : (step_circuit m).free ≤ lists_room m
