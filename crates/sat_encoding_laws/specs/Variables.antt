@@ -39,7 +39,8 @@ bad_room m top history size = lists_room m + 1024 * cost_of top + (2 * (size + 1
 -- the gates of bad states, before the clauses of listed sets
 abbrev pub bad_circuit : FlatModel → Tree FlatLeaf → List ℕ → ℕ → Circuit
 bad_circuit m top history size =
-    let now = state_circuit m in size_gates (history_literals m history) size (asserted_signal (encoded (names_of m now.1 now.1) its_value top now.0))
+    let now = state_circuit m in
+    size_gates (history_literals m history) size (asserted_signal (encoded (names_of m now.1 now.1) its_value top now.0))
 
 -- The variables of the lists are few: where the inputs have at most 2 ^ 30 bits, and the top event, the faults and the
 -- size are within their limits, all are below 2 ^ 31. An input has at most 65 bits. The circuits of the lists end there too,
@@ -55,8 +56,10 @@ pub record AreSmallLists (m : FlatModel) : Type 0 where
   pub first_ends : (first_circuit m).free ≤ lists_room m
   pub states_end : (state_circuit m).0.free ≤ lists_room m
   pub steps_end : (step_circuit m).free ≤ lists_room m
-  pub bad_ends : (top : Tree FlatLeaf) (history : List ℕ) (size : ℕ) → IsFitTop m top → Each (IsStateBoolean m) history → (bad_circuit m top history size).free ≤ bad_room m top history size
-  pub room : input_bits m ≤ 2 ^ 30 → (top : Tree FlatLeaf) (history : List ℕ) (size : ℕ) → cost_of top ≤ 60000 → length history ≤ 256 → size ≤ 256 → bad_room m top history size ≤ 2 ^ 31 - 20000
+  pub bad_ends : (top : Tree FlatLeaf) (history : List ℕ) (size : ℕ) → IsFitTop m top → Each (IsStateBoolean m) history
+      → (bad_circuit m top history size).free ≤ bad_room m top history size
+  pub room : input_bits m ≤ 2 ^ 30 → (top : Tree FlatLeaf) (history : List ℕ) (size : ℕ) → cost_of top ≤ 60000 → length history ≤ 256
+      → size ≤ 256 → bad_room m top history size ≤ 2 ^ 31 - 20000
 
 -- the lists of an encodable model are small
 abbrev pub ListsAreSmall : Type 0
