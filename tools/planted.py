@@ -36,14 +36,25 @@ class Function:
         self.shown = "::".join([*parts, *([owner] if owner else []), name])
 
 
+def owner_of(line):
+    """Returns the name by which the checker calls an impl: Items, Items+Name, or that of a trait, MemoryDeskDesk, WriteStopFromOutOfMemory."""
+    head = re.match(r"(?:unsafe )?impl(<[^>]*(?:<[^>]*>[^>]*)*>)? (.*?)(?: where\b.*)?(?: *\{)?$", line)
+    if not head:
+        return ""
+    parameters = re.findall(r"[<,] *(?:const )?(\w+)", head[1] or "")
+    trait, _, of = head[2].rpartition(" for ")
+    name, _, rest = re.sub(r"'\w+,? ?", "", of).partition("<")
+    given = re.findall(r"\w+", rest)
+    shown = name.rpartition("::")[2] + "".join(f"+{it}" for it in given if not all(it in parameters for it in given))
+    return shown + "".join(re.findall(r"\w+", trait.rpartition("::")[2] if "<" not in trait else trait))
+
+
 def functions_in(path, text):
     """Returns the functions of a text of src/ in the layout of rt fmt, where a function ends with a brace under its first letter."""
     lines, owner, found = text.split("\n"), "", []
     for number, line in enumerate(lines):
         if re.match(r"(unsafe )?impl\b", line):
-            rest = re.sub(r"^(unsafe )?impl(<.*?>)?(?= )", "", line).strip()
-            rest = rest.split(" for ", 1)[1] if " for " in rest else rest
-            owner = (re.match(r"[&\w: ]*?(\w+)(?=[<\s{]|$)", rest) or [None, ""])[1]
+            owner = owner_of(line)
         elif re.match(r"(pub )?trait\b", line):
             owner = re.search(r"trait (\w+)", line)[1]
         elif line == "}":
