@@ -35,9 +35,20 @@ class Function:
         self.module = "::".join(parts)
         self.shown = "::".join([*parts, *([owner] if owner else []), name])
 
+    def verdicts(self, crate, said):
+        """Returns the checker's words of this function, of all impls where several have one of its name."""
+        module = f"{re.escape(self.module)}::" if self.module else ""
+        return re.findall(rf"(?m)^fn {crate}::{module}(?:[\w+]+::)*{self.name}(?:::[^\s:]+)*: (.*)$", said)
+
+    def in_proofs(self, said):
+        """Returns the errors in the files of this function's proof."""
+        folder = re.escape("/".join(self.module.split("::"))) if self.module else "proofs"
+        path = rf"proofs/(?:{folder}/)?(?:[\w+]+/)*\+?{self.name}/\w+\.antt"
+        return re.findall(rf"(?m)^(?:note: )?(?:\./)?{path}:\d+:\d+: (?:error: )?(.*)$", said)
+
 
 def owner_of(line):
-    """Returns the name by which the checker calls an impl: Items, Items+Name, or that of a trait, MemoryDeskDesk, WriteStopFromOutOfMemory."""
+    """Returns the name by which the checker calls an impl: Items, Items+Name, or with its trait MemoryDeskDesk."""
     head = re.match(r"(?:unsafe )?impl(<[^>]*(?:<[^>]*>[^>]*)*>)? (.*?)(?: where\b.*)?(?: *\{)?$", line)
     if not head:
         return ""
@@ -131,8 +142,8 @@ class Plant:
             it = max(inner, key=lambda it: it.line)
             self.functions[path, it.line] = it
             return
-        above = text.split("\n")[:number + 1]
-        named = next((found[1] for line in reversed(above) if (found := re.match(r"^(?:pub(?:\([^)]*\))? )?(?:const|static) (\w+)", line))), None)
+        heads = [re.match(r"(?:pub(?:\([^)]*\))? )?(?:const|static) (\w+)", line) for line in text.split("\n")[:number + 1]]
+        named = next((it[1] for it in reversed(heads) if it), None)
         for at, it in functions_of(self.crate) if named else []:
             with open(f"{TOP}/crates/{self.crate}/{at}", encoding="utf-8") as file:
                 body = "\n".join(file.read().split("\n")[it.line:it.end])
@@ -153,28 +164,21 @@ class Plant:
 
     def judged(self, said):
         """Returns what a check came to for the functions that this edit changes, or None where it does not tell."""
-        goals, gone, open_ones, proved = [], [], 0, 0
-        for it in self.functions.values():
-            pattern = rf"(?m)^fn {self.crate}::(?:{re.escape(it.module)}::)?(?:[\w+]+::)*{it.name}(?:::[^\s:]+)*: (.*)$"
-            for verdict in re.findall(pattern, said):
-                if verdict.startswith("proved"):
-                    proved += 1
-                    continue
-                open_ones += 1
-                goals += re.findall(r"`([^`\s]+)`", verdict.partition("did not prove")[2].partition(";")[0])
-        for path, number, rest in re.findall(r"(?m)^(?:note: |warning: )?(?:\./)?(src/[\w/]+\.rt):(\d+):\d+: (.*)$", said):
-            if any(int(number) in lines for lines in self.lines_of(path)):
-                goals += re.findall(r"\(`([^`\s]+)`\)", rest) or ([f"error: {rest[:60]}"] if "error" in rest else [])
-        for it in self.functions.values():
-            folder = "/".join([*it.module.split("::"), *([it.shown.split("::")[-2]] if it.shown.count("::") > it.module.count("::") + bool(it.module) else [])])
-            for rest in re.findall(rf"(?m)^(?:note: )?(?:\./)?proofs/{re.escape(folder)}(?:\+[\w+]+)?(?:/\w+)*/\+?{it.name}/\w+\.antt:\d+:\d+: (?:error: )?(.*)$", said):
-                goal = re.match(r"`([^`\s]+)`", rest)
-                (gone if GONE.search(rest) else goals).append(goal[1] if goal else rest[:60])
-        goals = list(dict.fromkeys(it for it in goals if "::" not in it and not it.startswith("note:")))
+        if not self.functions:
+            return "STAYS" if re.search(r"(?m)^logic=proved", said) else "refused by the check of the whole crate"
+        verdicts = [line for it in self.functions.values() for line in it.verdicts(self.crate, said)]
+        in_proofs = [line for it in self.functions.values() for line in it.in_proofs(said)]
+        goals = [goal for line in verdicts for goal in re.findall(r"`([^`\s]+)`", line.partition("did not prove")[2].partition(";")[0])]
+        goals += [goal for line in self.in_source(said) for goal in re.findall(r"\(`([^`\s]+)`\)", line)]
+        goals += [re.match(r"`([^`]+)`|", it)[1] for it in in_proofs if not GONE.search(it)]
+        goals = list(dict.fromkeys(it for it in goals if it and re.fullmatch(r"[a-z][\w-]+", it)))
         if goals:
             return f"refused by {', '.join(goals[:6])}"
-        if gone:
-            return f"NAME GONE: {', '.join(dict.fromkeys(gone))}"
-        if open_ones or not proved:
-            return None
-        return "STAYS"
+        if any(GONE.search(it) for it in in_proofs):
+            return f"NAME GONE: {in_proofs[0][:120]}"
+        return "STAYS" if verdicts and all(it.startswith("proved") for it in verdicts) else None
+
+    def in_source(self, said):
+        """Returns what is said of lines of the functions that this edit changes."""
+        found = re.findall(r"(?m)^(?:note: |warning: )?(?:\./)?(src/[\w/]+\.rt):(\d+):\d+: (.*)$", said)
+        return [rest for path, number, rest in found if any(int(number) in lines for lines in self.lines_of(path))]
