@@ -412,58 +412,77 @@ fn forgets_what_refuted(rt: HostRuntime) -> Result<(), Fail> {
     Ok(())
 }
 
-// Adds a clause that counts only while variable 111 is true.
+// Adds a clause that counts only while a variable is true.
 fn add_under(
     alloc: Global,
     search: &mut Search<KeepNone>,
     clause: &Clause,
+    guard: Lit,
 ) -> Result<(), OutOfMemory>
-    requires { search.old.kept.vars ≡ 111 }
-    ensures { OnOk result (search.new.kept.vars ≡ 111) }
+    requires { search.old.kept.vars ≡ 75 }
+    ensures { OnOk result (search.new.kept.vars ≡ 75) }
 {
     let mut lits = Vec::new(alloc);
     lits.extend_from_slice(clause.lits())?;
-    lits.push(Lit::new(111, true))?;
+    lits.push(guard.neg())?;
     let under = Clause::from_lits(alloc, &lits)?;
-    if !are_up_to(under.lits(), 111) {
+    if !are_up_to(under.lits(), 75) {
         return Ok(());
     }
     search.add(&under)
 }
 
-// Eleven pigeons in ten holes, while variable 111 is true.
-fn crowded(alloc: Global) -> Result<Search<KeepNone>, OutOfMemory>
-    ensures { IfOk result (λ s. s.kept.vars ≡ 111) }
+// Adds the clauses of nine pigeons in eight holes, which count only while a variable is true.
+fn crowd_under(alloc: Global, search: &mut Search<KeepNone>, guard: Lit) -> Result<(), OutOfMemory>
+    requires { search.old.kept.vars ≡ 75 }
+    ensures { OnOk result (search.new.kept.vars ≡ 75) }
 {
-    let list = crowd(alloc, 10, 11)?;
-    let mut search = Search::forgetful(alloc, 111)?;
+    let list = crowd(alloc, 8, 9)?;
     'clauses: for clause in list.as_slice() {
-        add_under(alloc, &mut search, clause)?;
+        add_under(alloc, search, clause, guard)?;
     }
-    Ok(search)
+    Ok(())
 }
 
-// How long the clauses are that refute the pigeons, before what was learned is dropped and after that, and what comes of no assumption;
-// whether more than 2,000 clauses had been learned, and whether half of all clauses went.
-fn forgetful_answers(alloc: Global) -> Result<((usize, usize, usize), (bool, bool)), OutOfMemory> {
-    let mut panel = Panel::new(Vec::new(alloc));
-    let mut search = crowded(alloc)?;
-    let guard = Lit::new(111, false);
-    let first = ask(&mut search, 111, &[guard], &mut panel)?;
-    let is_much = search.learned() > 2000;
-    let before = search.count();
+// How long the clause is that refutes the pigeons of a variable, and then, with what is of no more use dropped, that of the same question.
+fn asked_twice(
+    search: &mut Search<KeepNone>,
+    guard: Lit,
+    panel: &mut Panel,
+) -> Result<(usize, usize), OutOfMemory>
+    requires { search.old.kept.vars ≡ 75 }
+    ensures { OnOk result (search.new.kept.vars ≡ 75) }
+{
+    let first = ask(search, 75, &[guard], panel)?;
     search.forget()?;
-    let is_less = search.count() < before / 2;
-    let again = ask(&mut search, 111, &[guard], &mut panel)?;
-    let free = ask(&mut search, 111, &[], &mut panel)?;
-    Ok(((first, again, free), (is_much, is_less)))
+    let again = ask(search, 75, &[guard], panel)?;
+    Ok((first, again))
+}
+
+// What comes of the pigeons of three variables, which hundreds of clauses are learned for each, and of no assumption; and whether fewer
+// than 2,000 learned clauses are left.
+fn forgetful_answers(alloc: Global) -> Result<([(usize, usize); 3], (usize, bool)), OutOfMemory> {
+    let mut panel = Panel::new(Vec::new(alloc));
+    let (one, two, three) = (
+        Lit::new(73, false),
+        Lit::new(74, false),
+        Lit::new(75, false),
+    );
+    let mut search = Search::forgetful(alloc, 75)?;
+    crowd_under(alloc, &mut search, one)?;
+    crowd_under(alloc, &mut search, two)?;
+    crowd_under(alloc, &mut search, three)?;
+    let first = asked_twice(&mut search, one, &mut panel)?;
+    let second = asked_twice(&mut search, two, &mut panel)?;
+    let third = asked_twice(&mut search, three, &mut panel)?;
+    let free = ask(&mut search, 75, &[], &mut panel)?;
+    Ok(([first, second, third], (free, search.learned() < 2000)))
 }
 
 #[test]
 fn drops_what_it_learned_and_answers_alike(rt: HostRuntime) -> Result<(), Fail> {
-    assert_eq!(rt;
-        forgetful_answers(rt.alloc())?,
-        ((1, 1, MODEL), (true, true))
-    );
+    let (refuted, rest) = forgetful_answers(rt.alloc())?;
+    assert_eq!(rt; refuted, [(1, 1), (1, 1), (1, 1)]);
+    assert_eq!(rt; rest, (MODEL, true));
     Ok(())
 }

@@ -1,6 +1,6 @@
 -- The search has so many variables.
 use Rattle.std.proofs.Common.{◌≡◌}
-use Rattle.test_search.proofs.searches.crowded.Given as goal
+use Rattle.test_search.proofs.searches.crowd_under.Given as goal
 
 abbrev pub invariant-clauses : goal.invariant-clauses
-invariant-clauses g l = l.search.kept.vars ≡ 111
+invariant-clauses g l = l.search.kept.vars ≡ 75
