@@ -3,7 +3,6 @@ ghost use Rattle.std.specs.Prelude.{◌≡◌, ◌<◌, ◌^◌};
 
 use crate::analysis::literal;
 use crate::clauses::{Clauses, at, exchange, put, small};
-use crate::order::History;
 use crate::trail::{FALSE, FREE, TRUE, Trail};
 use base_values::OutOfMemory;
 use sat_adviser::Panel;
@@ -45,12 +44,8 @@ pub struct Kernel {
     most: usize,
     /// Those that were not looked at since they were added, and that nobody watches for.
     fresh: Vec<u32>,
-    /// The assumptions of the last question in the order in which they are made true, the first of which are those of the trail's levels;
-    /// and those of the question that begins.
-    pub asked: Vec<u32>,
-    pub ordered: Vec<u32>,
-    /// Where the history bits are.
-    pub history: History,
+    /// The assumptions of the last question, the first of which are those of the trail's levels.
+    asked: Vec<u32>,
     /// What is chosen before anything else where this literal is assumed, and how many of these are known not to be free.
     guard: Lit,
     pub wishes: Vec<u32>,
@@ -95,11 +90,6 @@ impl Kernel {
             most: MOST_LESSONS,
             fresh: Vec::new(alloc),
             asked: Vec::new(alloc),
-            ordered: Vec::new(alloc),
-            history: History {
-                lowest: 0,
-                highest: 0,
-            },
             guard: Lit::new(1, false),
             wishes: Vec::new(alloc),
             granted: 0,
@@ -180,7 +170,6 @@ impl Kernel {
             let Ok(code) = u32::try_from(lit.code()) else {
                 return;
             };
-            self.note_history(code);
             if self.wishes.push(code ^ 1).is_err() {
                 return;
             }
@@ -228,7 +217,7 @@ impl Kernel {
                 self.learn(place, panel)?;
             } else if self.trail.level() == 0 && self.has_forgotten()? {
                 continue;
-            } else if let Some(proposal) = self.go_on(vars, panel)? {
+            } else if let Some(proposal) = self.go_on(assumptions, vars, panel)? {
                 return Ok(proposal);
             }
         }
@@ -258,18 +247,32 @@ impl Kernel {
         };
         self.is_calm = true;
         self.granted = 0;
-        self.order(assumptions)?;
-        let same = self.count_same();
+        let same = self.count_same(assumptions);
         self.trail.undo(same);
         self.asked.truncate(same);
-        for i in self.asked.len()..self.ordered.len() {
-            let code = at(&self.ordered, i);
+        for lit in assumptions.iter().skip(self.asked.len()) {
+            let code = u32::try_from(lit.code()).or(Err(OutOfMemory))?;
             self.asked.push(code)?;
         }
         if self.has_many() {
             self.trail.undo(0);
         }
         Ok(())
+    }
+
+    /// How many levels of the trail are those of the first assumptions.
+    fn count_same(&self, assumptions: &[Lit]) -> usize {
+        let mut same = 0;
+        for lit in assumptions
+            .iter()
+            .take(self.trail.level().min(self.asked.len()))
+        {
+            if u64::from(at(&self.asked, same)) != lit.code() {
+                return same;
+            }
+            same = same.saturating_add(1);
+        }
+        same
     }
 
     /// Forgets the older half of what was learned, at the beginning of a trail. The clauses that gave values there may be among them, so
@@ -489,12 +492,18 @@ impl Kernel {
     }
 
     /// The next assumption, or choice, is made true; or an answer is given.
-    fn go_on(&mut self, vars: u32, panel: &mut Panel) -> Result<Option<Proposal>, OutOfMemory>
+    fn go_on(
+        &mut self,
+        assumptions: &[Lit],
+        vars: u32,
+        panel: &mut Panel,
+    ) -> Result<Option<Proposal>, OutOfMemory>
         requires { vars < 2 ^ 32 }
         ensures vars { panel.new.vars ≡ panel.old.vars }
         ensures rotated { panel.new.rotated ≡ panel.old.rotated }
     {
-        if let Some(code) = self.asked.get(self.trail.level()).copied() {
+        if let Some(lit) = assumptions.get(self.trail.level()) {
+            let code = u32::try_from(lit.code()).or(Err(OutOfMemory))?;
             let value = self.trail.value(code);
             if value == FALSE {
                 self.refute(code)?;

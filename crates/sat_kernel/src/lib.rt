@@ -11,7 +11,6 @@ mod clauses;
 mod decisions;
 mod kernel;
 mod numbers;
-mod order;
 mod propagation;
 mod trail;
 
