@@ -18,7 +18,7 @@ ghost use Rattle.verb_orders.specs.Orders.{RefusesCheck, AcceptsOrder, HasChecke
 ghost use Rattle.verb_orders.specs.Claimed.{staged_in, against_in};
 
 use crate::pair::{PairWords, StagedCase, discard_case, load_pair};
-use crate::searched::{are_few, expression};
+use crate::searched::{count_few, expression};
 use base_files::{Desk, say_whole};
 use base_values::OutOfMemory;
 use cert_check::{Judged, check_unlisted};
@@ -148,9 +148,7 @@ fn judge(
         (flat_tree staged.now.loaded.top) claim) (seen certificate.now) r }
     ensures desk { IsErrOf result stop.Desk → ⊥ }
 {
-    if !are_few(staged) {
-        return Err(Stop::Memory);
-    }
+    count_few(staged)?;
     let top = expression(alloc, staged, claim)?;
     match judged(alloc, staged, &top, certificate)? {
         Judged::Yes => Ok(()),

@@ -1,7 +1,7 @@
 //! The search of a staged model for a trace that speaks against a claim.
 //!
 //! The main function is [`search`].
-ghost use Rattle.std.specs.Prelude.{◌≡◌, [], IsTrue, IfOk};
+ghost use Rattle.std.specs.Prelude.{◌≡◌, [], IfOk, IsOk, OnOk};
 ghost use Rattle.smv_language.specs.ModelTree.{model_tree, flat_tree};
 ghost use Rattle.cut_search_laws.specs.Searchable.{IsSearchable};
 ghost use Rattle.verb_orders.specs.Pairs.{IsStagedCase};
@@ -17,7 +17,7 @@ use smv_language::Expr;
 use smv_language::model::Flat;
 use std::alloc::Global;
 
-/// A search gives each symbol a number below this. A model of two files within their limits has far fewer.
+/// A search gives each symbol a number below this. That a model of two files within their limits has fewer is not proved.
 const MOST_SYMBOLS: usize = 2_147_483_648;
 
 /// A weave takes no more faults.
@@ -45,26 +45,25 @@ pub(crate) fn search(
     requires { IsStagedCase staged.now }
     ensures { IfOk result (IsSearchOf staged.now claim depth) }
 {
-    if !are_few(staged) {
-        return Err(OutOfMemory);
-    }
+    count_few(staged)?;
     let top = expression(alloc, staged, claim)?;
     let analysis = analysed(alloc, staged, &top, depth, panel)?;
     Ok(Searched { top, analysis })
 }
 
-/// Whether there are as few symbols as a search can number, and no more faults than a weave takes.
-pub(crate) fn are_few(staged: &StagedCase) -> bool
-    ensures few { IsTrue result → HasFew staged.now }
-    ensures all { HasFew staged.now → IsTrue result }
+/// Want of memory where there are more symbols than a search has numbers for, or more faults than a weave takes, and only
+/// there.
+pub(crate) fn count_few(staged: &StagedCase) -> Result<(), OutOfMemory>
+    ensures few { OnOk result (HasFew staged.now) }
+    ensures fits { HasFew staged.now → IsOk result }
 {
     if staged.loaded.case.limited.typed.model().symbols.len() >= MOST_SYMBOLS {
-        return false;
+        return Err(OutOfMemory);
     }
     if staged.loaded.case.limited.faults.len() > MOST_FAULTS {
-        return false;
+        return Err(OutOfMemory);
     }
-    true
+    Ok(())
 }
 
 /// What speaks against a claim.

@@ -1,4 +1,4 @@
-use Rattle.std.proofs.Common.{IsTrue, sym, ◌∙◌, subst, arith}
+use Rattle.std.proofs.Common.{subst}
 use Rattle.smv_language.specs.ModelTree.{model_tree, flat_tree}
 use Rattle.cert_text.specs.Seen.{seen}
 use Rattle.cert_check.specs.Found.{IsJudgedUnlisted}
@@ -6,9 +6,6 @@ use Rattle.verb_orders.specs.Orders.{staged_matter}
 use Rattle.verb_orders.proofs.ClaimLaws.{claim_accepted, claim_refused, line_refused, line_no_desk}
 use Rattle.verb_orders.proofs.claims.judge.Goals as goal
 use Rattle.base_values.proofs.ResultLaws.{same_fault}
-
-pub expression-requires-clause-few : goal.expression-requires-clause-few
-expression-requires-clause-few c = let is : IsTrue c.are_few.result = grind arith in c.are_few.ensures.few is
 
 pub judged-requires-clause-none : goal.judged-requires-clause-none
 judged-requires-clause-none c = c.requires.staged.none
