@@ -1,7 +1,7 @@
 //! Common causes: their minimal cut sets, and certificates of them.
 //!
 //! The main functions are [`find_causes`] and [`check_causes`], one for each verb. What both load stands in `staged`.
-ghost use Rattle.std.specs.Prelude.{◌≡◌, ◌<◌, ◌≤◌, ◌^◌, ℕ, length, map, IfOk, OnOk, IfSome, IsErrOf};
+ghost use Rattle.std.specs.Prelude.{◌≡◌, ◌<◌, ◌≤◌, ◌^◌, ℕ, length, map, IfOk, IsOk, OnOk, IfSome, IsErrOf};
 ghost use Rattle.base_files.specs.Desk.{Rose};
 ghost use Rattle.smv_language.specs.ModelTree.{flat_tree};
 ghost use Rattle.cert_text.specs.Seen.{seen};
@@ -34,7 +34,7 @@ use verb_command_line::{CheckCauses, FindCauses};
 use verb_loading::input::Stop;
 use verb_loading::status::{Status, ended_as};
 
-/// A search gives each symbol a number below this. A model of three files within their limits has far fewer.
+/// A search gives each symbol a number below this. That a model of three files within their limits has fewer is not proved.
 const MOST_SYMBOLS: usize = 2_147_483_648;
 
 /// Searches for the minimal cut sets of faults and common causes, writes a certificate of a complete answer, and says the
@@ -179,6 +179,17 @@ fn judge_file<D: Desk>(
     Ok(report)
 }
 
+/// Want of memory where the staged model has more symbols than a search has numbers for, and only there.
+fn count_symbols(staged: &StagedEvent) -> Result<(), OutOfMemory>
+    ensures few { OnOk result (length staged.now.typed.model.symbols < 2 ^ 31) }
+    ensures fits { length staged.now.typed.model.symbols < 2 ^ 31 → IsOk result }
+{
+    if staged.typed.model().symbols.len() >= MOST_SYMBOLS {
+        return Err(OutOfMemory);
+    }
+    Ok(())
+}
+
 /// Refuses a certificate that breaks a rule. More symbols than numbers of them are want of memory.
 fn judge(alloc: Global, staged: &StagedEvent, certificate: &Certificate) -> Result<(), Stop>
     requires event { IsStagedEvent staged.now }
@@ -188,9 +199,7 @@ fn judge(alloc: Global, staged: &StagedEvent, certificate: &Certificate) -> Resu
         BreaksLine (staged_in staged.now) (events_in staged.now) (flat_tree staged.now.loaded.top) (seen certificate.now) r }
     ensures desk { IsErrOf result stop.Desk → ⊥ }
 {
-    if staged.typed.model().symbols.len() >= MOST_SYMBOLS {
-        return Err(Stop::Memory);
-    }
+    count_symbols(staged)?;
     let judged = check(
         alloc,
         &staged.full,
@@ -249,9 +258,7 @@ fn analysed(
     ensures searched { IfOk result (IsSearched (staged_in staged.now) (events_in staged.now)
         (flat_tree staged.now.loaded.top) depth (length (events_in staged.now))) }
 {
-    if staged.typed.model().symbols.len() >= MOST_SYMBOLS {
-        return Err(OutOfMemory);
-    }
+    count_symbols(staged)?;
     let size = number_of(staged.events.len())?;
     analyse(
         alloc,

@@ -15,4 +15,4 @@ returns-clause-searched g c =
     let l = c.args.staged.now in
     let few : length l.typed.model.symbols < 2 ^ 31 = search rules in
     IfOk-weaker c.analyse.result _ _
-    (λ a answer. event_searched l c.requires few c.args.depth c.in_ok-size.size a (c.in_ok-size.ensures.same ∙ c.len-2.ensures ∙ sym (length-map l.events mode_of)) answer) c.analyse.ensures
+    (λ a answer. event_searched l c.requires few c.args.depth c.in_ok-size.size a (c.in_ok-size.ensures.same ∙ c.len.ensures ∙ sym (length-map l.events mode_of)) answer) c.analyse.ensures
