@@ -1,7 +1,7 @@
 //! A certificate judged over the extension.
 //!
 //! The main function is [`check_file`]: `cert_file` reads the certificate, and `cert_check` judges it.
-ghost use Rattle.std.specs.Prelude.{◌≡◌, ◌≤◌, IfOk, OnOk, IfSome, IsErrOf};
+ghost use Rattle.std.specs.Prelude.{◌≡◌, ◌≤◌, ◌<◌, ◌^◌, length, IfOk, IsOk, OnOk, IfSome, IsErrOf};
 ghost use Rattle.base_files.specs.Desk.{Rose};
 ghost use Rattle.smv_language.specs.ModelTree.{flat_tree};
 ghost use Rattle.cert_text.specs.Seen.{seen};
@@ -12,7 +12,7 @@ ghost use Rattle.verb_loading.specs.declared.status.Refusal.{Refusal};
 ghost use Rattle.verb_loading.specs.declared.input.Stop.TheVariants as stop;
 
 use base_files::Desk;
-use base_values::ByteList;
+use base_values::{ByteList, OutOfMemory};
 use cert_check::{Judged, check};
 use cert_file::certificate::{accepted_report, line_stop, load_certificate};
 use cert_text::Certificate;
@@ -21,7 +21,7 @@ use verb_loading::event::LoadedEvent;
 use verb_loading::input::Stop;
 use verb_loading::status::Refusal;
 
-/// A judgement gives each symbol a number below this. A model of two files within their limits has far fewer.
+/// A judgement gives each symbol a number below this. That a model of two files within their limits has fewer is not proved.
 const MOST_SYMBOLS: usize = 2_147_483_648;
 
 /// Judges the certificate of a file over the extension, for its top event, and makes what is to be said of it.
@@ -47,6 +47,17 @@ pub fn check_file<D: Desk>(
     Ok(accepted_report(alloc, certificate.size, loaded.case.limited.faults.len())?)
 }
 
+/// Want of memory where the extension has more symbols than a judgement has numbers for, and only there.
+fn count_symbols(loaded: &LoadedEvent) -> Result<(), OutOfMemory>
+    ensures few { OnOk result (length loaded.now.case.limited.typed.model.symbols < 2 ^ 31) }
+    ensures fits { length loaded.now.case.limited.typed.model.symbols < 2 ^ 31 → IsOk result }
+{
+    if loaded.case.limited.typed.model().symbols.len() >= MOST_SYMBOLS {
+        return Err(OutOfMemory);
+    }
+    Ok(())
+}
+
 /// Refuses a certificate that breaks a rule. More symbols than numbers of them are want of memory.
 fn judge_certificate(
     alloc: Global,
@@ -60,10 +71,8 @@ fn judge_certificate(
         RefusesLine (case_in loaded.now) (flat_tree loaded.now.top) (seen certificate.now) r }
     ensures desk { IsErrOf result stop.Desk → ⊥ }
 {
+    count_symbols(loaded)?;
     let limited = &loaded.case.limited;
-    if limited.typed.model().symbols.len() >= MOST_SYMBOLS {
-        return Err(Stop::Memory);
-    }
     let judged = check(
         alloc,
         &limited.full,
