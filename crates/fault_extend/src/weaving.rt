@@ -49,6 +49,8 @@ pub fn weave(alloc: Global, p: &Program, i: &Instructions) -> Result<Woven, Weav
     ensures faults { HasInstancesInVar (program_tree p.now) →
         IfOk result (λ w. HasFaults (program_tree p.now) (instruction_tree i.now) (map fault_tree w.faults)) }
     ensures kept { OnOk result (AllKept (broken_at (program_tree p.now)) (item_sites (instruction_tree i.now))) }
+    ensures counts { (m : FlatModel) → IsFlatOf (program_tree p.now) m →
+        OnOk result (AllKept (count_broken_at (modules_at m)) (item_sites (instruction_tree i.now))) }
     ensures uses { (m : FlatModel) → IsFlatOf (program_tree p.now) m → OnOk result (AllUsesKept (program_tree p.now) m (instruction_tree i.now)) }
     ensures told { IfErr result (IsToldSomewhere (program_tree p.now) (instruction_tree i.now)) }
     ensures exact { (m : FlatModel) → IsAccepted (program_tree p.now) → IsFlatOf (program_tree p.now) m →

@@ -1,11 +1,14 @@
-use Rattle.std.proofs.Common.{map, subst, sym}
+use Rattle.std.proofs.Common.{List, map, subst, sym}
 use Rattle.std.specs.Prelude.{IfErr, OnOk}
 use Rattle.std.proofs.lemmas.Result.{err_from_is_err_and, IfOk-weaker}
-use Rattle.smv_language.specs.ProgramTree.{program_tree}
+use Rattle.smv_language.specs.ProgramTree.{Text, program_tree}
 use Rattle.fault_instructions.specs.Instructions.{instruction_tree}
 use Rattle.smv_language.specs.ModelTree.{model_tree}
 use Rattle.fault_extend_laws.specs.Expressions.{AllUsesKept}
-use Rattle.fault_extend.specs.Refused.{modules_at, IsTold}
+use Rattle.fault_extend.specs.Refused.{modules_in, modules_at, KeepsRules, IsTold}
+use Rattle.fault_rules.specs.Counting.{count_broken_at}
+use Rattle.fault_rules.specs.FirstBroken.{AllKept}
+use Rattle.fault_rules.specs.Sites.{item_sites}
 use Rattle.fault_weave.specs.Faults.{HasFaults}
 use Rattle.fault_extend.specs.WovenFaults.{fault_tree, AreInstancesOf}
 use Rattle.fault_extend.proofs.InstanceLaws.{instances_listed}
@@ -22,6 +25,15 @@ pub returns-in_err-typed-clause-exact : goal.returns-in_err-typed-clause-exact
 returns-in_err-typed-clause-exact c = λ m accepted flat typed.
     let exit = err_from_is_err_and c.from_residual.result c.from_residual.ensures.1 in
     rw (exit.1, exit.2) (want_is_told (program_tree c.args.p.now) m (instruction_tree c.args.i.now) (modules_at m) c.in_err-typed.field-0.0 (c.in_err-typed.ensures.want m accepted flat typed))
+
+pub returns-clause-counts : goal.returns-clause-counts
+returns-clause-counts c = λ m flat.
+    let sites = item_sites (instruction_tree c.args.i.now) in
+    let names = modules_in c.in_ok-typed.typed.model.instances in
+    subst (λ k. OnOk c.weave_typed.result (AllKept (count_broken_at (modules_at k)) sites)) (sym (c.in_ok-typed.ensures.alone m flat))
+    (subst (λ (xs : List Text). OnOk c.weave_typed.result (AllKept (count_broken_at xs) sites)) (modules_same c.in_ok-typed.typed.model.instances)
+    (IfOk-weaker c.weave_typed.result (λ w. KeepsRules (program_tree c.args.p.now) (instruction_tree c.args.i.now) names) (λ w. AllKept (count_broken_at names) sites)
+    (λ w kept. kept.counts) c.weave_typed.ensures.kept))
 
 pub returns-clause-uses : goal.returns-clause-uses
 returns-clause-uses c = λ m flat.
