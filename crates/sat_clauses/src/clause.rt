@@ -26,10 +26,10 @@ pub enum Truth {
 }
 
 /// The disjunction of its literals, in the order in which they were given. A literal may stand in it
-/// twice, or beside its opposite. Up to four literals take no memory.
+/// twice, or beside its opposite. Up to three literals take no memory beside it, as many as a clause of a gate has.
 #[derive(Drop)]
 pub struct Clause {
-    lits: SmallVec<Lit, 4>,
+    lits: SmallVec<Lit, 3>,
 }
 
 impl Model for Clause {
