@@ -17,4 +17,3 @@ pub record IsFit (system : System) : Type 0 where
   pub bits : 2 * system.state_bits + system.input_bits + 1 < 2 ^ 31
   pub first : All (All (IsOverNow system)) system.first
   pub step : All (All IsLow) system.step
-  pub state : All (All IsLow) system.state

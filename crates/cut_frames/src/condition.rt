@@ -70,5 +70,5 @@ pub fn can_frame(system: &System) -> bool
     if 2 * bits + inputs + 1 >= END {
         return false;
     }
-    are_over_now(system, &system.first) && are_low(&system.step) && are_low(&system.state)
+    are_over_now(system, &system.first) && are_low(&system.step)
 }

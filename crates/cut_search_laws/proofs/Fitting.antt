@@ -13,7 +13,7 @@ use Rattle.sat_clauses.specs.Models.{ClausesBelow}
 use Rattle.cut_frames.specs.Condition.{IsLow, IsOverNow}
 use Rattle.sat_encoding_laws.specs.FlatTraces.{history_of}
 use Rattle.sat_encoding_laws.specs.Layout.{input_bits, gates_place}
-use Rattle.sat_encoding_laws.specs.Lists.{system_of, state_list, first_list, step_list, bad_list}
+use Rattle.sat_encoding_laws.specs.Lists.{system_of, first_list, step_list, bad_list}
 use Rattle.sat_encoding_laws.specs.Variables.{UseStates, lists_room, bad_room}
 use Rattle.sat_encoding_laws.proofs.CleanLists.{lists_use_states}
 use Rattle.sat_encoding_laws.proofs.SizeLists.{lists_small}
@@ -66,7 +66,6 @@ lists_fit m fs top is =
         bits = omega (arith, most.1, is.few_inputs);
         first = overs w (lists_room w) lists (first_list w) uses.0 small.first;
         step = lows w (lists_room w) lists (step_list w) small.steps;
-        state = lows w (lists_room w) lists (state_list w) small.states;
       },
       (λ sets size h.
           overs w (bad_room w top history size) (let below = room size h in omega (arith, below)) (bad_list w top history sets size) (uses.2 top history sets size is.fits (history_last m fs).0)

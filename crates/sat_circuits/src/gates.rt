@@ -62,6 +62,13 @@ impl Gates {
         &self.clauses
     }
 
+    /// The clauses, once no more are added.
+    pub fn into_clauses(self) -> ClauseList
+        ensures { result ≡ self.clauses }
+    {
+        self.clauses
+    }
+
     /// The next variable to be defined.
     pub fn free(&self) -> u64
         ensures value { result ≡ self.now.free }

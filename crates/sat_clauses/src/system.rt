@@ -1,5 +1,4 @@
-//! A system of clause lists: the first states, the steps and the states of a model, as clauses over the bits of a
-//! state.
+//! A system of clause lists: the first states and the steps of a model, as clauses over the bits of a state.
 //!
 //! The head of the crate says which variables are which; `specs/States.antt` says which patterns of bits are
 //! states, first states and steps of a system.
@@ -16,6 +15,4 @@ pub struct System {
     pub first: ClauseList,
     /// True with a state, inputs and the next state where a step leads from the one to the other.
     pub step: ClauseList,
-    /// True with the lawful states.
-    pub state: ClauseList,
 }

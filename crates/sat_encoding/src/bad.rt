@@ -20,7 +20,7 @@ ghost use Rattle.sat_encoding.specs.History.{last_numbers, literal_of, counted_c
 ghost use Rattle.sat_encoding.specs.Copies.{source_model, IsSource};
 
 use crate::layout::literals_from;
-use crate::lists::{Source, holds, source_of, state_gates};
+use crate::lists::{Source, holds, source_of, state_copy};
 use base_values::{Items, OutOfMemory, SetList};
 use sat_circuits::counts::at_most;
 use sat_circuits::gates::Gates;
@@ -73,13 +73,12 @@ fn counted(
         (last_numbers (source_model source.now) faults) size).clauses) }
     ensures history { IfOk result (λ r. r.1 ≡ history_literals (source_model source.now) (last_numbers (source_model source.now) faults)) }
 {
-    let (mut g, now) = state_gates(alloc, source)?;
+    let (mut g, now) = state_copy(alloc, source)?;
     let names = Names::at(source.model, &now, source.symbols);
     holds(alloc, &mut g, &names, top)?;
     let history = last_literals(alloc, &g, &now.variables, faults)?;
     few(alloc, &mut g, history.as_slice(), size)?;
-    let clauses = g.clauses().copy()?;
-    Ok((clauses, history))
+    Ok((g.into_clauses(), history))
 }
 
 /// The literals of the last so many signals.

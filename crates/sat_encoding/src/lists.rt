@@ -1,8 +1,9 @@
 //! The clause lists of a model: of its first states, its steps and its states.
 //!
-//! [`encode`] is the main function, and [`first_gates`] and [`step_gates`] make one of its lists alone. A copy of the model at one moment is the gates of its definitions, with the
-//! clauses that its domains and its INVAR formulas hold; the first states are one copy with INIT, the steps two
-//! with TRANS. What reads an input is left out of the copy of a state, so that states do not depend on inputs.
+//! [`encode`] is the main function. [`first_gates`] and [`step_gates`] make one of its lists alone, and [`state_gates`] that of the states.
+//! A copy of the model at one moment is the gates of its definitions, with the clauses that its domains and its INVAR formulas hold; the
+//! first states are one copy with INIT, the steps two with TRANS. What reads an input is left out of the copy of a state, so that states
+//! do not depend on inputs.
 
 ghost use Rattle.std.specs.Prelude.{◌≡◌, ◌≤◌, ◌<◌, ◌^◌, [], false, IfOk, IsOk, OnOk, map};
 ghost use Rattle.smv_language.specs.Trace.{Each};
@@ -24,7 +25,6 @@ use crate::layout::{Places, input_bits, places_next, places_now, variable_signal
 use base_values::{Items, OutOfMemory};
 use sat_circuits::gates::Gates;
 use sat_clauses::System;
-use sat_clauses::clause::ClauseList;
 use sat_expressions::expression::expression;
 use sat_expressions::names::{Copied, Names, SignalList};
 use sat_expressions::part::Asked;
@@ -65,7 +65,7 @@ pub(crate) fn source_of<'a>(alloc: Global, t: &'a Typed) -> Result<Source<'a>, O
     })
 }
 
-/// The clause lists of a model: its first states, its steps and its states, with the exact variables and
+/// The clause lists of a model: its first states and its steps, with the exact variables and
 /// clauses that `system_of` of `sat_encoding_laws` says. Where they would pass the highest variable the answer is
 /// want of memory, too.
 pub fn encode(alloc: Global, t: &Typed) -> Result<System, OutOfMemory>
@@ -73,14 +73,13 @@ pub fn encode(alloc: Global, t: &Typed) -> Result<System, OutOfMemory>
     ensures exact { IfOk result (λ s. s ≡ system_of (model_tree t.now.model)) }
 {
     let source = source_of(alloc, t)?;
-    let (state, first) = state_lists(alloc, &source)?;
-    let step = step_clauses(alloc, &source)?;
+    let first = first_circuit(alloc, &source)?;
+    let step = step_circuit(alloc, &source)?;
     Ok(System {
         state_bits: t.bits(),
         input_bits: source.inputs,
-        first,
-        step,
-        state,
+        first: first.into_clauses(),
+        step: step.into_clauses(),
     })
 }
 
@@ -104,19 +103,14 @@ pub fn step_gates(alloc: Global, t: &Typed) -> Result<Gates, OutOfMemory>
     Ok(gates)
 }
 
-/// The clauses of the states, and those of the first states.
-fn state_lists(alloc: Global, source: &Source<'_>) -> Result<(ClauseList, ClauseList), OutOfMemory>
-    requires source { IsSource source.now }
-    requires encodable { IsEncodable (source_model source.now) }
-    ensures state { IfOk result (λ lists. lists.0 ≡ state_list (source_model source.now)) }
-    ensures first { IfOk result (λ lists. lists.1 ≡ first_list (source_model source.now)) }
+/// The gates whose clauses are the list of a model's states. No other list is made.
+pub fn state_gates(alloc: Global, t: &Typed) -> Result<Gates, OutOfMemory>
+    requires encodable { IsEncodable (model_tree t.now.model) }
+    ensures { IfOk result (λ g. g.clauses ≡ state_list (model_tree t.now.model)) }
 {
-    let (mut g, now) = state_gates(alloc, source)?;
-    let state = g.clauses().copy()?;
-    let names = Names::at(source.model, &now, source.symbols);
-    formulas(alloc, &mut g, &names, source.model.model().init.as_slice())?;
-    let first = g.clauses().copy()?;
-    Ok((state, first))
+    let source = source_of(alloc, t)?;
+    let (gates, _now) = state_copy(alloc, &source)?;
+    Ok(gates)
 }
 
 /// The variable of the first gate, past the bits. Want of memory, where it is none of those below 2^31, and only there.
@@ -145,10 +139,7 @@ fn start(alloc: Global, source: &Source<'_>) -> Result<Gates, OutOfMemory>
 }
 
 /// The copy of a model now, without what reads inputs.
-pub(crate) fn state_gates(
-    alloc: Global,
-    source: &Source<'_>,
-) -> Result<(Gates, Copied), OutOfMemory>
+pub(crate) fn state_copy(alloc: Global, source: &Source<'_>) -> Result<(Gates, Copied), OutOfMemory>
     requires source { IsSource source.now }
     requires encodable { IsEncodable (source_model source.now) }
     ensures copy { IfOk result (λ r. BuildsCopy (start_of (source_model source.now)) (state_circuit (source_model source.now)) r.0 r.1) }
@@ -157,17 +148,6 @@ pub(crate) fn state_gates(
     let mut g = start(alloc, source)?;
     let now = copied(alloc, &mut g, source, places_now(source.model), false)?;
     Ok((g, now))
-}
-
-/// The clauses of the steps.
-fn step_clauses(alloc: Global, source: &Source<'_>) -> Result<ClauseList, OutOfMemory>
-    requires source { IsSource source.now }
-    requires encodable { IsEncodable (source_model source.now) }
-    ensures { IfOk result (λ c. c ≡ step_list (source_model source.now)) }
-{
-    let g = step_circuit(alloc, source)?;
-    let clauses = g.clauses().copy()?;
-    Ok(clauses)
 }
 
 /// The copy now with all definitions and domains, then that of the next moment, and what holds of the two.
@@ -196,7 +176,7 @@ fn first_circuit(alloc: Global, source: &Source<'_>) -> Result<Gates, OutOfMemor
     requires encodable { IsEncodable (source_model source.now) }
     ensures { IfOk result (λ g. g.clauses ≡ first_list (source_model source.now)) }
 {
-    let (mut g, now) = state_gates(alloc, source)?;
+    let (mut g, now) = state_copy(alloc, source)?;
     let names = Names::at(source.model, &now, source.symbols);
     formulas(alloc, &mut g, &names, source.model.model().init.as_slice())?;
     Ok(g)

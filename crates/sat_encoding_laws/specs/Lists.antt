@@ -136,7 +136,7 @@ step_list m = (step_circuit m).clauses
 
 -- the clause lists of a model
 abbrev pub system_of : FlatModel → System
-system_of m = record { state_bits = state_bits m; input_bits = input_bits m; first = first_list m; step = step_list m; state = state_list m }
+system_of m = record { state_bits = state_bits m; input_bits = input_bits m; first = first_list m; step = step_list m }
 
 -- the literals of the history bits now, by the numbers of their variables
 abbrev pub history_literals : FlatModel → List ℕ → List Literal

@@ -9,7 +9,7 @@ use base_values::OutOfMemory;
 use sat_clauses::System;
 use sat_clauses::clause::ClauseList;
 use sat_clauses::lit::Lit;
-use sat_encoding::encode;
+use sat_encoding::{encode, state_gates};
 use smv_types::Typed;
 use std::alloc::Global;
 use std::process::Abort;
@@ -170,7 +170,8 @@ fn have_states(
     requires evaluable_still { IsEvaluable (model_tree models.1.now.model) }
 {
     let (whole, still) = models;
-    let right = has_firsts(alloc, still, row, &lists.state, row.counts[0])?;
+    let states = state_gates(alloc, whole)?;
+    let right = has_firsts(alloc, still, row, states.clauses(), row.counts[0])?;
     if !right {
         return Ok(false);
     }

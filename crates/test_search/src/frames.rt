@@ -78,7 +78,6 @@ fn by_table(alloc: Global, bits: u32, first: u64, table: &[u64]) -> Result<Syste
         input_bits: 0,
         first: state_is(alloc, bits, first)?,
         step: steps(alloc, bits, table)?,
-        state: ClauseList::new(alloc),
     })
 }
 
@@ -117,7 +116,6 @@ fn ring(alloc: Global, cells: u32) -> Result<System, OutOfMemory> {
         input_bits: 0,
         first: state_is(alloc, cells, 0)?,
         step: turns(alloc, cells)?,
-        state: ClauseList::new(alloc),
     })
 }
 
@@ -295,7 +293,6 @@ fn kept_bit(alloc: Global) -> Result<System, OutOfMemory> {
         input_bits: 0,
         first: list_of(alloc, &first)?,
         step: list_of(alloc, &step)?,
-        state: list_of(alloc, &[1, 0])?,
     })
 }
 
@@ -306,7 +303,6 @@ fn moved_bit(alloc: Global) -> Result<System, OutOfMemory> {
         input_bits: 1,
         first: list_of(alloc, &[-2, 0])?,
         step: list_of(alloc, &[-3, 2, 4, 0, 3, -2, 0, 3, -4, 0])?,
-        state: ClauseList::new(alloc),
     })
 }
 

@@ -27,7 +27,7 @@ returns-clause-clauses c =
     let m = source_model c.args.source.now in
     let long : length c.in_ok-g.now.variables ≡ length m.variables = sym (length_signals c.in_ok-g.now.variables) ∙ ap (λ (es : List Signal). length es) c.in_ok-g.ensures.variables ∙ length_signals_now m.symbols 2 (input_place m) m.variables in
     let literals = c.in_ok-history.ensures.literals ∙ (λ i. map (literal_of (c.in_ok-g.ensures.variables i)) (range_with_len (long i - c.args.faults) c.args.faults)) in
-    c.in_ok-clauses.ensures ∙ c.clauses.ensures
+    c.into_clauses.ensures
     ∙ sym (ap (λ (s : Circuit). s.clauses) (counted_is m (flat_tree c.args.top.now) (last_numbers m c.args.faults) c.args.size c.at-names.result c.in_ok-g.g c.holds.new.g c.few.new.g c.in_ok-g.now c.in_ok-history.history c.in_ok-g.ensures.copy.exact
     (ap names_in c.at-names.ensures) c.in_ok-holds.ensures literals (ap (λ (bs : List Literal). size_gates bs c.args.size c.holds.new.g) (sym c.as_slice.ensures) ∙ c.in_ok-few.ensures)))
 
