@@ -62,7 +62,7 @@ module _ (c : Case) (e : Formula) (tree : Tree FlatLeaf) (is_tree : IsTopTree c 
   ends_by depth size sets (bounded k) h = (h.0, (tree, is_tree, h.1))
 
   -- the certificate is one of the analysis
-  certified_as : (symbols : List Text) (a : Searched) (size : ℕ) (shown : List (List (List Value))) → a.size ≡ size → map (told_trace symbols) a.traces ≡ shown → (first : Bool) (ending : Ending) (end : End) (cert : Option (List ℕ)) →
+  pub certified_as : (symbols : List Text) (a : Searched) (size : ℕ) (shown : List (List (List Value))) → a.size ≡ size → map (told_trace symbols) a.traces ≡ shown → (first : Bool) (ending : Ending) (end : End) (cert : Option (List ℕ)) →
       HasCertificate c.flat c.modes tree symbols a end cert →
       IsCertifiedAs c e size (record { sets = a.sets; shown = shown; first = first; ending = ending }) (ending_of end) cert
   certified_as symbols a size shown sizes texts first ending (Complete clauses) (Some bytes) h =

@@ -19,7 +19,7 @@ use verb_loading::input::Stop;
 use verb_loading::status::{Refusal, Status, words_line};
 
 /// Ends a run that can't go on: a refusal says its line.
-pub(crate) fn stopped<D: Desk>(alloc: Global, desk: &mut D, stop: Stop) -> Status
+pub fn stopped<D: Desk>(alloc: Global, desk: &mut D, stop: Stop) -> Status
     ensures stopped { Stopped stop result (D.files desk.old) (D.files desk.new) (D.said desk.old) (D.said desk.new) }
     ensures failed { result ≡ Status.Desk → (stop ≡ stops.Desk) ⊎ Rose (D.faults desk.old) (D.faults desk.new) }
     ensures later { D.faults desk.old ≤ D.faults desk.new }
@@ -47,7 +47,7 @@ pub(crate) fn concluded<D: Desk>(alloc: Global, desk: &mut D, done: Result<Statu
 }
 
 /// The status of work that ends with its own where no call failed.
-pub(crate) fn finished(done: Result<Status, WriteStop>) -> Status
+pub fn finished(done: Result<Status, WriteStop>) -> Status
     ensures { result ≡ finished_as done }
 {
     match done {
@@ -100,7 +100,7 @@ pub(crate) fn refuse<D: Desk>(alloc: Global, desk: &mut D, refusal: Refusal) -> 
 }
 
 /// Says the line of words that mean no command.
-pub(crate) fn reject<D: Desk>(alloc: Global, desk: &mut D, fault: WordFault) -> Status
+pub fn reject<D: Desk>(alloc: Global, desk: &mut D, fault: WordFault) -> Status
     ensures said { result ≡ Status.Words fault → D.said desk.new ≡ said_more (D.said desk.old) (words_text fault) }
     ensures part { SaysPrefix (D.said desk.old) (D.said desk.new) (words_text fault) }
     ensures ends { (result ≡ Status.Words fault) ⊎ ((result ≡ Status.Desk) ⊎ (result ≡ Status.Memory)) }

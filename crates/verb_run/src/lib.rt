@@ -22,7 +22,7 @@
 pub mod analysis;
 mod asked;
 pub mod certificate;
-mod ending;
+pub mod ending;
 mod further;
 pub mod make;
 mod replay;

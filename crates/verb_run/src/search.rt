@@ -56,7 +56,7 @@ fn certificate_text(
 }
 
 /// The text of a certificate, where the analysis is complete.
-fn certificate(
+pub fn certificate(
     alloc: Global,
     case: &LoadedCase,
     top: &Expr<Flat>,

@@ -72,7 +72,7 @@ pub struct Tabulating {
 }
 
 /// The model and the instructions of two files, with the top events of a third.
-pub(crate) fn load_table<D: Desk>(
+pub fn load_table<D: Desk>(
     alloc: Global,
     desk: &mut D,
     model: &str,

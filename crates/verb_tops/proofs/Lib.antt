@@ -1,0 +1,3 @@
+pub mod EventLaws
+pub mod ReportLaws
+pub mod AnsweredLaws

@@ -1,0 +1,17 @@
+use Rattle.std.proofs.Common.{IfOk, ap, subst, ◌∙◌}
+use Rattle.base_files.specs.Desk.{told_with}
+use Rattle.smv_language.specs.Text.{program_text}
+use Rattle.verb_tops.specs.Each.{HasReported}
+use Rattle.verb_tops.specs.Work.{case_of_asked, events_of_asked, size_of_asked}
+use Rattle.verb_tops.proofs.each.deliver_each.Goals as goal
+
+pub returns-clause-ok : goal.returns-clause-ok
+returns-clause-ok g c =
+    let a = c.args.asked.now in
+    let files =
+    c.in_ok-write_whole.ensures.ok
+    ∙ ap (told_with (g.D.Desk.files c.args.desk.now) a.extended.now) (c.deref.ensures.value ∙ c.in_ok-text.ensures.text ∙ ap program_text c.requires.extensible.loaded.program) in
+    subst (λ t. IfOk c.search_each.result (λ s. HasReported (case_of_asked a) (events_of_asked a) a.loaded.depth (size_of_asked a) a.stem.now s t (g.D.Desk.files c.search_each.new.desk)
+    (g.D.Desk.said c.args.desk.now) (g.D.Desk.said c.search_each.new.desk))) files
+    (subst (λ t. IfOk c.search_each.result (λ s. HasReported (case_of_asked a) (events_of_asked a) a.loaded.depth (size_of_asked a) a.stem.now s (g.D.Desk.files c.write_whole.new.desk) (g.D.Desk.files c.search_each.new.desk)
+    t (g.D.Desk.said c.search_each.new.desk))) c.write_whole.ensures.said c.search_each.ensures.ok)

@@ -1,0 +1,31 @@
+use Rattle.std.proofs.Common.{◌≡◌, [], length, map, sym, subst, ◌∙◌, eqb-true}
+use Rattle.smv_language.specs.ProgramTree.{program_tree}
+use Rattle.smv_language.specs.Trace.{EachBoth}
+use Rattle.smv_language.specs.ModelTree.{flat_tree}
+use Rattle.verb_loading.specs.declared.status.Status.TheVariants as status
+use Rattle.verb_run.specs.Tables.{IsEventOf}
+use Rattle.verb_run.proofs.TableLemmas.{first_at}
+use Rattle.verb_run.proofs.TopEvents.{event_searchable}
+use Rattle.verb_tops.specs.Each.{HasReported}
+use Rattle.verb_tops.specs.Work.{case_of_asked, events_of_asked, size_of_asked}
+use Rattle.verb_tops.proofs.ReportLaws.{none_reported, none_there, some_there, no_events}
+use Rattle.verb_tops.proofs.each.search_each.Goals as goal
+
+pub returns-then-is_empty-clause-ok : goal.returns-then-is_empty-clause-ok
+returns-then-is_empty-clause-ok g c =
+    let a = c.args.asked.now in
+    let xs = c.as_slice-tops.result.now in
+    let none : a.loaded.tops.over ≡ [] = sym c.as_slice-tops.ensures ∙ none_there xs (eqb-true (length xs) 0 (sym c.is_empty.ensures ∙ c.if-is_empty.true)) in
+    let empty : events_of_asked a ≡ [] = no_events (IsEventOf (case_of_asked a)) flat_tree (events_of_asked a) a.loaded.tops.over c.requires.events none in
+    subst (λ es. HasReported (case_of_asked a) es a.loaded.depth (size_of_asked a) a.stem.now status.Done (g.D.Desk.files c.args.desk.now) (g.D.Desk.files c.args.desk.now) (g.D.Desk.said c.args.desk.now) (g.D.Desk.said c.args.desk.now)) (sym empty)
+    (none_reported (case_of_asked a) a.loaded.depth (size_of_asked a) a.stem.now (g.D.Desk.files c.args.desk.now) (g.D.Desk.said c.args.desk.now))
+
+pub frames_of_case-requires-clause-searchable : goal.frames_of_case-requires-clause-searchable
+frames_of_case-requires-clause-searchable g c =
+    let a = c.args.asked.now in
+    let xs = c.as_slice-tops.result.now in
+    let some = some_there xs c.is_empty.result c.is_empty.ensures c.if-is_empty.false in
+    let event =
+    first_at (IsEventOf (case_of_asked a)) flat_tree (events_of_asked a) xs 0 c.index-tops-0.result
+    (subst (λ trees. EachBoth (IsEventOf (case_of_asked a)) (events_of_asked a) (map flat_tree trees)) (sym c.as_slice-tops.ensures) c.requires.events) some c.index-tops-0.is in
+    event_searchable (program_tree a.loaded.model.program) a.loaded.case c.requires.extensible event.0 (flat_tree c.index-tops-0.result) event.1

@@ -1,0 +1,41 @@
+use Rattle.std.proofs.Common.{rules, arith, ◌≡◌, ◌+◌, length, map, take, sym, subst, ◌∙◌}
+use Rattle.smv_language.specs.Trace.{EachBoth}
+use Rattle.smv_language.specs.ModelTree.{flat_tree}
+use Rattle.verb_run.specs.Tables.{IsEventOf}
+use Rattle.verb_tops.specs.Each.{HasReported}
+use Rattle.verb_tops.specs.Work.{case_of_asked, events_of_asked, size_of_asked}
+use Rattle.verb_tops.proofs.ReportLaws.{next_event, all_events, has_reported_more, none_reported}
+use Rattle.verb_tops.proofs.each.search_in.Goals as goal
+
+pub search_event-requires-clause-event : goal.search_event-requires-clause-event
+search_event-requires-clause-event g c =
+    let a = c.args.asked.now in
+    let events = subst (λ trees. EachBoth (IsEventOf (case_of_asked a)) (events_of_asked a) (map flat_tree trees)) (sym c.as_slice-tops.ensures) c.requires.able.events in
+    let it = next_event (IsEventOf (case_of_asked a)) flat_tree (events_of_asked a) c.as_slice-tops.result.now c.loop-i.i c.index-tops-i.result events c.loop-i-test.true c.index-tops-i.is in
+    (it.event, it.is_event)
+
+pub search_event-requires-clause-system : goal.search_event-requires-clause-system
+search_event-requires-clause-system g c = c.loop-i.invariant.system ∙ c.requires.system
+
+pub loop-i-preserved : goal.loop-i-preserved
+loop-i-preserved g c =
+    let a = c.args.asked.now in
+    let events = subst (λ trees. EachBoth (IsEventOf (case_of_asked a)) (events_of_asked a) (map flat_tree trees)) (sym c.as_slice-tops.ensures) c.requires.able.events in
+    let it = next_event (IsEventOf (case_of_asked a)) flat_tree (events_of_asked a) c.as_slice-tops.result.now c.loop-i.i c.index-tops-i.result events c.loop-i-test.true c.index-tops-i.is in
+    let at : c.loop-i.i + 1 ≡ 1 + length (take c.loop-i.i (events_of_asked a)) = let long = it.long in omega (arith, long) in
+    record {
+      system = c.search_event.ensures.system ∙ c.loop-i.invariant.system;
+      reported =
+          subst (λ es. HasReported (case_of_asked a) es a.loaded.depth (size_of_asked a) a.stem.now c.joined.result (g.D.Desk.files c.args.desk.now) (g.D.Desk.files c.conclude.new.desk) (g.D.Desk.said c.args.desk.now) (g.D.Desk.said c.conclude.new.desk)) (sym it.next)
+          (has_reported_more (case_of_asked a) (take c.loop-i.i (events_of_asked a)) a.loaded.depth (size_of_asked a) a.stem.now c.loop-i.status _ _ _ _ _ _ c.loop-i.invariant.reported it.event (c.loop-i.i + 1)
+          c.in_ok-found.found at (c.in_ok-found.ensures.found it.event it.is_event) c.as_str.result.now (c.as_str.ensures.value ∙ c.in_ok-name.ensures) c.in_ok-conclude.ensures.ok.0 c.in_ok-conclude.ensures.ok.1 c.joined.result c.joined.ensures);
+      later = omega (arith, c.loop-i.invariant.later, c.conclude.ensures.later);
+      quiet = λ quiet. let first = c.loop-i.invariant.quiet quiet in let then = c.conclude.ensures.quiet first.0 in (then.0, then.1 ∙ first.1);
+    }
+
+pub returns-clause-ok : goal.returns-clause-ok
+returns-clause-ok g c =
+    let a = c.args.asked.now in
+    let events = subst (λ trees. EachBoth (IsEventOf (case_of_asked a)) (events_of_asked a) (map flat_tree trees)) (sym c.as_slice-tops.ensures) c.requires.able.events in
+    let all = all_events (IsEventOf (case_of_asked a)) flat_tree (events_of_asked a) c.as_slice-tops.result.now c.loop-i.i events (omega (arith, c.loop-i-test.false)) in
+    subst (λ es. HasReported (case_of_asked a) es a.loaded.depth (size_of_asked a) a.stem.now c.loop-i.status (g.D.Desk.files c.args.desk.now) (g.D.Desk.files c.loop-i.desk) (g.D.Desk.said c.args.desk.now) (g.D.Desk.said c.loop-i.desk)) all c.loop-i.invariant.reported

@@ -1,0 +1,86 @@
+//! The top call.
+//!
+//! The main function is [`run_each`]. Its contract has all that is promised of a run.
+ghost use Rattle.std.specs.Prelude.{◌≡◌, ◌≤◌, Option, IfSome, map};
+ghost use Rattle.base_files.specs.Desk.{Rose};
+ghost use Rattle.verb_loading.specs.Statuses.{IsAnswer};
+ghost use Rattle.verb_tops.specs.Each.{AnswersEach, HasAnsweredEach};
+
+use crate::each::{Asked, deliver_each};
+use base_files::Desk;
+use sat_adviser::{Adviser, Panel};
+use std::alloc::Global;
+use verb_command_line::{Analyse, Command, WordFault, read_words};
+use verb_loading::status::Status;
+use verb_run::ending::{finished, reject, stopped};
+use verb_run::tops::load_table;
+
+/// Does what the words ask for, which are those of `analyse`, for each top event of a file: `--top` has the name of the file, with `;`
+/// between the events, and `--cert` the beginning of the names of the certificates, which is followed by the number of an event and
+/// `.cert`. The files are read, and refused, as `fmea` does it, before anything is written or printed. Then the extension is written, and
+/// event after event searched in frames that stay: the certificate of a complete answer is written, and its report is printed after a
+/// line with the number of the event. The run is bounded where one of the events is. The words of another verb are refused as those of no
+/// verb. The advisers say what each search tries first; no answer is trusted to them.
+pub fn run_each<D: Desk>(
+    alloc: Global,
+    words: &[&str],
+    desk: &mut D,
+    advisers: Vec<Box<dyn Adviser>>,
+) -> Status
+    // Unless the desk failed or memory ran out, the words were refused, or the whole of what the files come to stands.
+    ensures answered { IsAnswer result → IfSome (D.files desk.old) (λ files.
+        HasAnsweredEach files (map (λ w. w.now) words.now) result (D.files desk.old) (D.files desk.new) (D.said desk.old) (D.said desk.new)) }
+    // The desk's status comes only where its count of faults rose.
+    ensures failed { result ≡ Status.Desk → Rose (D.faults desk.old) (D.faults desk.new) }
+    ensures later { D.faults desk.old ≤ D.faults desk.new }
+    ensures quiet { D.quiet desk.old → D.quiet desk.new × (D.faults desk.new ≡ D.faults desk.old) }
+{
+    answer(alloc, words, desk, &mut Panel::new(advisers))
+}
+
+/// Reads the words, and carries out what they ask for.
+fn answer<D: Desk>(alloc: Global, words: &[&str], desk: &mut D, panel: &mut Panel) -> Status
+    ensures answered { IsAnswer result → IfSome (D.files desk.old) (λ files.
+        HasAnsweredEach files (map (λ w. w.now) words.now) result (D.files desk.old) (D.files desk.new) (D.said desk.old) (D.said desk.new)) }
+    ensures failed { result ≡ Status.Desk → Rose (D.faults desk.old) (D.faults desk.new) }
+    ensures later { D.faults desk.old ≤ D.faults desk.new }
+    ensures quiet { D.quiet desk.old → D.quiet desk.new × (D.faults desk.new ≡ D.faults desk.old) }
+{
+    match read_words(words) {
+        Ok(Command::Analyse(asked)) => analyse_each(alloc, desk, &asked, panel),
+        Ok(_) => reject(alloc, desk, WordFault::UnknownVerb { at: 1 }),
+        Err(fault) => reject(alloc, desk, fault),
+    }
+}
+
+/// Reads the three files, writes the extension, searches for each event, and prints the reports.
+fn analyse_each<D: Desk>(alloc: Global, desk: &mut D, asked: &Analyse, panel: &mut Panel) -> Status
+    ensures answered { IsAnswer result → IfSome (D.files desk.old) (λ files.
+        AnswersEach files asked.now.model.now asked.now.faults.now asked.now.top.now asked.now.depth asked.now.extended.now asked.now.cert.now asked.now.size
+        result (D.files desk.old) (D.files desk.new) (D.said desk.old) (D.said desk.new)) }
+    ensures failed { result ≡ Status.Desk → Rose (D.faults desk.old) (D.faults desk.new) }
+    ensures later { D.faults desk.old ≤ D.faults desk.new }
+    ensures quiet { D.quiet desk.old → D.quiet desk.new × (D.faults desk.new ≡ D.faults desk.old) }
+{
+    // (the rows of a table are not asked for)
+    match load_table(
+        alloc,
+        desk,
+        asked.model,
+        asked.faults,
+        asked.top,
+        0,
+        asked.depth,
+    ) {
+        Ok(loaded) => {
+            let asked = Asked {
+                loaded,
+                size: asked.size,
+                extended: asked.extended,
+                stem: asked.cert,
+            };
+            finished(deliver_each(alloc, desk, &asked, panel))
+        }
+        Err(stop) => stopped(alloc, desk, stop),
+    }
+}
