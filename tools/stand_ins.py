@@ -80,6 +80,17 @@ printf 'frontier 0\\nfrontier 1\\nset 1 1 2\\nset 1 3 4\\nset 2 2\\nfrontier 7\\
 touch told
 exec sleep 20
 """
+# The stand-in for the program of several events: it begins its outputs, tells of the second event, and does not end.
+TOPS = """#!/bin/sh
+while [ $# -gt 1 ]; do
+    case "$1" in --extended) echo begun > "$2" ;; --cert) echo begun > "${2}1.cert" ;; esac
+    shift
+done
+printf 'frontier 0\\nfrontier 1\\nfrontier 0\\nfrontier 7\\n' >&2
+echo 'event 1'
+touch told
+exec sleep 20
+"""
 EXPLAIN = """#!/bin/sh
 read -r line
 printf 'means: explained <%s>\\nin line 2, column 7:\\n' "$line"
@@ -95,7 +106,7 @@ ci) [ -e must-fail ] && exit 9
     echo "rt: xsap_program: its tests are proved"; echo "rt: xsap_explain NOT PROVED"
     [ -n "$FAILS" ] && exit 1
     [ -n "$TOUCH" ] && touch "$TOUCH"
-    for name in xsap_program xsap_explain xsap_show xsap_watched; do
+    for name in xsap_program xsap_explain xsap_show xsap_watched xsap_tops; do
         mkdir -p crates/$name/out; cp crates/$name/src/main.rt crates/$name/out/$name
     done ;;
 esac
@@ -125,7 +136,8 @@ class Place:
             shutil.copy(HERE / it, self.top / it)
         for it in ("docs", "examples/crossing"):
             shutil.copytree(HERE / it, self.top / it)
-        self.write("crates.txt", "# crates\nlow:\nother:\nxsap_explain: low\nxsap_show: low\nxsap_program: low # the program\nxsap_watched: low\n")
+        self.write("crates.txt", "# crates\nlow:\nother:\nxsap_explain: low\nxsap_show: low\nxsap_program: low # the program\nxsap_watched: low\n"
+                   "xsap_tops: low\n")
         self.write("crates/low/src/lib.rt", "//! Low.\n")
         self.write("crates/low/proofs/Lib.antt", "")
         self.write("crates/other/src/lib.rt", "//! Other.\n")
@@ -134,6 +146,7 @@ class Place:
         self.write("crates/xsap_explain/src/main.rt", EXPLAIN)
         self.write("crates/xsap_show/src/main.rt", SHOW)
         self.write("crates/xsap_watched/src/main.rt", WATCHED)
+        self.write("crates/xsap_tops/src/main.rt", TOPS)
         self.write("../bin/rt", KIT).chmod(0o755)
         self.write("../cpuinfo", f"processor : 0\nflags\t\t: {GOOD_FLAGS}\n")
         self.machine = ["x86_64", "glibc 2.36", str(self.cpu)]
@@ -148,7 +161,7 @@ class Place:
     def build(self, mark="first"):
         """Puts the programs where rt ci leaves them, newer than every source."""
         for name, text in (("xsap_program", PROGRAM.format(mark=mark)), ("xsap_explain", EXPLAIN), ("xsap_show", SHOW),
-                           ("xsap_watched", WATCHED)):
+                           ("xsap_watched", WATCHED), ("xsap_tops", TOPS)):
             path = self.write(f"crates/{name}/out/{name}", text)
             path.chmod(0o755)
             later = time.time() + 5
@@ -175,7 +188,7 @@ class Place:
         """Makes release/ of programs that are built, which are then removed."""
         self.build(mark)
         wants(self.tool("release")[0], 0, "tools/release ends with")
-        for name in ("xsap_program", "xsap_explain", "xsap_show", "xsap_watched"):
+        for name in ("xsap_program", "xsap_explain", "xsap_show", "xsap_watched", "xsap_tops"):
             shutil.rmtree(self.top / f"crates/{name}/out")
         return self
 

@@ -52,6 +52,11 @@ def run(words, does=None):
 
 def by_program(asked):
     """Has the program answer what is asked, and returns the status."""
+    if "--tops" in asked.own:
+        from running import events
+
+        outputs.judge(asked)
+        return events.run(asked)
     path = programs.find(kept.PROGRAMS[0])
     show = programs.find(SHOW) if asked.verb in tables.by_program() and form_of(asked) != "exact" else None
     outputs.judge(asked)
@@ -100,6 +105,11 @@ def answer(path, show, asked):
         return put(asked.own.get("--output"), in_form(path, show, asked, report), status)
     if status in explaining.REFUSED:
         raise Refused(report.partition(b"\n")[0].decode(errors="replace"), words, status)
+    return failed(asked, status)
+
+
+def failed(asked, status):
+    """Tells why a run failed, as far as that is known, and returns its status."""
     why = outputs.why_failed(asked) if status == explaining.FAILED else None
     programs.tell(why or f"status {status}: {explaining.SILENT.get(status, 'the program has not told why')}")
     return status
@@ -107,8 +117,9 @@ def answer(path, show, asked):
 
 def captured(path, words, asked, watch=None):
     """Runs the program by the exact form, which is printed where that is asked for, and returns its status and what it said. Where the run is
-    watched, it is the program that prints news."""
-    path, errors = (watching.program(), {"stderr": subprocess.PIPE}) if watch else (path, {})
+    watched, it is the program that prints news; that of several events always does, and its news is dropped where it is not."""
+    path, errors = (path if is_several(path) else watching.program(), {"stderr": subprocess.PIPE}) if watch else (path, {})
+    errors = {"stderr": subprocess.DEVNULL} if not watch and is_several(path) else errors
     if "--verbose" in asked.own:
         programs.tell(f"runs {short.command_of([path, *words])}")
     try:
@@ -126,6 +137,11 @@ def captured(path, words, asked, watch=None):
     if status < 0:
         raise Broken(-status)
     return status, said
+
+
+def is_several(path):
+    """Returns whether the program is that of several events."""
+    return os.path.basename(path) == kept.PROGRAMS[4]
 
 
 def faults_of(path, asked):

@@ -19,7 +19,7 @@ import tempfile
 
 from running.machine import Unready
 
-PROGRAMS = ("xsap_program", "xsap_explain", "xsap_show", "xsap_watched")
+PROGRAMS = ("xsap_program", "xsap_explain", "xsap_show", "xsap_watched", "xsap_tops")
 HEAD, TEXT = "xsap release 1", "release.txt"
 KEYS = ("bytes", "sum", "packed", "sources")
 FORM = re.compile(rf"{HEAD}\nkit (.*)\n((?:program \w+\n" + "".join(rf"{it} [0-9a-f]+\n" for it in KEYS) + r")+)all [0-9a-f]+\n")

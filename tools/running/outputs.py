@@ -50,7 +50,7 @@ def judge(asked):
         others[option] = name
         may_be_written(name)
         if option != "--output" and "--force" not in asked.own:
-            stays(option, name)
+            stays(option.partition(" ")[0], name)
 
 
 def may_be_written(name):

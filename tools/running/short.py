@@ -38,13 +38,17 @@ class Asked:
         return [self.verb, *(it for option in verbs.options_of(self.verb) if option in self.values for it in (option, self.values[option]))]
 
     def written(self):
-        """Returns the files that the run writes, by their options."""
+        """Returns the files that the run writes, by their options; the certificates of several events by the option and a number."""
+        if "--tops" in self.own:
+            from running import events
+
+            return events.written(self)
         return {it: self.values[it] for it in verbs.WRITES.get(self.verb, ())}
 
     def read(self):
         """Returns the files that the run reads, by their options."""
         files = {it: self.values[it] for it in self.values if it in verbs.file_options() and it not in verbs.WRITES.get(self.verb, ())}
-        files.update({"--cert": self.own["--cert"]} if "--cert" in self.own else {})
+        files.update({it: self.own[it] for it in ("--cert", "--tops") if it in self.own})
         return {**files, **({"--top": self.top_file} if self.top_file else {})}
 
 
@@ -81,6 +85,10 @@ def read(words):
         raise Wrong(f"{shown(plain[len(room)])} is one word too many: {asked.verb} {verbs.short_usage(asked.verb)}")
     asked.values.update(zip(room, plain))
     fill(asked)
+    if "--tops" in asked.own:
+        from running import events
+
+        events.prepare(asked)
     for option in verbs.options_of(asked.verb):
         if option not in asked.values and f"[{option} " not in verbs.words_of(asked.verb) and option not in ("--first", "--second"):
             raise Wrong(missing(asked.verb, option))
@@ -88,7 +96,7 @@ def read(words):
     if form not in verbs.forms_of(asked.verb):
         forms = verbs.forms_of(asked.verb)
         raise Wrong(f"--format of {asked.verb} is {', '.join(forms)}, and not {shown(form)}{meant(form, forms)}")
-    if asked.values.get("--top", "").startswith("@"):
+    if "--tops" not in asked.own and asked.values.get("--top", "").startswith("@"):
         asked.top_file = asked.values["--top"][1:]
         asked.values["--top"] = event_of(asked.top_file)
     return asked

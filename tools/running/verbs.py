@@ -106,6 +106,7 @@ SEARCHING = ("analyse", "fmea", "make", "causes", "orders", "odds")
 # The options that the short form has beside those of the verb, each with what its value is, or None where it has none.
 SHORT = {"--format": "FORM", "--full": None, "--output": "FILE", "--force": None, "--verbose": None, "--quiet": None}
 SHORT_WORDS = {
+    "--tops FILE": "in place of --top: analyses each event of a file, with ; between, in one search; certificates MODEL.1.cert, MODEL.2.cert ..",
     "--cert FILE": "takes the sets of an accepted certificate of analyse in place of a search",
     "--format FORM": "how the answer is shown; exact is the report as the program prints it",
     "--full": "every value at every moment of a trace, and not only those that change",
@@ -174,7 +175,7 @@ def short_options(verb):
     """Returns the options that the short form of a verb has beside its own, each with what its value is."""
     left_out = {*(() if verb in SHOWN else ("--full",)), *(() if verb in WRITES else ("--force",)), *(("--format",) if verb in OWN_VERBS else ()),
                 *(() if verb in SEARCHING else ("--quiet",))}
-    more = {"odds": {"--cert": "FILE"}, "analyse": {"--layers": None, "--seconds": "NUMBER"}}.get(verb, {})
+    more = {"odds": {"--cert": "FILE"}, "analyse": {"--tops": "FILE", "--layers": None, "--seconds": "NUMBER"}}.get(verb, {})
     return {**more, **{it: value for it, value in SHORT.items() if it not in left_out}}
 
 

@@ -174,7 +174,7 @@ def watch_of(path, asked):
         os.fstat(2)
     except OSError:
         return None
-    return Watch(asked.verb, lambda: names_of(path, asked), os.isatty(2) and os.environ.get("TERM") != "dumb")
+    return Watch("fmea" if "--tops" in asked.own else asked.verb, lambda: names_of(path, asked), os.isatty(2) and os.environ.get("TERM") != "dumb")
 
 
 def program():
