@@ -1,5 +1,5 @@
 -- From the parts of a run to what it came to.
-use Rattle.std.proofs.Common.{◌≡◌, ◌⊎◌, inl, inr, ℕ, List, Option, Some, None, IfSome, length, map, refl, sym, ap, subst, ◌∙◌}
+use Rattle.std.proofs.Common.{◌≡◌, ◌⊎◌, inl, inr, ℕ, List, Option, Some, None, IfSome, length, refl, ap, subst, ◌∙◌}
 use Rattle.base_files.specs.Desk.{said_more}
 use Rattle.smv_language.specs.ProgramTree.{Text, Formula}
 use Rattle.cut_model_search.specs.Found.{size_for}

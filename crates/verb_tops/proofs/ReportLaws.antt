@@ -5,7 +5,6 @@ use Rattle.std.proofs.lemmas.List.{take_more, take_all, length-take-le}
 use Rattle.base_files.specs.Desk.{said_more}
 use Rattle.smv_language.specs.Trace.{EachBoth}
 use Rattle.smv_language.specs.ProgramTree.{Text, Formula}
-use Rattle.smv_flat_laws.proofs.BothLaws.{both_size}
 use Rattle.cut_text_laws.specs.Analysis.{told_ending}
 use Rattle.cut_report_laws.specs.ExtendedTraces.{Ending, complete, bounded, Analysis}
 use Rattle.cert_file.specs.declared.conclusion.Conclusion.{Conclusion}

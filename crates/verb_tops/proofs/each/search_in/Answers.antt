@@ -1,10 +1,10 @@
-use Rattle.std.proofs.Common.{rules, arith, ◌≡◌, ◌+◌, length, map, take, sym, subst, ◌∙◌}
+use Rattle.std.proofs.Common.{arith, ◌≡◌, ◌+◌, length, map, take, sym, subst, ◌∙◌}
 use Rattle.smv_language.specs.Trace.{EachBoth}
 use Rattle.smv_language.specs.ModelTree.{flat_tree}
 use Rattle.verb_run.specs.Tables.{IsEventOf}
 use Rattle.verb_tops.specs.Each.{HasReported}
 use Rattle.verb_tops.specs.Work.{case_of_asked, events_of_asked, size_of_asked}
-use Rattle.verb_tops.proofs.ReportLaws.{next_event, all_events, has_reported_more, none_reported}
+use Rattle.verb_tops.proofs.ReportLaws.{next_event, all_events, has_reported_more}
 use Rattle.verb_tops.proofs.each.search_in.Goals as goal
 
 pub search_event-requires-clause-event : goal.search_event-requires-clause-event
