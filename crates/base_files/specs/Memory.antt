@@ -1,5 +1,6 @@
 -- A desk in memory: what it holds, and which of its calls fail.
-use Rattle.std.specs.Prelude.{ℕ, ◌==◌, ◌&&◌, ◌≡◌, take, is_some, Result, Ok, Err, List, [], ◌∷◌, Option, Some, None, Bool, true, false, if◌then◌else◌}
+use Rattle.std.specs.Prelude.{ℕ, ◌==◌, ◌&&◌, ◌≡◌, take, is_some, Result, Ok, Err, List, [], ◌∷◌, Option, Some, None, Bool, true, false}
+use Rattle.std.specs.Prelude.{if◌then◌else◌}
 use Rattle.std.specs.Option.{option_map_or}
 use Rattle.base_files.specs.declared.desk.WriteStop.{WriteStop}
 use Rattle.base_files.specs.declared.desk.WriteStop.TheVariants as stop

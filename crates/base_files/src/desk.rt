@@ -1,4 +1,4 @@
-// What the analyser asks of the world: files by their names, and a text that it says.
+//! What the analyser asks of the world: files by their names, and a text that it says.
 ghost use Rattle.std.specs.Prelude.{◌≡◌, ◌≤◌, ℕ, List, [], Option, length, IfOk, OnOk, OnErr, IsErrOf};
 ghost use Rattle.base_files.specs.declared.files.NamedFile.{NamedFile};
 ghost use Rattle.base_files.specs.Desk.{Rose, ReadsFrom, HasNoFile, told_with, told_longer, AppendsPrefix, said_more, SaysPrefix};

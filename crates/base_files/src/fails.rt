@@ -1,7 +1,7 @@
-// Which calls of a desk in memory are to fail: a `Fail` names a kind of call and its number.
-//
-// Calls are counted by their kind, from 1. An append or a saying that fails may keep its first bytes all the same, as a disk
-// that is full does; `kept_of` tells how many.
+//! Which calls of a desk in memory are to fail: a `Fail` names a kind of call and its number.
+//!
+//! Calls are counted by their kind, from 1. An append or a saying that fails may keep its first bytes all the same, as a disk
+//! that is full does; `kept_of` tells how many.
 ghost use Rattle.std.specs.Prelude.{◌≡◌, ◌≤◌};
 ghost use Rattle.base_files.specs.Memory.{count_of, counted, kept_at};
 ghost use Rattle.base_values.specs.Counts.{next_count};

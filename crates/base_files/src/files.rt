@@ -1,4 +1,4 @@
-// Files by their names, in a list in which the first of two with one name counts.
+//! Files by their names, in a list in which the first of two with one name counts.
 ghost use Rattle.std.specs.Prelude.{◌≡◌, [], ◌++◌, IfOk, OnOk, OnErr};
 ghost use Rattle.std.specs.Option.{option_copied};
 ghost use Rattle.base_files.specs.Files.{file_of, content_of, place_of, with_file};

@@ -1,7 +1,7 @@
-// A desk in memory, whose calls fail exactly where they are told to.
-//
-// `MemoryDesk` is the desk of the tests of all layers above: it tells its files and what was said, so that a test compares
-// both.
+//! A desk in memory, whose calls fail exactly where they are told to.
+//!
+//! `MemoryDesk` is the desk of the tests of all layers above: it tells its files and what was said, so that a test compares
+//! both.
 ghost use Rattle.std.specs.Prelude.{◌≡◌, ◌↔◌, ◌≤◌, ◌++◌, take, [], Some, None, IsSome, IsErrOf, OnOk, OnErr, length, IfOk};
 ghost use Rattle.std.specs.Option.{option_copied};
 ghost use Rattle.base_files.specs.Files.{file_of, content_of, with_file};

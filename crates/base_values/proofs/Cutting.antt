@@ -1,6 +1,6 @@
 -- Bytes cut at the first byte of a kind.
 use Rattle.std.proofs.Common.{◌≡◌, ◌≢◌, ℕ, zero, suc, ◌<◌, ◌≤◌, List, [], ◌∷◌, length, take, drop, get_or, arith}
-use Rattle.base_values.specs.Cuts.{Lacks, BeginsWith}
+use Rattle.base_values.specs.Separators.{Lacks, BeginsWith}
 
 pub front_free : (b : ℕ) (bytes : List ℕ) (n : ℕ) → n ≤ length bytes → ((k : ℕ) → k < n → get_or bytes k 0 ≢ b) → Lacks b (take n bytes)
 front_free b [] zero h f = tt

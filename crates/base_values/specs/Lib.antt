@@ -1,5 +1,5 @@
 pub mod Counts
-pub mod Cuts
+pub mod Separators
 pub mod Domains
 pub mod Rising
 pub mod formers

@@ -1,7 +1,6 @@
 //! Bytes cut at a byte, and into lines.
-
 ghost use Rattle.std.specs.Prelude.{◌≡◌, ◌≢◌, ℕ, ◌<◌, ◌≤◌, ◌++◌, length, slice_index, MatchOption};
-ghost use Rattle.base_values.specs.Cuts.{Lacks, BeginsWith, IsLineThen};
+ghost use Rattle.base_values.specs.Separators.{Lacks, BeginsWith, IsLineThen};
 
 /// The bytes before the first line feed and those after it, where there is one.
 pub fn first_line(bytes: &[u8]) -> Option<(&[u8], &[u8])>

@@ -1,5 +1,4 @@
 //! Numbers appended to a text by their decimal digits.
-
 ghost use Rattle.std.specs.Prelude.{◌≡◌, ◌++◌, OnOk, OnErr};
 ghost use Rattle.std.specs.Fmt.{decimal, signed_decimal};
 

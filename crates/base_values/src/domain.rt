@@ -1,7 +1,6 @@
 //! The values that a variable may have.
 //! A [`Domain`] answers which values it has ([`Domain::has`]) and how many different ones ([`Domain::count`]). The words of
 //! its contracts stand in `specs/Domains.antt`.
-
 ghost use Rattle.std.specs.Prelude.{◌≡◌, ◌↔◌, IsTrue, IfOk, nat_eq};
 ghost use Rattle.std.specs.Ordering.{int_eq};
 ghost use Rattle.base_values.specs.Domains.{Has, IsCountable, count_of, different};

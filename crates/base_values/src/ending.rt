@@ -1,5 +1,4 @@
 //! How an analysis ends: with sets that are right for all traces, or for those of a bounded length.
-
 /// How an analysis ends.
 #[derive(Clone, Copy, Debug, PartialEq, Eq)]
 pub enum Ending {

@@ -1,6 +1,5 @@
 //! Lists as contracts see them: [`Items`] is a vector whose meaning is the list of its items.
 //! Every list of the crates above is an alias of it. A list that could not grow stays as it was.
-
 ghost use Rattle.std.specs.Prelude.{◌≡◌, ◌<◌, [], ◌∷◌, ◌++◌, ◌↔◌, length, IsTrue, OnOk, OnErr, IfOk, Some, slice_get};
 
 use crate::memory::OutOfMemory;

@@ -6,7 +6,7 @@
 //! also where a type reaches itself through the list: `specs/formers/items/Items.antt` tells the
 //! toolchain how `Items` stores what it holds. Want of memory is [`OutOfMemory`], and `?` makes it
 //! from each refusal of std. What a domain's values are stands in `specs/Domains.antt`, and how bytes are
-//! cut at a byte in `specs/Cuts.antt`.
+//! cut at a byte in `specs/Separators.antt`.
 //!
 //! ```text
 //! let mut names = NameList::new(alloc);

@@ -1,5 +1,4 @@
 //! The values that a domain lists ([`Members`]), in their declared order, and in rising order, in which one is searched for.
-
 ghost use Rattle.std.specs.Prelude.{◌≡◌, ◌↔◌, IsTrue, IfOk, Contains};
 
 use crate::items::Items;

@@ -1,5 +1,4 @@
 //! Want of memory: [`OutOfMemory`], which `?` makes from each refusal of std.
-
 use std::alloc::{AllocError, AllocFailed};
 
 /// The answer for want of memory, which stands for nothing else.

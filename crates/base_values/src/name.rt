@@ -3,7 +3,6 @@
 //!
 //! The copies of a name share its bytes. So the paths of a thousand variables below long names take a pointer for each of
 //! their parts, however long the names are.
-
 ghost use Rattle.std.specs.Prelude.{◌≡◌, ◌↔◌, [], ◌∷◌, ◌++◌, ◌<◌, length, slice_get, Some, IsTrue, IfOk, OnOk, OnErr};
 
 use crate::items::Items;

@@ -1,5 +1,4 @@
 //! Values, and lists of them by the number of a variable: [`Value`] and [`Valuation`].
-
 ghost use Rattle.std.specs.Prelude.{◌≡◌, ◌<◌, [], ◌∷◌, ◌++◌, length, slice_get, slice_set, Some, IfOk, OnOk, OnErr};
 
 use crate::items::Items;

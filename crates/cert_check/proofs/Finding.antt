@@ -3,12 +3,12 @@ use Rattle.std.proofs.Common.{◌≡◌, ℕ, List, [], ◌∷◌, ◌++◌, len
 use Rattle.smv_language.specs.Values.{Value}
 use Rattle.smv_flat_laws.specs.FlatTrace.{IsFlatTrace}
 use Rattle.sat_encoding_laws.specs.FlatTraces.{ReachesTop, HasFailedNumber}
-use Rattle.cut_text_laws.specs.Given.{GivesTrace}
+use Rattle.cut_text_laws.specs.TraceOfText.{GivesTrace}
 use Rattle.cert_laws.specs.Certificate.{Site, line_of}
 use Rattle.cert_laws.specs.Sites.{sites_of, FirstBrokenIsObjection}
 use Rattle.cert_laws.proofs.Sites.{first_broken}
 use Rattle.cert_check.specs.Matter.{Matter, IsObjectionIn}
-use Rattle.cert_check.specs.Found.{IsKeptAt, IsBrokenAt, AreKept, IsFirstBroken, Finds, IsJudged}
+use Rattle.cert_check.specs.SiteFindings.{IsKeptAt, IsBrokenAt, AreKept, IsFirstBroken, Finds, IsJudged}
 use Rattle.cert_check.specs.declared.judged.Judged.{Judged}
 use Rattle.cert_check.specs.declared.judged.Judged.TheVariants.{Yes, No}
 

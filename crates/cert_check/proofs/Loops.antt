@@ -8,7 +8,7 @@ use Rattle.sat_clauses.specs.declared.step.Step.{Step}
 use Rattle.cert_laws.specs.Certificate.{Part, Site, a_set, a_trace, a_clause, a_step, an_end, line_of}
 use Rattle.cert_laws.specs.Sites.{set_sites, clause_sites, step_sites}
 use Rattle.cert_check.specs.Matter.{Matter}
-use Rattle.cert_check.specs.Found.{IsKeptAt, IsBrokenAt, AreKept, IsFirstBroken, Finds, GoesOn}
+use Rattle.cert_check.specs.SiteFindings.{IsKeptAt, IsBrokenAt, AreKept, IsFirstBroken, Finds, GoesOn}
 use Rattle.cert_check.specs.declared.judged.Judged.TheVariants.{Yes, No}
 use Rattle.cert_check.proofs.Finding.{kept_none, kept_then, broken_here, kept_both, broken_front}
 use Rattle.base_values.proofs.ListLaws.{drop_there}

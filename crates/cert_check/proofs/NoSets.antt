@@ -6,13 +6,13 @@ use Rattle.cut_text_laws.specs.Lines.{Line}
 use Rattle.smv_language.specs.Values.{Value}
 use Rattle.smv_flat_laws.specs.FlatTrace.{IsFlatTrace}
 use Rattle.sat_encoding_laws.specs.FlatTraces.{ReachesTop, HasFailedNumber}
-use Rattle.cut_text_laws.specs.Given.{GivesTrace}
+use Rattle.cut_text_laws.specs.TraceOfText.{GivesTrace}
 use Rattle.cert_laws.specs.Certificate.{head_line, Part, part_first, part_next, part_bad, Site, the_numbers, a_set, a_trace, a_clause, a_step, an_end, lines_of_sets, line_of, IsSite}
-use Rattle.cert_laws.specs.Accepted.{Rule, HasNumbers, Keeps}
+use Rattle.cert_laws.specs.Acceptance.{Rule, HasNumbers, Keeps}
 use Rattle.cert_laws.specs.Sites.{set_sites, sites_of}
-use Rattle.cert_check.specs.Asked.{proof_sites}
+use Rattle.cert_check.specs.QuestionMatter.{proof_sites}
 use Rattle.cert_check.specs.Matter.{Matter, KeepsAllIn}
-use Rattle.cert_check.specs.Found.{IsKeptAt, IsBrokenAt, Finds, IsObjectionOf, FindsUnlisted, one_before, none_before, of_another, of_its_set, IsJudged, IsJudgedUnlisted}
+use Rattle.cert_check.specs.SiteFindings.{IsKeptAt, IsBrokenAt, Finds, IsObjectionOf, FindsUnlisted, one_before, none_before, of_another, of_its_set, IsJudged, IsJudgedUnlisted}
 use Rattle.cert_check.specs.declared.judged.Judged.{Judged}
 use Rattle.cert_check.specs.declared.judged.Judged.TheVariants.{Yes, No}
 use Rattle.cert_check.proofs.Finding.{kept_then, broken_here, judged_of_all}

@@ -7,9 +7,9 @@ use Rattle.std.proofs.lemmas.Option.{same_Some as some_same, none-some as none_s
 use Rattle.cut_right_laws.specs.Sets.{IsRising, has_number, is_contained, is_before_in_order, stands_before}
 use Rattle.cut_sets.specs.Tests.{are_apart}
 use Rattle.cert_laws.specs.Certificate.{Site, a_set}
-use Rattle.cert_laws.specs.Accepted.{no_set, IsSetAt}
+use Rattle.cert_laws.specs.Acceptance.{no_set, IsSetAt}
 use Rattle.cert_check.specs.Matter.{Matter}
-use Rattle.cert_check.specs.Found.{AreKept}
+use Rattle.cert_check.specs.SiteFindings.{AreKept}
 use Rattle.cert_check.specs.Order.{AreInOrder}
 use Rattle.smv_language.proofs.BoolLaws.{or_cases, not_both}
 use Rattle.sat_encoding_laws.proofs.SetLaws.{either_of, contained_has, contained_from, has_first, has_later, before_through}

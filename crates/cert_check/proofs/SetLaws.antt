@@ -8,7 +8,7 @@ use Rattle.cut_right_laws.specs.Right.{IsContained}
 use Rattle.sat_encoding_laws.proofs.SetLaws.{has_contains, contains_has, contained_has, contained_from}
 use Rattle.cut_sets.specs.Tests.{are_apart}
 use Rattle.cert_laws.specs.Certificate.{Certificate}
-use Rattle.cert_laws.specs.Accepted.{Subject, IsSetAt, IsApart}
+use Rattle.cert_laws.specs.Acceptance.{Subject, IsSetAt, IsApart}
 use Rattle.cert_check.specs.Order.{stands_after, is_after_in}
 use Rattle.std.proofs.lemmas.Option.{same_Some as some_same, none-some as none_some}
 use Rattle.std.proofs.lemmas.Bool.{and_parts, and_from as and_both}

@@ -12,12 +12,12 @@ use Rattle.sat_clauses.specs.States.{IsOverBits}
 use Rattle.smv_flat_laws.specs.FlatTrace.{IsFlatTrace}
 use Rattle.sat_encoding_laws.specs.FlatTraces.{ReachesTop, HasFailedNumber}
 use Rattle.cut_right_laws.specs.Right.{HasFailedExactly, Shows}
-use Rattle.cut_text_laws.specs.Given.{IsPrintable, GivesTrace}
+use Rattle.cut_text_laws.specs.TraceOfText.{IsPrintable, GivesTrace}
 use Rattle.cut_text_laws.proofs.OneTrace.{one_trace}
 use Rattle.cert_laws.specs.Certificate.{Part, Site, the_numbers, a_set, a_trace, a_clause, a_step, an_end}
-use Rattle.cert_laws.specs.Accepted.{Rule, other_numbers, no_set, contains_a_set, no_text, no_trace, does_not_reach, other_faults, foreign_literal, bad_hint, no_conflict, not_covered, number_of, Keeps, HasNumbers, IsSetAt, IsApart, HasLiterals, HasGoodHints, HasConflict, IsCovered}
+use Rattle.cert_laws.specs.Acceptance.{Rule, other_numbers, no_set, contains_a_set, no_text, no_trace, does_not_reach, other_faults, foreign_literal, bad_hint, no_conflict, not_covered, number_of, Keeps, HasNumbers, IsSetAt, IsApart, HasLiterals, HasGoodHints, HasConflict, IsCovered}
 use Rattle.cert_check.specs.Matter.{Matter}
-use Rattle.cert_check.specs.Found.{IsKeptAt, IsBrokenAt, AreKept, FindsAt}
+use Rattle.cert_check.specs.SiteFindings.{IsKeptAt, IsBrokenAt, AreKept, FindsAt}
 use Rattle.cert_check.specs.Moments.{FindsMoments, BreaksMoments, not_a_trace, not_reaching, not_exactly}
 
 module _ (a : Matter) where

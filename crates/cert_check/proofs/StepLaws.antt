@@ -7,9 +7,9 @@ use Rattle.sat_clauses.specs.Literal.{Literal}
 use Rattle.sat_clauses.specs.Derivation.{Derivation}
 use Rattle.sat_clauses.specs.declared.step.Step.{Step}
 use Rattle.cert_laws.specs.Certificate.{Certificate, Part, part_first, part_next, part_bad, a_step, an_end, steps_in, head_line, line_of}
-use Rattle.cert_laws.specs.Accepted.{Covers, highest, known_before, known_at, vars_of, givens, goals, IsCovered}
+use Rattle.cert_laws.specs.Acceptance.{Covers, highest, known_before, known_at, vars_of, givens, goals, IsCovered}
 use Rattle.cert_check.specs.Matter.{Matter}
-use Rattle.cert_check.specs.Found.{IsKeptAt, IsBrokenAt, Finds}
+use Rattle.cert_check.specs.SiteFindings.{IsKeptAt, IsBrokenAt, Finds}
 use Rattle.cert_check.specs.declared.judged.Judged.TheVariants.{Yes, No}
 use Rattle.cert_check.proofs.Finding.{kept_none, kept_then, broken_here}
 use Rattle.cert_derivations.specs.Steps.{BreaksStep, foreign, hint, no_false, IsTaken, FindsStep}

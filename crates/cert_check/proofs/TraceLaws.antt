@@ -13,13 +13,13 @@ use Rattle.base_values.specs.declared.value.Value.TheVariants.{Bool as ABool, Nu
 use Rattle.smv_language.specs.Flat.{FlatVariable, FlatModel}
 use Rattle.smv_flat_laws.specs.FlatTrace.{AreInDomains}
 use Rattle.cut_text_laws.specs.Lines.{Line, fed}
-use Rattle.smv_evaluation.specs.Named.{IsPlaceOf, IsNumbered, IsLawful}
-use Rattle.smv_language.specs.Told.{told_value, told_moment, told_trace}
-use Rattle.cut_text_laws.specs.Given.{IsPrintable, GivesMoments, GivesTrace, BytesGive}
+use Rattle.smv_evaluation.specs.EvaluableModels.{IsPlaceOf, IsNumbered, IsLawful}
+use Rattle.smv_language.specs.NumberedValues.{told_value, told_moment, told_trace}
+use Rattle.cut_text_laws.specs.TraceOfText.{IsPrintable, GivesMoments, GivesTrace, BytesGive}
 use Rattle.std.specs.List.{AllByRecursion}
 use Rattle.cut_text_laws.specs.Lines.{IsLine}
 use Rattle.cut_text_laws.proofs.Cuts.{same_fed}
-use Rattle.cut_text_laws.specs.Wrong.{wrong_line, missing_value, bad_line, unknown_name, outside, twice}
+use Rattle.cut_text_laws.specs.TraceFaults.{wrong_line, missing_value, bad_line, unknown_name, outside, twice}
 use Rattle.cut_text_laws.proofs.GivenHasNone.{given_has_none}
 use Rattle.cut_report.specs.Faults.{IsFaultOf}
 use Rattle.cut_report.specs.declared.fault.TraceFault.{TraceFault}

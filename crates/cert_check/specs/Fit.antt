@@ -6,10 +6,10 @@ use Rattle.smv_language.specs.Flat.{FlatLeaf, FlatModel}
 use Rattle.smv_flat_laws.specs.History.{Mode, with_history}
 use Rattle.smv_type_laws.specs.Laws.{ReadsOwn}
 use Rattle.smv_type_laws.specs.Models.{judged_in, broken_condition}
-use Rattle.smv_evaluation.specs.Named.{IsEvaluable}
+use Rattle.smv_evaluation.specs.EvaluableModels.{IsEvaluable}
 use Rattle.sat_encoding_laws.specs.EncodedLaws.{AreOwn}
 use Rattle.sat_encoding_laws.specs.Encodable.{IsEncodable, IsFitTop}
-use Rattle.cut_text_laws.specs.Given.{IsPrintable, HasItsSymbols}
+use Rattle.cut_text_laws.specs.TraceOfText.{IsPrintable, HasItsSymbols}
 use Rattle.cut_text_laws.specs.Lines.{Line, IsLine}
 use Rattle.cert_laws.specs.Certificate.{Certificate, part_bad, an_end, line_of}
 use Rattle.cert_laws.specs.CertificateText.{SpellsCertificate}

@@ -1,6 +1,6 @@
 pub mod Matter
-pub mod Found
-pub mod Asked
+pub mod SiteFindings
+pub mod QuestionMatter
 pub mod Fit
 pub mod Moments
 pub mod Order

@@ -12,9 +12,9 @@ use Rattle.smv_language.specs.declared.model.Fault.{Fault}
 use Rattle.smv_language.specs.ModelTree.{model_tree, flat_tree}
 use Rattle.smv_flat_laws.specs.FaultModes.{mode_of}
 use Rattle.sat_encoding_laws.specs.FlatTraces.{ReachesTop, HasFailedNumber}
-use Rattle.cut_text_laws.specs.Given.{GivesTrace}
+use Rattle.cut_text_laws.specs.TraceOfText.{GivesTrace}
 use Rattle.cert_laws.specs.Certificate.{Certificate, Site}
-use Rattle.cert_laws.specs.Accepted.{Subject, Rule, IsAccepted, IsObjection}
+use Rattle.cert_laws.specs.Acceptance.{Subject, Rule, IsAccepted, IsObjection}
 use Rattle.cert_laws.specs.Subject.{subject_of}
 use Rattle.cert_laws.specs.Sites.{KeepsAll, BreaksFirst}
 
@@ -40,18 +40,22 @@ matter_of full plain faults top c =
 module _ (a : Matter) where
   -- no rule is broken, by texts of flat traces that reach the top event
   abbrev pub IsAcceptedIn : Type 0
-  IsAcceptedIn = IsAccepted (List (List Value)) (GivesTrace a.model) (IsFlatTrace a.model) (ReachesTop a.model a.top) (HasFailedNumber a.model a.modes) a.subject a.certificate
+  IsAcceptedIn = IsAccepted (List (List Value)) (GivesTrace a.model) (IsFlatTrace a.model) (ReachesTop a.model a.top)
+      (HasFailedNumber a.model a.modes) a.subject a.certificate
 
   -- a rule is the first that is broken
   abbrev pub IsObjectionIn : ℕ → Rule → Type 0
   IsObjectionIn line rule =
-      IsObjection (List (List Value)) (GivesTrace a.model) (IsFlatTrace a.model) (ReachesTop a.model a.top) (HasFailedNumber a.model a.modes) a.subject a.certificate line rule
+      IsObjection (List (List Value)) (GivesTrace a.model) (IsFlatTrace a.model) (ReachesTop a.model a.top)
+      (HasFailedNumber a.model a.modes) a.subject a.certificate line rule
 
   -- every rule is kept at a site
   abbrev pub KeepsAllIn : Site → Type 0
-  KeepsAllIn site = KeepsAll (List (List Value)) (GivesTrace a.model) (IsFlatTrace a.model) (ReachesTop a.model a.top) (HasFailedNumber a.model a.modes) a.subject a.certificate site
+  KeepsAllIn site = KeepsAll (List (List Value)) (GivesTrace a.model) (IsFlatTrace a.model) (ReachesTop a.model a.top)
+      (HasFailedNumber a.model a.modes) a.subject a.certificate site
 
   -- a rule is the first that is broken at a site
   abbrev pub BreaksFirstIn : Site → Rule → Type 0
   BreaksFirstIn site rule =
-      BreaksFirst (List (List Value)) (GivesTrace a.model) (IsFlatTrace a.model) (ReachesTop a.model a.top) (HasFailedNumber a.model a.modes) a.subject a.certificate site rule
+      BreaksFirst (List (List Value)) (GivesTrace a.model) (IsFlatTrace a.model) (ReachesTop a.model a.top)
+      (HasFailedNumber a.model a.modes) a.subject a.certificate site rule

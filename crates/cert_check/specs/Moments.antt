@@ -7,7 +7,7 @@ use Rattle.smv_flat_laws.specs.FlatTrace.{IsFlatTrace}
 use Rattle.smv_flat_laws.specs.History.{Mode}
 use Rattle.smv_language.specs.Flat.{FlatModel}
 use Rattle.sat_encoding_laws.specs.FlatTraces.{ReachesTop, HasFailedNumber}
-use Rattle.smv_evaluation.specs.Named.{IsLawful}
+use Rattle.smv_evaluation.specs.EvaluableModels.{IsLawful}
 use Rattle.cut_right_laws.specs.Sets.{has_number}
 use Rattle.cut_right_laws.specs.Right.{HasFailedExactly, Shows}
 use Rattle.cut_report.specs.declared.fault.TraceFault.{TraceFault}
@@ -22,7 +22,8 @@ pub record CanBeReplayed (m : FlatModel) (trace : List (List Numbered)) : Type 0
 
 module _ (a : Matter) (set : List ℕ) (trace : List (List Value)) where
   abbrev pub FailsExactly : Type 0
-  FailsExactly = HasFailedExactly (List (List Value)) (IsFlatTrace a.model) (ReachesTop a.model a.top) (HasFailedNumber a.model a.modes) trace set
+  FailsExactly = HasFailedExactly (List (List Value)) (IsFlatTrace a.model) (ReachesTop a.model a.top) (HasFailedNumber a.model a.modes)
+      trace set
 
   -- the moments are no trace, or one that does not reach the top event, or one that does and has failed other faults
   pub data BreaksMoments : ℕ → Type 0 where

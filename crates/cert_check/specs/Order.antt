@@ -15,4 +15,5 @@ is_after_in sets (suc k) set = stands_after set (slice_get sets k)
 -- each set before a place rises, and of two of them the one before stands before the other
 pub record AreInOrder (sets : List (List ℕ)) (k : ℕ) : Type 0 where
   pub rising : (j : ℕ) (set : List ℕ) → j < k → slice_get sets j ≡ Some set → IsRising set
-  pub before : (i j : ℕ) (one other : List ℕ) → i < j → j < k → slice_get sets i ≡ Some one → slice_get sets j ≡ Some other → IsTrue (stands_before one other)
+  pub before : (i j : ℕ) (one other : List ℕ) → i < j → j < k → slice_get sets i ≡ Some one → slice_get sets j ≡ Some other →
+      IsTrue (stands_before one other)

@@ -4,13 +4,13 @@ use Rattle.sat_clauses.specs.Literal.{Literal}
 use Rattle.sat_clauses.specs.Derivation.{Derivation}
 use Rattle.cert_laws.specs.Certificate.{Part, part_first, part_next, part_bad, an_end, steps_in}
 use Rattle.cert_laws.specs.Sites.{step_sites}
-use Rattle.cert_laws.specs.Accepted.{known_at, vars_of}
+use Rattle.cert_laws.specs.Acceptance.{known_at, vars_of}
 use Rattle.cert_check.specs.Matter.{Matter}
-use Rattle.cert_check.specs.Found.{Finds, GoesOn}
+use Rattle.cert_check.specs.SiteFindings.{Finds, GoesOn}
 use Rattle.cert_check.specs.declared.judged.Judged.{Judged}
 use Rattle.cert_check.specs.declared.judged.Judged.TheVariants.{Yes, No}
-use Rattle.cert_check.specs.declared.question.Part.{Part as Which}
-use Rattle.cert_check.specs.declared.question.Part.TheVariants.{First, Next, Bad}
+use Rattle.cert_check.specs.declared.question.CheckedPart.{CheckedPart as Which}
+use Rattle.cert_check.specs.declared.question.CheckedPart.TheVariants.{First, Next, Bad}
 
 -- which derivation is meant
 abbrev pub part_of : Which → Part

@@ -1,23 +1,22 @@
 //! The clauses of an invariant: rule 8.
 //!
 //! The main function is [`judge_clauses`]: each clause is over the state bits now, and no literal stands in it with its opposite.
-
 ghost use Rattle.std.specs.Prelude.{◌≡◌, ◌↔◌, ◌+◌, ◌<◌, ◌≤◌, ◌^◌, IsTrue, All, length};
 ghost use Rattle.sat_clauses.specs.Hints.{HasNoOpposites};
 ghost use Rattle.sat_clauses.specs.States.{IsOverBits};
 ghost use Rattle.cert_laws.specs.Certificate.{invariant_line};
 ghost use Rattle.cert_laws.specs.Sites.{clause_sites};
-ghost use Rattle.cert_check.specs.Asked.{asked};
-ghost use Rattle.cert_check.specs.Found.{Finds};
+ghost use Rattle.cert_check.specs.QuestionMatter.{asked};
+ghost use Rattle.cert_check.specs.SiteFindings.{Finds};
 
 use crate::judged::Judged;
-use crate::question::Question;
+use crate::question::CertificateQuestion;
 use cert_derivations::has_no_opposites;
 use sat_clauses::clause::ClauseList;
 use sat_clauses::lit::Lit;
 
 /// Judges the clauses of the invariant, the first of which has this line.
-pub(crate) fn judge_clauses(q: &Question<'_>, line: u64) -> Judged
+pub(crate) fn judge_clauses(q: &CertificateQuestion<'_>, line: u64) -> Judged
     requires line { line ≡ invariant_line (asked q.now).certificate + 1 }
     requires room { line + length q.now.certificate.now.invariant < 2 ^ 64 }
     ensures { Finds (asked q.now) (clause_sites 0 q.now.certificate.now.invariant) result }
@@ -32,7 +31,7 @@ pub(crate) fn judge_clauses(q: &Question<'_>, line: u64) -> Judged
 }
 
 /// Whether a clause is over the state bits now, and none of its literals stands with its opposite.
-fn is_invariant_clause(q: &Question<'_>, clause: &[Lit]) -> bool
+fn is_invariant_clause(q: &CertificateQuestion<'_>, clause: &[Lit]) -> bool
     ensures { IsTrue result ↔ (IsOverBits (asked q.now).subject.system clause.now × HasNoOpposites clause.now) }
 {
     if !are_over_bits(clause, u64::from(q.full.bits())) {

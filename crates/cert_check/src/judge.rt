@@ -1,17 +1,16 @@
 //! All sites of a certificate judged in the order of their lines.
 //!
 //! The main function is [`check`]: the numbers first, then each set with its trace, the invariant's clauses, and the derivations.
-
 ghost use Rattle.std.specs.Prelude.{◌≡◌, ◌++◌, map, IfOk};
 ghost use Rattle.smv_language.specs.ModelTree.{model_tree, flat_tree};
 ghost use Rattle.smv_flat_laws.specs.FaultModes.{mode_of};
 ghost use Rattle.smv_flat_laws.specs.History.{with_history};
-ghost use Rattle.cert_text.specs.Seen.{seen};
-ghost use Rattle.cert_laws.specs.Accepted.{HasNumbers};
+ghost use Rattle.cert_text.specs.CertificateView.{seen};
+ghost use Rattle.cert_laws.specs.Acceptance.{HasNumbers};
 ghost use Rattle.cert_laws.specs.Sites.{sites_of, set_sites};
 ghost use Rattle.cert_check.specs.Matter.{matter_of};
-ghost use Rattle.cert_check.specs.Found.{Finds, IsJudged};
-ghost use Rattle.cert_check.specs.Asked.{asked, proof_sites};
+ghost use Rattle.cert_check.specs.SiteFindings.{Finds, IsJudged};
+ghost use Rattle.cert_check.specs.QuestionMatter.{asked, proof_sites};
 ghost use Rattle.cert_check.specs.Fit.{IsFit, IsCheckable, CanBeJudged, CanBeProved};
 
 use crate::clauses::judge_clauses;
@@ -19,7 +18,7 @@ use crate::judged::Judged;
 use crate::lines::invariant_line;
 use crate::listed::judge_sets;
 use crate::parts::judge_parts;
-use crate::question::Question;
+use crate::question::CertificateQuestion;
 use crate::sets::has_numbers;
 use base_values::OutOfMemory;
 use cert_text::Certificate;
@@ -43,7 +42,7 @@ pub fn check(
     requires checkable { IsCheckable (seen c.now) }
     ensures { IfOk result (IsJudged (matter_of full.now.model plain.now.model faults.now top.now (seen c.now))) }
 {
-    let question = Question {
+    let question = CertificateQuestion {
         full,
         plain,
         faults,
@@ -54,7 +53,7 @@ pub fn check(
 }
 
 /// Judges all sites.
-fn judge(alloc: Global, q: &Question<'_>) -> Result<Judged, OutOfMemory>
+fn judge(alloc: Global, q: &CertificateQuestion<'_>) -> Result<Judged, OutOfMemory>
     requires { CanBeJudged (model_tree q.now.full.now.model) (asked q.now) }
     ensures { IfOk result (IsJudged (asked q.now)) }
 {
@@ -62,7 +61,7 @@ fn judge(alloc: Global, q: &Question<'_>) -> Result<Judged, OutOfMemory>
 }
 
 /// What is found at all sites.
-fn judge_sites(alloc: Global, q: &Question<'_>) -> Result<Judged, OutOfMemory>
+fn judge_sites(alloc: Global, q: &CertificateQuestion<'_>) -> Result<Judged, OutOfMemory>
     requires { CanBeJudged (model_tree q.now.full.now.model) (asked q.now) }
     ensures { IfOk result (Finds (asked q.now) (sites_of (asked q.now).certificate)) }
 {
@@ -73,10 +72,11 @@ fn judge_sites(alloc: Global, q: &Question<'_>) -> Result<Judged, OutOfMemory>
 }
 
 /// Judges the sets with their traces, and then the rest.
-fn judge_listed(alloc: Global, q: &Question<'_>) -> Result<Judged, OutOfMemory>
+fn judge_listed(alloc: Global, q: &CertificateQuestion<'_>) -> Result<Judged, OutOfMemory>
     requires fit { CanBeJudged (model_tree q.now.full.now.model) (asked q.now) }
     requires numbers { HasNumbers (asked q.now).subject (asked q.now).certificate }
-    ensures { IfOk result (Finds (asked q.now) (set_sites 0 q.now.certificate.now.sets q.now.certificate.now.traces ++ proof_sites (asked q.now).certificate)) }
+    ensures { IfOk result (Finds (asked q.now) (set_sites 0 q.now.certificate.now.sets q.now.certificate.now.traces
+        ++ proof_sites (asked q.now).certificate)) }
 {
     match judge_sets(alloc, q)? {
         Judged::Yes => judge_proof(alloc, q),
@@ -85,7 +85,7 @@ fn judge_listed(alloc: Global, q: &Question<'_>) -> Result<Judged, OutOfMemory>
 }
 
 /// Judges the invariant, and then the derivations.
-pub(crate) fn judge_proof(alloc: Global, q: &Question<'_>) -> Result<Judged, OutOfMemory>
+pub(crate) fn judge_proof(alloc: Global, q: &CertificateQuestion<'_>) -> Result<Judged, OutOfMemory>
     requires fit { CanBeProved (model_tree q.now.full.now.model) (asked q.now) }
     requires numbers { HasNumbers (asked q.now).subject (asked q.now).certificate }
     ensures { IfOk result (Finds (asked q.now) (proof_sites (asked q.now).certificate)) }

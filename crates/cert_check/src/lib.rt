@@ -7,11 +7,11 @@
 //! wrote it, is a law of `cert_laws`.
 //!
 //! The sites of a certificate are judged in the order of their lines, and each function here answers for the
-//! sites of a part what is found at them (`specs/Found.antt`). The files from below: `judged` (the answer),
+//! sites of a part what is found at them (`specs/SiteFindings.antt`). The files from below: `judged` (the answer),
 //! `question` (what is asked), `lines` (where its parts stand), `sets` (the numbers and the sets), `traces` (the
 //! texts of traces), `listed` (each set with its trace), `clauses` (the invariant), `steps` (one derivation),
-//! `parts` (the three), `judge` (all sites), and `unlisted` ([`check_unlisted`], for certificates that may list no set). A step costs what its
-//! hints name. The lists of the model are made one at a time, each for its derivation.
+//! `parts` (the three), `judge` (all sites), and `unlisted` ([`check_unlisted`], for certificates that may list no set). A step costs what
+//! its hints name. The lists of the model are made one at a time, each for its derivation.
 //!
 //! ```text
 //! check(alloc, &full, &plain, &faults, &top, &certificate)    // Yes, or No(7, 10): at line 7 no hint was false

@@ -1,17 +1,16 @@
 //! At which lines of its text the parts of a certificate stand.
 //!
 //! The main function is [`invariant_line`], by the lines of the sets and of their traces before it.
-
 ghost use Rattle.std.specs.Prelude.{◌≡◌, ◌+◌, ◌<◌, ◌^◌};
 ghost use Rattle.cert_laws.specs.Certificate.{lines_of_sets, invariant_line};
-ghost use Rattle.cert_check.specs.Asked.{asked};
+ghost use Rattle.cert_check.specs.QuestionMatter.{asked};
 ghost use Rattle.cert_check.specs.Fit.{IsCheckable};
 
-use crate::question::Question;
+use crate::question::CertificateQuestion;
 use cert_text::LineList;
 
 /// The line that begins the invariant.
-pub(crate) fn invariant_line(q: &Question<'_>) -> u64
+pub(crate) fn invariant_line(q: &CertificateQuestion<'_>) -> u64
     requires { IsCheckable (asked q.now).certificate }
     ensures { result ≡ invariant_line (asked q.now).certificate }
 {

@@ -1,18 +1,17 @@
 //! The sets of a certificate, each with its trace.
 //!
 //! The main function is [`judge_sets`]: it asks `sets` about each set and `traces` about the trace that stands with it.
-
 ghost use Rattle.std.specs.Prelude.{◌≡◌, ◌+◌, ◌<◌, ◌^◌, [], ◌∷◌, IfOk, slice_get, take, Some};
 ghost use Rattle.smv_language.specs.ModelTree.{model_tree};
 ghost use Rattle.cert_laws.specs.Certificate.{a_set, a_trace, lines_of_sets};
 ghost use Rattle.cert_laws.specs.Sites.{set_sites};
-ghost use Rattle.cert_check.specs.Asked.{asked};
+ghost use Rattle.cert_check.specs.QuestionMatter.{asked};
 ghost use Rattle.cert_check.specs.Fit.{CanBeJudged, IsFit, IsShortText};
-ghost use Rattle.cert_check.specs.Found.{Finds};
+ghost use Rattle.cert_check.specs.SiteFindings.{Finds};
 ghost use Rattle.cert_check.specs.Order.{AreInOrder};
 
 use crate::judged::Judged;
-use crate::question::Question;
+use crate::question::CertificateQuestion;
 use crate::sets::set_rule;
 use crate::traces::trace_rule;
 use base_values::{FaultSet, OutOfMemory, SetList};
@@ -20,7 +19,7 @@ use cert_text::{LineList, TextList};
 use std::alloc::Global;
 
 /// Judges each set and its trace.
-pub(crate) fn judge_sets(alloc: Global, q: &Question<'_>) -> Result<Judged, OutOfMemory>
+pub(crate) fn judge_sets(alloc: Global, q: &CertificateQuestion<'_>) -> Result<Judged, OutOfMemory>
     requires { CanBeJudged (model_tree q.now.full.now.model) (asked q.now) }
     ensures { IfOk result (Finds (asked q.now) (set_sites 0 q.now.certificate.now.sets q.now.certificate.now.traces)) }
 {
@@ -40,7 +39,7 @@ pub(crate) fn judge_sets(alloc: Global, q: &Question<'_>) -> Result<Judged, OutO
 /// Judges the set of a place, at this line, and then its trace. The sets before it are in order.
 fn judge_set(
     alloc: Global,
-    q: &Question<'_>,
+    q: &CertificateQuestion<'_>,
     k: usize,
     set: &FaultSet,
     text: &LineList,

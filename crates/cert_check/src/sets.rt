@@ -2,22 +2,21 @@
 //!
 //! [`has_numbers`] judges the numbers of the certificate, and [`set_rule`] a set at its place in the list. The sets before that place
 //! are in order, smaller ones first, so that a set is compared with the smaller ones alone.
-
 ghost use Rattle.std.specs.Prelude.{◌≡◌, ◌↔◌, ◌+◌, ◌<◌, ◌≤◌, ◌&&◌, IsTrue, Some, slice_get, length, All, take};
 ghost use Rattle.std.specs.List.{list_all};
 ghost use Rattle.cut_sets.specs.Tests.{are_apart as apart};
 ghost use Rattle.cert_laws.specs.Certificate.{a_set};
-ghost use Rattle.cert_laws.specs.Accepted.{HasNumbers, IsSetAt};
-ghost use Rattle.cert_check.specs.Asked.{asked};
+ghost use Rattle.cert_laws.specs.Acceptance.{HasNumbers, IsSetAt};
+ghost use Rattle.cert_check.specs.QuestionMatter.{asked};
 ghost use Rattle.cert_check.specs.Order.{is_after_in, AreInOrder};
-ghost use Rattle.cert_check.specs.Found.{FindsAt};
+ghost use Rattle.cert_check.specs.SiteFindings.{FindsAt};
 
-use crate::question::Question;
+use crate::question::CertificateQuestion;
 use base_values::FaultSet;
 use cut_sets::{is_contained, is_rising, stands_before};
 
 /// Whether the numbers of bits and of faults are the model's, and the size is none above the latter.
-pub(crate) fn has_numbers(q: &Question<'_>) -> bool
+pub(crate) fn has_numbers(q: &CertificateQuestion<'_>) -> bool
     ensures { IsTrue result ↔ HasNumbers (asked q.now).subject (asked q.now).certificate }
 {
     let c = q.certificate;
@@ -31,7 +30,7 @@ pub(crate) fn has_numbers(q: &Question<'_>) -> bool
 }
 
 /// The rule that is broken first at a set. Those before it are in order.
-pub(crate) fn set_rule(q: &Question<'_>, k: usize, set: &[u32]) -> Option<u32>
+pub(crate) fn set_rule(q: &CertificateQuestion<'_>, k: usize, set: &[u32]) -> Option<u32>
     requires set { slice_get q.now.certificate.now.sets k ≡ Some set.now }
     requires order { AreInOrder q.now.certificate.now.sets k }
     ensures { FindsAt (asked q.now) (a_set k set.now) result }
@@ -46,7 +45,7 @@ pub(crate) fn set_rule(q: &Question<'_>, k: usize, set: &[u32]) -> Option<u32>
 }
 
 /// Whether a set rises, names faults, has at most as many as the size says, and stands after the one before.
-fn is_set_at(q: &Question<'_>, k: usize, set: &[u32]) -> bool
+fn is_set_at(q: &CertificateQuestion<'_>, k: usize, set: &[u32]) -> bool
     requires { slice_get q.now.certificate.now.sets k ≡ Some set.now }
     ensures { IsTrue result ↔ IsSetAt (asked q.now).subject (asked q.now).certificate k set.now }
 {

@@ -2,17 +2,16 @@
 //!
 //! The main function is [`judge_derivation`]: each step follows from the clauses before it by unit propagation along its hints, and at
 //! the end each clause that is to be shown is there.
-
 ghost use Rattle.std.specs.Prelude.{◌≡◌, ◌+◌, ◌<◌, ◌^◌, [], ◌∷◌, IfOk, length};
 ghost use Rattle.cert_laws.specs.Certificate.{an_end, head_line, steps_in};
 ghost use Rattle.cert_laws.specs.Sites.{step_sites};
-ghost use Rattle.cert_laws.specs.Accepted.{known_at, vars_of, goals};
-ghost use Rattle.cert_check.specs.Asked.{asked};
-ghost use Rattle.cert_check.specs.Found.{Finds};
+ghost use Rattle.cert_laws.specs.Acceptance.{known_at, vars_of, goals};
+ghost use Rattle.cert_check.specs.QuestionMatter.{asked};
+ghost use Rattle.cert_check.specs.SiteFindings.{Finds};
 ghost use Rattle.cert_check.specs.Parts.{FindsSteps, part_of};
 
 use crate::judged::Judged;
-use crate::question::{Part, Question, steps_of};
+use crate::question::{CertificateQuestion, CheckedPart, steps_of};
 use base_values::OutOfMemory;
 use cert_derivations::{covers_all, take_step};
 use sat_clauses::checker::Checker;
@@ -21,8 +20,8 @@ use sat_clauses::clause::Clause;
 /// Judges the steps of a derivation, the first of which has this line, and then its end. The checker has the
 /// clauses that the derivation starts from.
 pub(crate) fn judge_derivation(
-    q: &Question<'_>,
-    part: Part,
+    q: &CertificateQuestion<'_>,
+    part: CheckedPart,
     checker: Checker,
     needed: &[Clause],
     line: u64,
@@ -43,14 +42,15 @@ pub(crate) fn judge_derivation(
 
 /// Judges the end of a derivation whose first step has this line. The checker has the clauses of all steps.
 fn judge_end(
-    q: &Question<'_>,
-    part: Part,
+    q: &CertificateQuestion<'_>,
+    part: CheckedPart,
     checker: &Checker,
     needed: &[Clause],
     line: u64,
 ) -> Judged
     requires clauses { checker.now.clauses
-        ≡ known_at (asked q.now).subject (asked q.now).certificate (part_of part) (length (steps_in (asked q.now).certificate (part_of part))) }
+        ≡ known_at (asked q.now).subject (asked q.now).certificate (part_of part)
+        (length (steps_in (asked q.now).certificate (part_of part))) }
     requires needed { needed.now ≡ goals (asked q.now).subject (asked q.now).certificate (part_of part) }
     requires line { line ≡ head_line (asked q.now).certificate (part_of part) + 1 }
     requires room { line + length (steps_in (asked q.now).certificate (part_of part)) < 2 ^ 64 }
@@ -64,8 +64,8 @@ fn judge_end(
 
 /// Judges the steps. Where every rule is kept, the checker has all of their clauses.
 fn judge_steps(
-    q: &Question<'_>,
-    part: Part,
+    q: &CertificateQuestion<'_>,
+    part: CheckedPart,
     checker: &mut Checker,
     line: u64,
 ) -> Result<Judged, OutOfMemory>
@@ -75,7 +75,8 @@ fn judge_steps(
     requires room { line + length (steps_in (asked q.now).certificate (part_of part)) < 2 ^ 64 }
     ensures found { IfOk result (FindsSteps (asked q.now) (part_of part)) }
     ensures known { result ≡ Ok Judged.Yes → checker.new.clauses
-        ≡ known_at (asked q.now).subject (asked q.now).certificate (part_of part) (length (steps_in (asked q.now).certificate (part_of part))) }
+        ≡ known_at (asked q.now).subject (asked q.now).certificate (part_of part)
+        (length (steps_in (asked q.now).certificate (part_of part))) }
 {
     let steps = steps_of(q, part);
     for i in 0..steps.len() {

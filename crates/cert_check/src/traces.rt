@@ -2,19 +2,18 @@
 //!
 //! The main function is [`trace_rule`]: it reads a text as moments, and asks of these that they are a trace which reaches the top event
 //! and has failed exactly the faults of its set.
-
 ghost use Rattle.std.specs.Prelude.{◌≡◌, ◌↔◌, Some, IsTrue, IfOk, map};
 ghost use Rattle.smv_flat_laws.specs.FaultModes.{mode_of};
 ghost use Rattle.smv_flat_laws.specs.FlatTrace.{stands_in_some};
-ghost use Rattle.smv_evaluation.specs.Replayed.{IsReaching};
+ghost use Rattle.smv_evaluation.specs.Replay.{IsReaching};
 ghost use Rattle.cert_laws.specs.Certificate.{a_trace};
-ghost use Rattle.cert_check.specs.Asked.{asked};
+ghost use Rattle.cert_check.specs.QuestionMatter.{asked};
 ghost use Rattle.cert_check.specs.Fit.{IsFit, IsShortText};
-ghost use Rattle.cert_check.specs.Found.{FindsAt};
+ghost use Rattle.cert_check.specs.SiteFindings.{FindsAt};
 ghost use Rattle.cert_check.specs.Moments.{CanBeReplayed, FindsMoments, FailsExactly, IsTextFault, are_those_of};
-ghost use Rattle.smv_language.specs.Told.{told_trace};
+ghost use Rattle.smv_language.specs.NumberedValues.{told_trace};
 
-use crate::question::Question;
+use crate::question::CertificateQuestion;
 use crate::sets::are_faults;
 use base_values::{MomentList, OutOfMemory};
 use cert_text::LineList;
@@ -26,7 +25,7 @@ use std::alloc::Global;
 /// The rule that is broken first at the text of a trace for a set.
 pub(crate) fn trace_rule(
     alloc: Global,
-    q: &Question<'_>,
+    q: &CertificateQuestion<'_>,
     k: usize,
     set: &[u32],
     text: &LineList,
@@ -59,7 +58,7 @@ fn text_rule(fault: TraceFault) -> Result<Option<u32>, OutOfMemory>
 /// other faults than the set's.
 fn moments_rule(
     alloc: Global,
-    q: &Question<'_>,
+    q: &CertificateQuestion<'_>,
     set: &[u32],
     trace: &MomentList,
 ) -> Result<Option<u32>, OutOfMemory>
@@ -78,7 +77,7 @@ fn moments_rule(
 }
 
 /// Rule 7, where the faults that moments have failed are not those of the set.
-fn failed_rule(q: &Question<'_>, set: &[u32], trace: &MomentList) -> Option<u32>
+fn failed_rule(q: &CertificateQuestion<'_>, set: &[u32], trace: &MomentList) -> Option<u32>
     requires fit { IsFit (asked q.now).model (asked q.now).modes (asked q.now).top }
     requires replayed { CanBeReplayed (asked q.now).model trace.now }
     requires reaching { IsReaching (asked q.now).model (asked q.now).top (told_trace q.now.plain.now.model.symbols trace.now) }
@@ -92,7 +91,7 @@ fn failed_rule(q: &Question<'_>, set: &[u32], trace: &MomentList) -> Option<u32>
 }
 
 /// Whether the faults whose modes stand at some moment are those of the set.
-fn has_failed_exactly(q: &Question<'_>, set: &[u32], trace: &MomentList) -> bool
+fn has_failed_exactly(q: &CertificateQuestion<'_>, set: &[u32], trace: &MomentList) -> bool
     requires fit { IsFit (asked q.now).model (asked q.now).modes (asked q.now).top }
     requires replayed { CanBeReplayed (asked q.now).model trace.now }
     ensures { IsTrue result ↔ FailsExactly (asked q.now) set.now (told_trace q.now.plain.now.model.symbols trace.now) }
@@ -104,10 +103,11 @@ fn has_failed_exactly(q: &Question<'_>, set: &[u32], trace: &MomentList) -> bool
 }
 
 /// Whether each fault has a mode that stands at some moment exactly where its number is one of the set's.
-fn are_failed(q: &Question<'_>, set: &[u32], trace: &MomentList) -> bool
+fn are_failed(q: &CertificateQuestion<'_>, set: &[u32], trace: &MomentList) -> bool
     requires fit { IsFit (asked q.now).model (asked q.now).modes (asked q.now).top }
     requires replayed { CanBeReplayed (asked q.now).model trace.now }
-    ensures { result ≡ are_those_of (λ f. stands_in_some (asked q.now).model f (told_trace q.now.plain.now.model.symbols trace.now)) set.now 1
+    ensures { result ≡ are_those_of (λ f. stands_in_some (asked q.now).model f (told_trace q.now.plain.now.model.symbols trace.now))
+        set.now 1
         (map mode_of q.now.faults.now) }
 {
     for i in 0..q.faults.len() {

@@ -1,22 +1,21 @@
 //! Certificates that may list no set.
 //!
 //! The main function is [`check_unlisted`]: it judges as `judge` does, but that a listed set breaks a rule of its own.
-
 ghost use Rattle.std.specs.Prelude.{◌≡◌, Some, slice_get, map, IfOk};
 ghost use Rattle.smv_language.specs.ModelTree.{model_tree, flat_tree};
 ghost use Rattle.smv_flat_laws.specs.FaultModes.{mode_of};
 ghost use Rattle.smv_flat_laws.specs.History.{with_history};
-ghost use Rattle.cert_text.specs.Seen.{seen};
+ghost use Rattle.cert_text.specs.CertificateView.{seen};
 ghost use Rattle.cert_laws.specs.Certificate.{a_set};
-ghost use Rattle.cert_laws.specs.Accepted.{HasNumbers};
-ghost use Rattle.cert_check.specs.Asked.{asked};
+ghost use Rattle.cert_laws.specs.Acceptance.{HasNumbers};
+ghost use Rattle.cert_check.specs.QuestionMatter.{asked};
 ghost use Rattle.cert_check.specs.Fit.{IsProvable, IsCheckable, CanBeProved};
-ghost use Rattle.cert_check.specs.Found.{IsJudgedUnlisted, FindsUnlisted};
+ghost use Rattle.cert_check.specs.SiteFindings.{IsJudgedUnlisted, FindsUnlisted};
 ghost use Rattle.cert_check.specs.Matter.{matter_of};
 
 use crate::judge::judge_proof;
 use crate::judged::Judged;
-use crate::question::Question;
+use crate::question::CertificateQuestion;
 use crate::sets::{has_numbers, set_rule};
 use base_values::{OutOfMemory, SetList};
 use cert_text::Certificate;
@@ -47,7 +46,7 @@ pub fn check_unlisted(
     requires checkable { IsCheckable (seen c.now) }
     ensures { IfOk result (IsJudgedUnlisted (matter_of full.now.model plain.now.model faults.now top.now (seen c.now))) }
 {
-    let question = Question {
+    let question = CertificateQuestion {
         full,
         plain,
         faults,
@@ -58,7 +57,7 @@ pub fn check_unlisted(
 }
 
 /// Judges the numbers, and then the rest.
-fn judge_unlisted(alloc: Global, q: &Question<'_>) -> Result<Judged, OutOfMemory>
+fn judge_unlisted(alloc: Global, q: &CertificateQuestion<'_>) -> Result<Judged, OutOfMemory>
     requires { CanBeProved (model_tree q.now.full.now.model) (asked q.now) }
     ensures { IfOk result (IsJudgedUnlisted (asked q.now)) }
 {
@@ -69,7 +68,7 @@ fn judge_unlisted(alloc: Global, q: &Question<'_>) -> Result<Judged, OutOfMemory
 }
 
 /// Judges that there is no set, and then the rest.
-fn judge_numbered(alloc: Global, q: &Question<'_>) -> Result<Judged, OutOfMemory>
+fn judge_numbered(alloc: Global, q: &CertificateQuestion<'_>) -> Result<Judged, OutOfMemory>
     requires fit { CanBeProved (model_tree q.now.full.now.model) (asked q.now) }
     requires numbers { HasNumbers (asked q.now).subject (asked q.now).certificate }
     ensures { IfOk result (IsJudgedUnlisted (asked q.now)) }
@@ -84,7 +83,7 @@ fn judge_numbered(alloc: Global, q: &Question<'_>) -> Result<Judged, OutOfMemory
 }
 
 /// The rule that is broken first at the first set, which is rule 12 where every other is kept there.
-fn listed_rule(q: &Question<'_>, set: &[u32]) -> u32
+fn listed_rule(q: &CertificateQuestion<'_>, set: &[u32]) -> u32
     requires { slice_get q.now.certificate.now.sets 0 ≡ Some set.now }
     ensures { FindsUnlisted (asked q.now) (a_set 0 set.now) result }
 {

@@ -5,7 +5,7 @@ use Rattle.std.proofs.lemmas.Bool.{cases_eq}
 use Rattle.std.proofs.lemmas.Option.{slice_get_within, get_or_from_slice_get}
 use Rattle.sat_clauses.specs.Literal.{Literal}
 use Rattle.sat_clauses.specs.Hints.{clause_at}
-use Rattle.cert_laws.specs.Accepted.{Covers}
+use Rattle.cert_laws.specs.Acceptance.{Covers}
 use Rattle.cert_derivations.specs.Covering.{CoversNoneIn}
 
 -- The clause of a number, from 1, by its place, from 0.

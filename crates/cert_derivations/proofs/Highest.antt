@@ -4,7 +4,7 @@ use Rattle.std.specs.Prelude.{max, All}
 use Rattle.std.proofs.lemmas.List.Elements.{All-nil, All-cons}
 use Rattle.sat_clauses.specs.Literal.{Literal}
 use Rattle.sat_clauses.specs.Derivation.{IsUpTo}
-use Rattle.cert_laws.specs.Accepted.{highest, highest_in}
+use Rattle.cert_laws.specs.Acceptance.{highest, highest_in}
 use Rattle.cert_laws.proofs.Highest.{at_least_one, at_least_one_of}
 
 left : (a b n : ℕ) → max a b ≤ n → a ≤ n

@@ -3,9 +3,9 @@
 //! [`covers_all`] looks for a clause that covers, for each needed one, from the place on where it found the one before: a
 //! derivation that comes to the needed clauses in their order, and one whose needed clauses are equal, is gone through once.
 //! Otherwise all clauses are looked through, each up to the first literal that is not needed.
-
-ghost use Rattle.std.specs.Prelude.{◌≡◌, ◌↔◌, ◌<◌, ◌≤◌, false, IsTrue, IfSome, Some, None, All, Contains, length, fold, replicate, slice_get};
-ghost use Rattle.cert_laws.specs.Accepted.{Covers};
+ghost use Rattle.std.specs.Prelude.{◌≡◌, ◌↔◌, ◌<◌, ◌≤◌, false, IsTrue, IfSome, Some, None, All, Contains, length, fold, replicate};
+ghost use Rattle.std.specs.Prelude.{slice_get};
+ghost use Rattle.cert_laws.specs.Acceptance.{Covers};
 ghost use Rattle.cert_derivations.specs.Marks.{marked};
 ghost use Rattle.cert_derivations.specs.Covering.{CoversNoneIn};
 

@@ -1,7 +1,6 @@
 //! A checker of derivations with the clauses that a derivation starts from.
-
 ghost use Rattle.std.specs.Prelude.{◌≡◌, ◌≤◌, ◌++◌, IfOk, OnOk};
-ghost use Rattle.cert_laws.specs.Accepted.{highest, highest_in};
+ghost use Rattle.cert_laws.specs.Acceptance.{highest, highest_in};
 
 use base_values::OutOfMemory;
 use sat_clauses::checker::Checker;

@@ -2,7 +2,6 @@
 //!
 //! An invariant is to hold first as it stands, to be kept as [`moved`] writes it, over the bits of the state next,
 //! and to exclude the bad states by the empty clause, which is the list of [`only_empty`].
-
 ghost use Rattle.std.specs.Prelude.{◌≡◌, ◌+◌, ◌<◌, ◌≤◌, IfOk, All, [], ◌∷◌, map};
 ghost use Rattle.sat_clauses.specs.States.{moved_on};
 

@@ -3,7 +3,6 @@
 //! The table has a place for each code of a window, which are so many codes one after the other. [`has_no_opposites`] goes
 //! through a long clause twice for each window of the codes up to the highest, and marks its literals in the table. A short
 //! clause is looked through literal by literal.
-
 ghost use Rattle.std.specs.Prelude.{◌≡◌, ◌↔◌, ◌<◌, ◌/◌, not, false, IsTrue, All, fold, length, replicate};
 ghost use Rattle.std.specs.List.{list_all};
 ghost use Rattle.sat_clauses.specs.Code.{code_of};

@@ -1,5 +1,4 @@
 //! One step taken by the checker of derivations: rules 8 to 10.
-
 ghost use Rattle.std.specs.Prelude.{◌≡◌, ◌↔◌, IsTrue, IfOk, All};
 ghost use Rattle.sat_clauses.specs.CanTake.{CanTake};
 ghost use Rattle.sat_clauses.specs.Derivation.{IsUpTo};

@@ -22,8 +22,10 @@ pub data IsWrongText (bytes : List ℕ) (fault : InputFault) : Type 0 where
 
 -- the file of a certificate is refused, or its text
 pub data RefusesCertificate (files : List NamedFile) (name : Text) (r : Refusal) : Type 0 where
-  certificate_file : (fault : InputFault) → r ≡ refusal.NotAccepted (objection.Cert fault) → IsRefusedAbove 268435456 files name fault → RefusesCertificate files name r
-  certificate_bytes : (bytes : List ℕ) (fault : InputFault) → r ≡ refusal.NotAccepted (objection.Cert fault) → HasAtMost 268435456 files name bytes → IsWrongText bytes fault →
+  certificate_file : (fault : InputFault) → r ≡ refusal.NotAccepted (objection.Cert fault) → IsRefusedAbove 268435456 files name fault →
+      RefusesCertificate files name r
+  certificate_bytes : (bytes : List ℕ) (fault : InputFault) → r ≡ refusal.NotAccepted (objection.Cert fault) →
+      HasAtMost 268435456 files name bytes → IsWrongText bytes fault →
       RefusesCertificate files name r
 
 -- the file holds a text that spells this certificate

@@ -2,7 +2,7 @@
 use Rattle.std.specs.Prelude.{◌≡◌, ◌⊎◌}
 use Rattle.base_files.specs.Desk.{SaysPrefix}
 use Rattle.smv_language.specs.ProgramTree.{Text}
-use Rattle.verb_loading.specs.Answered.{Told, Said, told_maybe, WritesPrefixMaybe}
+use Rattle.verb_loading.specs.CaseAnswers.{Told, Said, told_maybe, WritesPrefixMaybe}
 use Rattle.cert_file.specs.declared.conclusion.Conclusion.{Conclusion}
 
 -- a part of the certificate was written and nothing said, or the whole, and a part of the report said

@@ -3,7 +3,7 @@
 //! The main function is [`load_certificate`]: it reads the file through the desk, and its bytes by `cert_text`.
 ghost use Rattle.std.specs.Prelude.{◌≡◌, ◌≤◌, ◌++◌, codes, length, IfOk, IfSome, IsErrOf};
 ghost use Rattle.base_files.specs.Desk.{Rose};
-ghost use Rattle.cert_text.specs.Seen.{seen};
+ghost use Rattle.cert_text.specs.CertificateView.{seen};
 ghost use Rattle.cert_check.specs.Fit.{IsCheckable};
 ghost use Rattle.cut_text_laws.specs.AnalysisText.{size_line};
 ghost use Rattle.verb_loading.specs.Tasks.{IsRefusedAbove, HasAtMost};
@@ -33,7 +33,8 @@ pub fn load_certificate<D: Desk>(
 ) -> Result<Certificate, Stop>
     ensures ok { IfOk result (λ a. IfSome (D.files desk.old) (λ files. HoldsCertificate files name.now (seen a))) }
     ensures checkable { IfOk result (λ a. IsCheckable (seen a)) }
-    ensures refused { (r : Refusal) → IsErrOf result (stop.Refused r) → IfSome (D.files desk.old) (λ files. RefusesCertificate files name.now r) }
+    ensures refused { (r : Refusal) → IsErrOf result (stop.Refused r) →
+        IfSome (D.files desk.old) (λ files. RefusesCertificate files name.now r) }
     ensures failed { IsErrOf result stop.Desk → Rose (D.faults desk.old) (D.faults desk.new) }
     ensures files { D.files desk.new ≡ D.files desk.old }
     ensures said { D.said desk.new ≡ D.said desk.old }

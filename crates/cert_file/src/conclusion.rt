@@ -4,7 +4,7 @@
 ghost use Rattle.std.specs.Prelude.{◌≡◌, ◌≤◌, OnOk, OnErr, IsErrOf};
 ghost use Rattle.base_files.specs.Desk.{Rose, said_more};
 ghost use Rattle.base_files.specs.declared.desk.WriteStop.TheVariants as write_stop;
-ghost use Rattle.verb_loading.specs.Answered.{told_maybe, WritesPrefixMaybe};
+ghost use Rattle.verb_loading.specs.CaseAnswers.{told_maybe, WritesPrefixMaybe};
 ghost use Rattle.cert_file.specs.Conclusions.{ConcludesInPart};
 
 use base_files::{Desk, WriteStop, say_whole, write_whole};

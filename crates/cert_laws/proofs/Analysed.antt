@@ -12,10 +12,10 @@ use Rattle.cut_right_laws.proofs.Places.{get_within, place_within, both_long}
 use Rattle.sat_encoding_laws.specs.FlatTraces.{ReachesTop, HasFailedNumber}
 use Rattle.cert_laws.specs.Certificate.{Certificate}
 use Rattle.cut_text_laws.specs.Lines.{Line}
-use Rattle.cert_laws.specs.Accepted.{Subject, Rule, no_text, no_trace, does_not_reach, other_faults, IsSetAt, IsApart, KeepsAtTrace}
+use Rattle.cert_laws.specs.Acceptance.{Subject, Rule, no_text, no_trace, does_not_reach, other_faults, IsSetAt, IsApart, KeepsAtTrace}
 use Rattle.cert_laws.proofs.Made.{made_is_accepted}
-use Rattle.cert_laws.specs.Certified.{IsSubjectOf, IsCertified}
-use Rattle.cert_laws.specs.Analysed.{GivesAlone, IsOfAnalysis, AnalysedIsAccepted}
+use Rattle.cert_laws.specs.Certification.{IsSubjectOf, IsCertified}
+use Rattle.cert_laws.specs.AnalysisCertificates.{GivesAlone, IsOfAnalysis, AnalysedIsAccepted}
 
 -- of two lists whose members are related place by place, from the first
 from_left : {A B : Type 0} (R : A → B → Type 0) (xs : List A) (ys : List B) → AreBoth R xs ys → (i : ℕ) (x : A) → slice_get xs i ≡ Some x → (y : B) × (slice_get ys i ≡ Some y) × R x y

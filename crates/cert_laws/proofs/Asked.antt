@@ -14,8 +14,8 @@ use Rattle.sat_clauses.specs.Derivation.{IsUpTo}
 use Rattle.sat_clauses.specs.Hints.{LacksOpposite, HasNoOpposites}
 use Rattle.sat_clauses.specs.Steps.{with_steps}
 use Rattle.sat_clauses.proofs.FalseLemmas.{opposite-opposite}
-use Rattle.cert_laws.specs.Accepted.{Covers}
-use Rattle.cert_laws.specs.Derived.{asked, Solves, MayBeAsked, DerivationsGoOn}
+use Rattle.cert_laws.specs.Acceptance.{Covers}
+use Rattle.cert_laws.specs.Derivations.{asked, Solves, MayBeAsked, DerivationsGoOn}
 use Rattle.cert_laws.proofs.Steps.{steps_joined, with_joined, covers_by, covers_with, follows_with}
 use Rattle.sat_clauses.proofs.ModelLemmas.{Satisfies-from_All}
 

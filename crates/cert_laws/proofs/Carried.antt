@@ -9,16 +9,16 @@ use Rattle.smv_language.specs.Trace.{IsTrace}
 use Rattle.smv_language.specs.Flat.{FlatLeaf, FlatModel, FlatMay}
 use Rattle.smv_flat_laws.specs.History.{Mode}
 use Rattle.smv_flat_laws.specs.FlatTrace.{IsFlatTrace}
-use Rattle.smv_flat_laws.specs.Resolved.{Resolver, IsSound, IsResolved}
+use Rattle.smv_flat_laws.specs.NameResolution.{Resolver, IsSound, IsResolved}
 use Rattle.smv_type_laws.specs.Laws.{values_by_number}
 use Rattle.smv_type_laws.proofs.WrittenLaws.{numbers}
 use Rattle.smv_type_laws.proofs.TraceLaws.{traces_are, traces_are_those}
 use Rattle.smv_type_laws.proofs.AnyResolver.{may_by}
 use Rattle.fault_instructions.specs.Instructions.{InstructionTree}
-use Rattle.fault_weave.specs.Extended.{Moment, IsExtended, Reaches}
+use Rattle.fault_weave.specs.ExtensionTraces.{Moment, IsExtended, Reaches}
 use Rattle.fault_weave.specs.Conservative.{IsCutMoment, IsCut, IsExtensionOf}
 use Rattle.fault_weave.specs.Faults.{Fault}
-use Rattle.fault_weave.specs.Woven.{woven}
+use Rattle.fault_weave.specs.WovenProgram.{woven}
 use Rattle.fault_weave.proofs.Agreement.{may_agree}
 use Rattle.fault_weave.proofs.WovenNominal.{woven_extends}
 use Rattle.cut_right_laws.specs.Right.{IsWithin}

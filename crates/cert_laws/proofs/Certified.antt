@@ -16,9 +16,9 @@ use Rattle.sat_encoding_laws.specs.EncodedLaws.{AreOwn, AreCovered}
 use Rattle.sat_encoding_laws.proofs.Covering.{invariants_cover}
 use Rattle.cert_laws.specs.Certificate.{Certificate, the_numbers, a_set, a_trace}
 use Rattle.cut_text_laws.specs.Lines.{Line}
-use Rattle.cert_laws.specs.Accepted.{Subject, other_numbers, no_set, contains_a_set, no_text, no_trace, does_not_reach, other_faults, HasNumbers, IsSetAt, IsApart}
+use Rattle.cert_laws.specs.Acceptance.{Subject, other_numbers, no_set, contains_a_set, no_text, no_trace, does_not_reach, other_faults, HasNumbers, IsSetAt, IsApart}
 use Rattle.cert_laws.proofs.Invariant.{accepted_is_invariant}
-use Rattle.cert_laws.specs.Certified.{IsSubjectOf, IsCertified, CertifiedIsRight}
+use Rattle.cert_laws.specs.Certification.{IsSubjectOf, IsCertified, CertifiedIsRight}
 use Rattle.smv_flat_laws.proofs.Conditions.{each_from}
 
 -- texts that each give a trace give a list of them

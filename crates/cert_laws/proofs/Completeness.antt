@@ -5,7 +5,7 @@ use Rattle.smv_language.specs.Values.{Value}
 use Rattle.smv_language.specs.Flat.{FlatModel}
 use Rattle.smv_flat_laws.specs.FlatTrace.{IsFlatTrace}
 use Rattle.fault_instructions.specs.Instructions.{InstructionTree}
-use Rattle.fault_weave.specs.Extended.{Moment, IsExtended, Reaches}
+use Rattle.fault_weave.specs.ExtensionTraces.{Moment, IsExtended, Reaches}
 use Rattle.cut_right_laws.specs.Laws.{AreBoth}
 use Rattle.cut_right_laws.proofs.Minimal.{right_sets_minimal}
 use Rattle.cert_laws.specs.ExtendedTraces.{HasFailedFault, IsFlatCut}

@@ -13,7 +13,7 @@ use Rattle.sat_clauses.proofs.DeriveModelLemmas.{FollowsFrom-EndsFalse}
 use Rattle.cut_right_laws.proofs.Places.{get_within}
 use Rattle.cert_laws.specs.Certificate.{Certificate, Part, a_step, an_end, steps_in}
 use Rattle.cut_text_laws.specs.Lines.{Line}
-use Rattle.cert_laws.specs.Accepted.{Subject, bad_hint, no_conflict, not_covered, known_before, Covers, givens, goals, known_at, vars_of, IsAccepted}
+use Rattle.cert_laws.specs.Acceptance.{Subject, bad_hint, no_conflict, not_covered, known_before, Covers, givens, goals, known_at, vars_of, IsAccepted}
 use Rattle.cert_laws.proofs.Values.{satisfies_one}
 use Rattle.sat_clauses.proofs.ModelLemmas.{Satisfies-append}
 use Rattle.smv_language.proofs.ListLaws.{take_there}

@@ -14,8 +14,8 @@ use Rattle.sat_clauses.specs.States.{IsOverBits}
 use Rattle.cert_laws.specs.Certificate.{Certificate, Part, part_first, part_next, part_bad, a_step, an_end, line_of}
 use Rattle.cut_text_laws.specs.Lines.{Line, fed}
 use Rattle.cert_laws.specs.CertificateText.{version_one, version_two, lines_of, IsCount, IsLiteral, IsHint, IsWritable, IsBadLine}
-use Rattle.cert_laws.specs.Accepted.{Subject, Covers, no_conflict, IsAccepted, BreaksAt, givens, known_at}
-use Rattle.cert_laws.specs.Derived.{IsDerived}
+use Rattle.cert_laws.specs.Acceptance.{Subject, Covers, no_conflict, IsAccepted, BreaksAt, givens, known_at}
+use Rattle.cert_laws.specs.Derivations.{IsDerived}
 use Rattle.cert_laws.proofs.Steps.{covers_by}
 use Rattle.cut_text_laws.proofs.Words.{free_by_test}
 use Rattle.cert_laws.proofs.Made.{made_is_accepted}

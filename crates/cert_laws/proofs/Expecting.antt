@@ -10,7 +10,7 @@ use Rattle.cert_laws.specs.Certificate.{Certificate, Part, part_first, part_next
 use Rattle.cut_text_laws.specs.Lines.{Line, spaced, counted, IsLine}
 use Rattle.cert_laws.specs.CertificateText.{Version, version_one, version_two, version_line, size_words, set_line, set_lines, clause_line, step_line, part_lines, lines_of, IsSmall, IsCount, IsLiteral, IsWritableStep, AreWritable, IsWritableText, CanSay, AreLinesOf}
 use Rattle.cert_laws.specs.LineReading.{count_in, set_in, clause_in, step_in}
-use Rattle.cert_laws.specs.Expecting.{Expect, a_version, the_numbers_of, sets_count, a_set_line, trace_count, a_text_line, clauses_count, a_clause_line, steps_count, a_step_line, the_end, no_line, sets_left, text_left, clauses_left, after_part, steps_left, part_word, Numbers, numbers_from, small_in, size_of, numbers_of_words, numbers_in, after, then_after, after_lines}
+use Rattle.cert_laws.specs.ExpectedLines.{Expect, a_version, the_numbers_of, sets_count, a_set_line, trace_count, a_text_line, clauses_count, a_clause_line, steps_count, a_step_line, the_end, no_line, sets_left, text_left, clauses_left, after_part, steps_left, part_word, Numbers, numbers_from, small_in, size_of, numbers_of_words, numbers_in, after, then_after, after_lines}
 use Rattle.cert_laws.proofs.Words.{number_word}
 use Rattle.cut_text_laws.proofs.Words.{free_by_test}
 use Rattle.cert_laws.proofs.LineReading.{chosen, number_exact, line_exact, counts_exact, sets_exact, clauses_exact, steps_exact}

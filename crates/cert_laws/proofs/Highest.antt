@@ -1,7 +1,7 @@
 -- The highest variable of clauses is at least one.
 use Rattle.std.proofs.Common.{◌≤◌, List, [], ◌∷◌, arith}
 use Rattle.sat_clauses.specs.Literal.{Literal}
-use Rattle.cert_laws.specs.Accepted.{highest_in, highest}
+use Rattle.cert_laws.specs.Acceptance.{highest_in, highest}
 
 pub at_least_one : (c : List Literal) → 1 ≤ highest_in c
 at_least_one [] = omega arith

@@ -9,7 +9,7 @@ use Rattle.sat_clauses.specs.States.{State, Agrees, moved_on, IsState, state_val
 use Rattle.cut_right_laws.proofs.Places.{place_of_member}
 use Rattle.cert_laws.specs.Certificate.{Part, part_first, part_next, part_bad, a_clause}
 use Rattle.cut_text_laws.specs.Lines.{Line}
-use Rattle.cert_laws.specs.Accepted.{givens, goals, foreign_literal}
+use Rattle.cert_laws.specs.Acceptance.{givens, goals, foreign_literal}
 use Rattle.cert_laws.specs.CertificateLaws.{AcceptedIsInvariant}
 use Rattle.cert_laws.proofs.Values.{agrees_at, same_clause, map_same}
 use Rattle.cert_laws.proofs.Derived.{goal_true}

@@ -8,7 +8,7 @@ use Rattle.cert_laws.specs.Certificate.{Certificate, Part, part_first, part_next
 use Rattle.cut_text_laws.specs.Lines.{Line, counted, fed, IsLine}
 use Rattle.cert_laws.specs.CertificateText.{Version, version_one, version_two, version_line, numbers_line, set_line, set_lines, clause_line, step_line, part_lines, lines_of, IsSmall, IsCount, IsLiteral, IsWritableStep, AreWritable, IsWritableText, IsWritable, CanSay, AreLinesOf, SpellsCertificate, BeginsOne, IsBadLine, EndsBefore}
 use Rattle.cert_laws.specs.LineReading.{count_in, set_in, clause_in, step_in}
-use Rattle.cert_laws.specs.Expecting.{Expect, a_version, the_numbers_of, sets_count, a_set_line, trace_count, a_text_line, clauses_count, a_clause_line, steps_count, a_step_line, the_end, no_line, sets_left, text_left, clauses_left, after_part, steps_left, part_word, numbers_in, after, after_lines, TakenLinesBegin, EachTextIsJudged}
+use Rattle.cert_laws.specs.ExpectedLines.{Expect, a_version, the_numbers_of, sets_count, a_set_line, trace_count, a_text_line, clauses_count, a_clause_line, steps_count, a_step_line, the_end, no_line, sets_left, text_left, clauses_left, after_part, steps_left, part_word, numbers_in, after, after_lines, TakenLinesBegin, EachTextIsJudged}
 use Rattle.cut_text_laws.proofs.Words.{free_by_test}
 use Rattle.cert_laws.proofs.LineReading.{counts_exact, sets_exact, clauses_exact, steps_exact}
 use Rattle.cert_laws.proofs.FirstWrong.{counted_line, clause_lines, step_lines, numbers_lines}

@@ -7,7 +7,7 @@ use Rattle.sat_clauses.specs.Literal.{Literal}
 use Rattle.sat_clauses.specs.declared.step.Step.{Step}
 use Rattle.cert_laws.specs.Certificate.{Certificate, Part, Site, the_numbers, a_set, a_trace, a_clause, a_step, an_end, line_of}
 use Rattle.cut_text_laws.specs.Lines.{Line}
-use Rattle.cert_laws.specs.Accepted.{Subject, Rule, other_numbers, no_set, contains_a_set, no_text, no_trace, does_not_reach, other_faults, foreign_literal, bad_hint, no_conflict, not_covered, number_of, KeepsAtTrace, Keeps, IsAccepted, IsObjection}
+use Rattle.cert_laws.specs.Acceptance.{Subject, Rule, other_numbers, no_set, contains_a_set, no_text, no_trace, does_not_reach, other_faults, foreign_literal, bad_hint, no_conflict, not_covered, number_of, KeepsAtTrace, Keeps, IsAccepted, IsObjection}
 use Rattle.cert_laws.specs.Sites.{sites_of, KeepsAll, BreaksFirst}
 use Rattle.cert_laws.specs.Judgement.{IsSettled, EachIsJudged}
 use Rattle.cert_laws.proofs.Objections.{numbered, found, same_rule}

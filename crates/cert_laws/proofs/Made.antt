@@ -13,8 +13,8 @@ use Rattle.sat_clauses.specs.States.{State, Agrees, IsState, InFrame, IsOverBits
 use Rattle.cut_right_laws.proofs.Places.{member_at_place}
 use Rattle.cert_laws.specs.Certificate.{Certificate, Part, part_first, part_next, part_bad, Site, IsSite, the_numbers, a_set, a_trace, a_clause, a_step, an_end, steps_in}
 use Rattle.cut_text_laws.specs.Lines.{Line}
-use Rattle.cert_laws.specs.Accepted.{Subject, Rule, Keeps, other_numbers, no_set, contains_a_set, foreign_literal, bad_hint, no_conflict, not_covered, givens, vars_of, known_at, Covers}
-use Rattle.cert_laws.specs.Derived.{IsMade, MadeIsAccepted, GoalsFollow}
+use Rattle.cert_laws.specs.Acceptance.{Subject, Rule, Keeps, other_numbers, no_set, contains_a_set, foreign_literal, bad_hint, no_conflict, not_covered, givens, vars_of, known_at, Covers}
+use Rattle.cert_laws.specs.Derivations.{IsMade, MadeIsAccepted, GoalsFollow}
 use Rattle.cert_laws.proofs.Invariant.{now_value, next_value, in_frame}
 use Rattle.cert_laws.proofs.Steps.{step_at, all_known}
 use Rattle.sat_clauses.proofs.ModelLemmas.{Satisfies-front, Satisfies-back}

@@ -15,7 +15,7 @@ use Rattle.smv_type_laws.specs.Laws.{values_by_number}
 use Rattle.smv_type_laws.proofs.WrittenLaws.{numbers}
 use Rattle.fault_instructions.specs.Instructions.{ModeTree, SliceTree, InstructionTree, slices_of}
 use Rattle.fault_instructions.specs.AddedNames.{mode_variable, mode_symbol}
-use Rattle.fault_weave.specs.Extended.{Moment, HasFailed}
+use Rattle.fault_weave.specs.ExtensionTraces.{Moment, HasFailed}
 use Rattle.fault_weave.specs.Conservative.{IsSlice, IsCutMoment, IsCut}
 use Rattle.fault_weave.specs.Faults.{Fault, slice_faults, module_slices, slices_at, place_faults, HasFaults}
 use Rattle.fault_instructions.specs.Weavable.{Among, IsWeavable}

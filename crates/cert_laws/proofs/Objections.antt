@@ -2,7 +2,7 @@
 use Rattle.std.proofs.Common.{◌≡◌, ℕ, ◌<◌, ◌≤◌, ◌⊎◌, inl, inr, arith, List, [], ◌∷◌, Some, refl}
 use Rattle.std.specs.Prelude.{slice_get}
 use Rattle.cut_text_laws.specs.Lines.{Line}
-use Rattle.cert_laws.specs.Accepted.{Rule, other_numbers, no_set, contains_a_set, no_text, no_trace, does_not_reach, other_faults, foreign_literal, bad_hint, no_conflict, not_covered, number_of}
+use Rattle.cert_laws.specs.Acceptance.{Rule, other_numbers, no_set, contains_a_set, no_text, no_trace, does_not_reach, other_faults, foreign_literal, bad_hint, no_conflict, not_covered, number_of}
 use Rattle.cert_laws.specs.CertificateLaws.{OneObjection, AcceptedHasNone}
 
 -- the rules by their numbers; no rule has the number 0

@@ -14,7 +14,7 @@ use Rattle.smv_flat_laws.specs.History.{Mode}
 use Rattle.smv_flat_laws.specs.Items.{Visit, visits, variables_of}
 use Rattle.smv_flat_laws.specs.Model.{IsVariableOf}
 use Rattle.smv_flat_laws.specs.FlatTrace.{IsOwnName, IsOwnFormula, NamesOwn, IsModeOf}
-use Rattle.smv_flat_laws.specs.Resolved.{leaves_in, trees_leaves, branches_leaves, Resolver, IsSound, IsResolved}
+use Rattle.smv_flat_laws.specs.NameResolution.{leaves_in, trees_leaves, branches_leaves, Resolver, IsSound, IsResolved}
 use Rattle.smv_flat_laws.proofs.Conditions.{each_join}
 use Rattle.smv_flat_laws.proofs.Lists.{each_more}
 use Rattle.smv_flat_laws.proofs.Places.{has_main}
@@ -25,7 +25,7 @@ use Rattle.smv_type_laws.proofs.WrittenLaws.{IsReal, real_all}
 use Rattle.fault_instructions.specs.Instructions.{ModeTree, SliceTree, InstructionTree, slices_of}
 use Rattle.fault_instructions.specs.AddedNames.{mode_variable, mode_symbol}
 use Rattle.fault_weave.specs.Faults.{Fault}
-use Rattle.fault_weave.specs.Woven.{mode_type, woven_module, woven}
+use Rattle.fault_weave.specs.WovenProgram.{mode_type, woven_module, woven}
 use Rattle.fault_instructions.specs.Weavable.{Among}
 use Rattle.fault_weave.proofs.Added.{among_contains}
 use Rattle.fault_weave.proofs.LeafValues.{mode_variable_kind}

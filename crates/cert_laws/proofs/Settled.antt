@@ -15,7 +15,7 @@ use Rattle.sat_clauses.specs.States.{IsOverBits}
 use Rattle.cut_right_laws.specs.Sets.{IsRising, stands_before}
 use Rattle.cut_right_laws.specs.Right.{IsContained}
 use Rattle.cert_laws.specs.Certificate.{Certificate, Part, steps_in}
-use Rattle.cert_laws.specs.Accepted.{Subject, Covers, HasNumbers, IsSetAt, IsApart, HasLiterals, HasGoodHints, HasConflict, IsCovered, known_at, vars_of, goals}
+use Rattle.cert_laws.specs.Acceptance.{Subject, Covers, HasNumbers, IsSetAt, IsApart, HasLiterals, HasGoodHints, HasConflict, IsCovered, known_at, vars_of, goals}
 use Rattle.cert_laws.specs.Judgement.{IsSettled}
 
 -- Settled facts.

@@ -8,7 +8,7 @@ use Rattle.sat_clauses.specs.Literal.{Literal}
 use Rattle.sat_clauses.specs.declared.step.Step.{Step}
 use Rattle.cert_laws.specs.Certificate.{Certificate, Part, part_first, part_next, part_bad, Site, the_numbers, a_set, a_trace, a_clause, a_step, an_end, steps_in, lines_of_sets, invariant_line, head_line, first_line, next_line, IsSite, line_of}
 use Rattle.cut_text_laws.specs.Lines.{Line}
-use Rattle.cert_laws.specs.Accepted.{Subject, Rule, number_of, Keeps}
+use Rattle.cert_laws.specs.Acceptance.{Subject, Rule, number_of, Keeps}
 use Rattle.cert_laws.specs.Sites.{set_sites, clause_sites, step_sites, sites_of, KeepsAll, BreaksFirst, FirstBrokenIsObjection}
 use Rattle.std.proofs.Math.Seq.{take-append_seam}
 

@@ -6,7 +6,7 @@ use Rattle.sat_clauses.specs.Literal.{Literal}
 use Rattle.sat_clauses.specs.Models.{FollowsFrom}
 use Rattle.sat_clauses.specs.Steps.{IsStep, AreSteps, with_steps}
 use Rattle.sat_clauses.specs.declared.step.Step.{Step}
-use Rattle.cert_laws.specs.Accepted.{known_before, Covers}
+use Rattle.cert_laws.specs.Acceptance.{known_before, Covers}
 use Rattle.std.proofs.lemmas.List.{append-nil as append_none}
 use Rattle.sat_clauses.proofs.ModelLemmas.{Satisfies-front}
 use Rattle.std.proofs.Math.Seq.{take-length}

@@ -57,7 +57,9 @@ abbrev pub lines_of : Version → Certificate → List Line
 lines_of version c =
     version_line version ∷ numbers_line version c ∷ counted (codes "sets") (length c.sets) ∷
     (set_lines c.sets c.traces ++ counted (codes "invariant") (length c.invariant) ∷
-    (map clause_line c.invariant ++ (part_lines (codes "first") c.first ++ (part_lines (codes "next") c.next ++ (part_lines (codes "bad") c.bad ++ codes "end" ∷ [])))))
+    (map clause_line c.invariant
+    ++ (part_lines (codes "first") c.first
+    ++ (part_lines (codes "next") c.next ++ (part_lines (codes "bad") c.bad ++ codes "end" ∷ [])))))
 
 -- a number of bits or faults, a size or a fault is below 2^31
 abbrev pub IsSmall : ℕ → Type 0

@@ -6,15 +6,15 @@ use Rattle.smv_language.specs.Values.{Value}
 use Rattle.smv_language.specs.Flat.{FlatLeaf, FlatModel}
 use Rattle.smv_flat_laws.specs.History.{Mode}
 use Rattle.fault_instructions.specs.Instructions.{InstructionTree}
-use Rattle.fault_weave.specs.Extended.{Moment, IsExtended, Reaches}
+use Rattle.fault_weave.specs.ExtensionTraces.{Moment, IsExtended, Reaches}
 use Rattle.fault_weave.specs.Faults.{Fault}
 use Rattle.cut_right_laws.specs.Right.{HasAtMost, IsMinimalCutSet, IsListed}
 use Rattle.cut_right_laws.specs.Laws.{AreBoth}
 use Rattle.cert_laws.specs.ExtendedTraces.{HasFailedFault, IsRightExtended, IsExtensionModel, IsFlatCut}
 use Rattle.cert_laws.specs.Certificate.{Certificate}
 use Rattle.cut_text_laws.specs.Lines.{Line}
-use Rattle.cert_laws.specs.Accepted.{Subject}
-use Rattle.cert_laws.specs.Certified.{IsSubjectOf, IsCertified}
+use Rattle.cert_laws.specs.Acceptance.{Subject}
+use Rattle.cert_laws.specs.Certification.{IsSubjectOf, IsCertified}
 
 module _ (reads : List Line → List (List Value) → Type 0) where
   -- the text gives a flat trace that is cut to the extended trace
@@ -34,13 +34,16 @@ module _ (reads : List Line → List (List Value) → Type 0) where
   -- Its texts give extended traces, and its sets, with any that they give, are right for all extended traces, of every length.
   abbrev pub CertifiedCompleteness : Type 0
   CertifiedCompleteness =
-      (p : ProgramTree) (i : InstructionTree) (faults : List Fault) (top : Formula) (c : Certificate) (certifies : Certifies p i faults top c) →
+      (p : ProgramTree) (i : InstructionTree) (faults : List Fault) (top : Formula) (c : Certificate)
+      (certifies : Certifies p i faults top c) →
       ((traces : List (List Moment)) × AreBoth (GivesExtended p i certifies.model) c.traces traces)
-      × ((traces : List (List Moment)) → AreBoth (GivesExtended p i certifies.model) c.traces traces → IsRightExtended p i faults top c.size (IsExtended p i) c.sets traces)
+      × ((traces : List (List Moment)) → AreBoth (GivesExtended p i certifies.model) c.traces traces →
+      IsRightExtended p i faults top c.size (IsExtended p i) c.sets traces)
 
   -- Its sets are exactly the minimal cut sets of at most as many faults as its size says.
   abbrev pub CertifiedSetsAreMinimal : Type 0
   CertifiedSetsAreMinimal =
-      (p : ProgramTree) (i : InstructionTree) (faults : List Fault) (top : Formula) (c : Certificate) → Certifies p i faults top c → (set : List ℕ) →
+      (p : ProgramTree) (i : InstructionTree) (faults : List Fault) (top : Formula) (c : Certificate) → Certifies p i faults top c →
+      (set : List ℕ) →
       (IsListed (List Moment) (IsExtended p i) (Reaches p top) (HasFailedFault faults) c.sets set
       ↔ (IsMinimalCutSet (List Moment) (IsExtended p i) (Reaches p top) (HasFailedFault faults) set × HasAtMost c.size set))

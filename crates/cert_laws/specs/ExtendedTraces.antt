@@ -12,10 +12,10 @@ use Rattle.smv_flat_laws.specs.Rules.{IsAccepted}
 use Rattle.smv_type_laws.specs.Laws.{values_by_number}
 use Rattle.fault_instructions.specs.Instructions.{InstructionTree}
 use Rattle.fault_instructions.specs.AddedNames.{mode_variable, mode_symbol}
-use Rattle.fault_weave.specs.Extended.{Moment, IsExtended, HasFailed, Reaches}
+use Rattle.fault_weave.specs.ExtensionTraces.{Moment, IsExtended, HasFailed, Reaches}
 use Rattle.fault_weave.specs.Conservative.{IsCut}
 use Rattle.fault_weave.specs.Faults.{Fault, HasFaults}
-use Rattle.fault_weave.specs.Woven.{woven}
+use Rattle.fault_weave.specs.WovenProgram.{woven}
 use Rattle.fault_instructions.specs.Weavable.{IsReadable, IsWeavable}
 use Rattle.cut_right_laws.specs.Right.{IsRight}
 use Rattle.smv_language.specs.Trace.{EachBoth}
@@ -30,12 +30,15 @@ abbrev pub HasFailedFault : List Fault → List Moment → ℕ → Type 0
 HasFailedFault faults trace i = (f : Fault) × (0 < i) × (slice_get faults (i - 1) ≡ Some f) × HasFailed trace f
 
 -- sets, with one extended trace each, are right for a class of the extended traces
-abbrev pub IsRightExtended : ProgramTree → InstructionTree → List Fault → Formula → ℕ → (List Moment → Type 0) → List (List ℕ) → List (List Moment) → Type 0
-IsRightExtended p i faults top size class sets traces = IsRight (List Moment) (IsExtended p i) (Reaches p top) (HasFailedFault faults) size class sets traces
+abbrev pub IsRightExtended : ProgramTree → InstructionTree → List Fault → Formula → ℕ → (List Moment → Type 0) → List (List ℕ) →
+    List (List Moment) → Type 0
+IsRightExtended p i faults top size class sets traces =
+    IsRight (List Moment) (IsExtended p i) (Reaches p top) (HasFailedFault faults) size class sets traces
 
 -- The flat model of what is woven of a program and instructions, with their faults as modes, and a top event of the
 -- program as an expression of that model.
-pub record IsExtensionModel (p : ProgramTree) (i : InstructionTree) (faults : List Fault) (top : Formula) (m : FlatModel) (fs : List Mode) (flat_top : Tree FlatLeaf) : Type 0 where
+pub record IsExtensionModel (p : ProgramTree) (i : InstructionTree) (faults : List Fault) (top : Formula) (m : FlatModel) (fs : List Mode)
+    (flat_top : Tree FlatLeaf) : Type 0 where
   pub weavable : IsWeavable p i
   pub accepted : IsAccepted (woven p i)
   pub flat : IsFlatOf (woven p i) m

@@ -2,7 +2,7 @@
 use Rattle.std.specs.Prelude.{◌≡◌, ◌⊎◌, ℕ, List, length}
 use Rattle.cert_laws.specs.Certificate.{Certificate}
 use Rattle.cut_text_laws.specs.Lines.{Line}
-use Rattle.cert_laws.specs.Accepted.{Subject, Rule, KeepsAtTrace, IsAccepted, IsObjection}
+use Rattle.cert_laws.specs.Acceptance.{Subject, Rule, KeepsAtTrace, IsAccepted, IsObjection}
 
 -- it holds, or it doesn't
 abbrev pub IsSettled : Type 0 → Type 0
@@ -13,5 +13,7 @@ module _ (T : Type 0) (reads : List Line → T → Type 0) (is_trace reaches : T
   abbrev pub EachIsJudged : Type 0
   EachIsJudged =
       (subject : Subject) (c : Certificate) → length c.traces ≡ length c.sets →
-      ((set : List ℕ) (text : List Line) (rule : Rule) → IsSettled (KeepsAtTrace T reads is_trace reaches has_failed subject c set text rule)) →
-      IsAccepted T reads is_trace reaches has_failed subject c ⊎ ((line : ℕ) × (rule : Rule) × IsObjection T reads is_trace reaches has_failed subject c line rule)
+      ((set : List ℕ) (text : List Line) (rule : Rule) →
+      IsSettled (KeepsAtTrace T reads is_trace reaches has_failed subject c set text rule)) →
+      IsAccepted T reads is_trace reaches has_failed subject c
+      ⊎ ((line : ℕ) × (rule : Rule) × IsObjection T reads is_trace reaches has_failed subject c line rule)

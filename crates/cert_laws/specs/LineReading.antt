@@ -100,7 +100,8 @@ step_in line = after_word (codes "step") step_of_words (words_in line)
 
 -- The laws: a line is read as something exactly where it is the line of that.
 abbrev pub CountsAreExact : Type 0
-CountsAreExact = (word line : Line) (n : ℕ) → AllByRecursion (λ b. b ≢ 32) word → (count_in word line ≡ Some n ↔ ((line ≡ counted word n) × IsCount n))
+CountsAreExact = (word line : Line) (n : ℕ) → AllByRecursion (λ b. b ≢ 32) word →
+    (count_in word line ≡ Some n ↔ ((line ≡ counted word n) × IsCount n))
 
 -- a line is read as a set exactly where it is the set's line
 abbrev pub SetsAreExact : Type 0
@@ -108,7 +109,8 @@ SetsAreExact = (line : Line) (set : List ℕ) → (set_in line ≡ Some set ↔ 
 
 -- a line is read as a clause exactly where it is the clause's line
 abbrev pub ClausesAreExact : Type 0
-ClausesAreExact = (line : Line) (clause : List Literal) → (clause_in line ≡ Some clause ↔ ((line ≡ clause_line clause) × AllByRecursion IsLiteral clause))
+ClausesAreExact = (line : Line) (clause : List Literal) →
+    (clause_in line ≡ Some clause ↔ ((line ≡ clause_line clause) × AllByRecursion IsLiteral clause))
 
 -- a line is read as a step exactly where it is the step's line
 abbrev pub StepsAreExact : Type 0

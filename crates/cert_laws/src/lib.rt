@@ -16,7 +16,7 @@
 //!
 //! A certificate is judged about its subject: the clause lists of a model with history and, for any sets and size, that of its bad
 //! states, gate by gate as `sat_encoding_laws` has them (`specs/Subject.antt`). So the code that makes a certificate and the code
-//! that judges one speak of one subject, and a law says that it is one of those that encode the model (`specs/Certified.antt`).
+//! that judges one speak of one subject, and a law says that it is one of those that encode the model (`specs/Certification.antt`).
 //!
 //! What an accepted certificate shows is proved by induction over moments: the invariant's clauses hold in each first state, every
 //! step keeps them, and they exclude the bad states. So the listed sets are right for all flat traces, and by what flat traces are
@@ -32,17 +32,17 @@
 //! ```
 #![tactic(auto)]
 
-ghost use Rattle.cert_laws.specs.Analysed.{AnalysedIsAccepted};
-ghost use Rattle.cert_laws.specs.Certified.{CertifiedIsRight};
+ghost use Rattle.cert_laws.specs.AnalysisCertificates.{AnalysedIsAccepted};
+ghost use Rattle.cert_laws.specs.Certification.{CertifiedIsRight};
 ghost use Rattle.cert_laws.specs.Completeness.{CertifiedCompleteness, CertifiedSetsAreMinimal};
 ghost use Rattle.cert_laws.specs.Laws.{FlatTracesAreCut, AllRightIsExtended, ShortRightIsExtended, ExtensionModelsAreOwn};
-ghost use Rattle.cert_laws.specs.Derived.{DerivationsGoOn, GoalsFollow, MadeIsAccepted};
+ghost use Rattle.cert_laws.specs.Derivations.{DerivationsGoOn, GoalsFollow, MadeIsAccepted};
 ghost use Rattle.cert_laws.specs.TextLaws.{OneCertificate, OneWrongLine, SpelledHasNone};
-ghost use Rattle.cert_laws.specs.Accepted.{Subject};
+ghost use Rattle.cert_laws.specs.Acceptance.{Subject};
 ghost use Rattle.cert_laws.specs.Certificate.{Certificate};
 ghost use Rattle.cert_laws.specs.Sites.{FirstBrokenIsObjection};
 ghost use Rattle.cert_laws.specs.LineReading.{CountsAreExact, SetsAreExact, ClausesAreExact, StepsAreExact};
-ghost use Rattle.cert_laws.specs.Expecting.{TakenLinesBegin, EachTextIsJudged};
+ghost use Rattle.cert_laws.specs.ExpectedLines.{TakenLinesBegin, EachTextIsJudged};
 ghost use Rattle.cert_laws.specs.Judgement.{EachIsJudged};
 ghost use Rattle.cert_laws.specs.CertificateLaws.{OneObjection, AcceptedHasNone, AcceptedIsInvariant};
 ghost use Rattle.cert_laws.specs.Subject.{SubjectsAreRight};

@@ -19,18 +19,18 @@ use Rattle.sat_clauses.specs.Steps.{AreSteps, with_steps}
 use Rattle.sat_clauses.specs.declared.step.Step.{Step}
 use Rattle.sat_solver.specs.Search.{CanSolve}
 use Rattle.sat_solver.specs.KeptRecord.{KeptValue}
-use Rattle.sat_solver.specs.Kept.{added_of, HasLearned, IsAnswer}
+use Rattle.sat_solver.specs.LearnedClauses.{added_of, HasLearned, IsAnswer}
 use Rattle.sat_solver.specs.declared.solve.Verdict.{Verdict}
 use Rattle.sat_solver.specs.declared.solve.Verdict.TheVariants.{Sat, Unsat}
 use Rattle.sat_clauses.proofs.FalseLemmas.{All-slice_get}
 use Rattle.sat_solver.proofs.KeptLemmas.{length_with_steps}
-use Rattle.cert_laws.specs.Accepted.{highest_in, highest, Covers}
+use Rattle.cert_laws.specs.Acceptance.{highest_in, highest, Covers}
 use Rattle.cert_laws.specs.CertificateText.{IsCount, IsLiteral, IsHint, IsWritableStep, AreWritable}
-use Rattle.cert_laws.specs.Derived.{asked, IsContinued}
+use Rattle.cert_laws.specs.Derivations.{asked, IsContinued}
 use Rattle.cert_laws.proofs.Asked.{derivations_go_on}
 use Rattle.cert_laws.proofs.Steps.{with_joined, with_more}
 use Rattle.cert_making.specs.Queries.{IsSoFar}
-use Rattle.cert_making.specs.Deriving.{IsPartWay, HasPositive}
+use Rattle.cert_making.specs.PartDerivations.{IsPartWay, HasPositive}
 use Rattle.cert_making.proofs.Queries.{queries_derive}
 use Rattle.cert_laws.proofs.Highest.{at_least_one, at_least_one_of}
 

@@ -8,7 +8,7 @@ use Rattle.sat_clauses.specs.Hints.{HasNoOpposites, LacksOpposite}
 use Rattle.sat_clauses.specs.States.{moved_on, IsOverBits, IsInvariant}
 use Rattle.sat_clauses.specs.declared.system.System.{System}
 use Rattle.cert_laws.specs.Certificate.{Certificate, Part, part_first, part_next, part_bad}
-use Rattle.cert_laws.specs.Accepted.{Subject, givens, goals}
+use Rattle.cert_laws.specs.Acceptance.{Subject, givens, goals}
 use Rattle.cert_laws.proofs.Made.{goals_follow}
 
 module _ (system : System) (invariant bad : List (List Literal)) (over : All (IsOverBits system) invariant) (is_one : IsInvariant system bad invariant) where

@@ -11,8 +11,8 @@ use Rattle.sat_clauses.specs.declared.step.Step.{Step}
 use Rattle.sat_solver.specs.Verdict.{IsVerdict}
 use Rattle.sat_solver.specs.declared.solve.Verdict.{Verdict}
 use Rattle.sat_solver.specs.declared.solve.Verdict.TheVariants.{Sat, Unsat}
-use Rattle.cert_laws.specs.Accepted.{highest_in, highest, Covers}
-use Rattle.cert_laws.specs.Derived.{asked, IsContinued}
+use Rattle.cert_laws.specs.Acceptance.{highest_in, highest, Covers}
+use Rattle.cert_laws.specs.Derivations.{asked, IsContinued}
 use Rattle.cert_laws.proofs.Asked.{derivations_go_on}
 use Rattle.cert_making.specs.Queries.{IsSoFar, IsOneFurther, QueriesDerive, AllCoveredIsDerived}
 

@@ -11,8 +11,8 @@ use Rattle.sat_solver.specs.Verdict.{IsVerdict}
 use Rattle.sat_solver.specs.declared.solve.Verdict.{Verdict}
 use Rattle.sat_solver.specs.declared.solve.Verdict.TheVariants.{Unsat}
 use Rattle.cert_laws.specs.Certificate.{Certificate, Part, steps_in}
-use Rattle.cert_laws.specs.Accepted.{Subject, givens, goals, Covers, highest}
-use Rattle.cert_laws.specs.Derived.{asked, IsDerived}
+use Rattle.cert_laws.specs.Acceptance.{Subject, givens, goals, Covers, highest}
+use Rattle.cert_laws.specs.Derivations.{asked, IsDerived}
 
 -- A derivation so far: its steps follow from the given clauses, over variables up to their highest, and some goals are covered.
 pub record IsSoFar (clauses : List (List Literal)) (done : List Step) (covered : List (List Literal)) : Type 0 where
@@ -20,7 +20,8 @@ pub record IsSoFar (clauses : List (List Literal)) (done : List Step) (covered :
   pub covers : (goal : List Literal) → Contains covered goal → Covers (with_steps clauses done) goal
 
 -- the search refuted, its recorder has kept the steps, and with these the goal is covered too
-pub record IsOneFurther (clauses : List (List Literal)) (done : List Step) (covered : List (List Literal)) (goal : List Literal) (kept_old kept_new : Option (List Step)) (verdict : Verdict) : Type 0 where
+pub record IsOneFurther (clauses : List (List Literal)) (done : List Step) (covered : List (List Literal)) (goal : List Literal)
+    (kept_old kept_new : Option (List Step)) (verdict : Verdict) : Type 0 where
   pub core : List Literal
   pub is_unsat : verdict ≡ Unsat core
   pub steps : List Step
@@ -35,9 +36,11 @@ QueriesDerive =
     IsSoFar clauses done covered → HasNoOpposites goal → FollowsFrom clauses goal →
     CanSolve (highest clauses) (with_steps clauses done) (asked (highest clauses) goal)
     × ((kept_old kept_new : Option (List Step)) (verdict : Verdict) →
-    IsVerdict (highest clauses) (with_steps clauses done) (asked (highest clauses) goal) kept_old kept_new verdict → IsOneFurther clauses done covered goal kept_old kept_new verdict)
+    IsVerdict (highest clauses) (with_steps clauses done) (asked (highest clauses) goal) kept_old kept_new verdict →
+    IsOneFurther clauses done covered goal kept_old kept_new verdict)
 
 -- and once all goals of a part are covered, it is derived
 abbrev pub AllCoveredIsDerived : Type 0
 AllCoveredIsDerived =
-    (subject : Subject) (c : Certificate) (part : Part) → IsSoFar (givens subject c part) (steps_in c part) (goals subject c part) → IsDerived subject c part
+    (subject : Subject) (c : Certificate) (part : Part) → IsSoFar (givens subject c part) (steps_in c part) (goals subject c part) →
+    IsDerived subject c part

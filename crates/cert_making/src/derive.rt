@@ -8,11 +8,11 @@ ghost use Rattle.sat_clauses.specs.Literal.{Literal};
 ghost use Rattle.sat_clauses.specs.Models.{FollowsFrom};
 ghost use Rattle.sat_clauses.specs.Derivation.{IsUpTo};
 ghost use Rattle.sat_clauses.specs.Hints.{HasNoOpposites};
-ghost use Rattle.cert_laws.specs.Accepted.{highest_in, highest};
+ghost use Rattle.cert_laws.specs.Acceptance.{highest_in, highest};
 ghost use Rattle.cert_laws.specs.CertificateText.{AreWritable};
-ghost use Rattle.cert_laws.specs.Derived.{asked};
+ghost use Rattle.cert_laws.specs.Derivations.{asked};
 ghost use Rattle.cert_making.specs.Queries.{IsSoFar};
-ghost use Rattle.cert_making.specs.Deriving.{IsPartWay, HasPositive};
+ghost use Rattle.cert_making.specs.PartDerivations.{IsPartWay, HasPositive};
 
 use base_values::OutOfMemory;
 use sat_adviser::{News, Panel};

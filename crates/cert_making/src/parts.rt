@@ -8,7 +8,7 @@ ghost use Rattle.sat_clauses.specs.Hints.{HasNoOpposites};
 ghost use Rattle.sat_clauses.specs.States.{moved_on, IsOverBits, IsInvariant};
 ghost use Rattle.cert_laws.specs.CertificateText.{AreWritable};
 ghost use Rattle.cert_making.specs.Queries.{IsSoFar};
-ghost use Rattle.cert_making.specs.Deriving.{AreDerived};
+ghost use Rattle.cert_making.specs.PartDerivations.{AreDerived};
 
 use crate::derive::derive;
 use base_values::OutOfMemory;
@@ -21,7 +21,7 @@ use std::alloc::Global;
 
 /// The derivations of a certificate.
 #[derive(Drop)]
-pub struct Parts {
+pub struct PartDerivations {
     /// That the invariant holds in each first state.
     pub first: StepsList,
     /// That every step keeps it.
@@ -95,7 +95,8 @@ fn derive_next(
     requires over_bits { All (IsOverBits system.now) invariant.now }
     requires apart { All HasNoOpposites invariant.now }
     requires invariant { IsInvariant system.now bad.now invariant.now }
-    ensures derived { IfOk result (λ steps. IsSoFar (system.now.step ++ invariant.now) steps (map (map (moved_on system.now.state_bits)) invariant.now)) }
+    ensures derived { IfOk result (λ steps. IsSoFar (system.now.step
+        ++ invariant.now) steps (map (map (moved_on system.now.state_bits)) invariant.now)) }
     ensures writable { IfOk result AreWritable }
 {
     let givens = both(&system.step, invariant)?;
@@ -132,7 +133,7 @@ pub fn derive_parts(
     invariant: &ClauseList,
     bad: &ClauseList,
     panel: &mut Panel,
-) -> Result<Parts, OutOfMemory>
+) -> Result<PartDerivations, OutOfMemory>
     requires over_bits { All (IsOverBits system.now) invariant.now }
     requires apart { All HasNoOpposites invariant.now }
     requires invariant { IsInvariant system.now bad.now invariant.now }
@@ -141,7 +142,7 @@ pub fn derive_parts(
     let first = derive_first(alloc, system, invariant, bad, panel)?;
     let next = derive_next(alloc, system, invariant, bad, panel)?;
     let last = derive_bad(alloc, system, invariant, bad, panel)?;
-    Ok(Parts {
+    Ok(PartDerivations {
         first,
         next,
         bad: last,

@@ -5,8 +5,8 @@ use Rattle.std.specs.Cmp.Lexicographic.{pointwise}
 use Rattle.cut_text_laws.specs.Lines.{Line}
 use Rattle.cert_laws.specs.LineReading.{with_byte, words_in}
 use Rattle.cert_laws.proofs.LineReading.{differs as differ}
-use Rattle.base_values.specs.Cuts.{Lacks, BeginsWith}
-use Rattle.cert_text.specs.Cuts.{words_after, IsWordThen, LacksWord, IsAfterWord}
+use Rattle.base_values.specs.Separators.{Lacks, BeginsWith}
+use Rattle.cert_text.specs.LineWords.{words_after, IsWordThen, LacksWord, IsAfterWord}
 use Rattle.smv_language.proofs.BoolLaws.{if_true, if_false}
 use Rattle.smv_language.specs.Texts.{same_text}
 use Rattle.smv_language.proofs.AmongLaws.{pointwise_is}

@@ -8,13 +8,13 @@ use Rattle.cut_text_laws.specs.Lines.{Line}
 use Rattle.cert_laws.specs.LineReading.{words_in, after_word, one_number}
 use Rattle.cert_laws.specs.CertificateText.{version_one, version_two}
 use Rattle.cert_laws.specs.CertificateText.{Version as Named}
-use Rattle.cert_laws.specs.Expecting.{numbers_from, small_in, size_of}
+use Rattle.cert_laws.specs.ExpectedLines.{numbers_from, small_in, size_of}
 use Rattle.cert_laws.proofs.LineReading.{not_same, some_words}
-use Rattle.cert_text.specs.Cuts.{words_after, LacksWord, IsAfterWord}
+use Rattle.cert_text.specs.LineWords.{words_after, LacksWord, IsAfterWord}
 use Rattle.cert_text.specs.Words.{LacksName, one_small, after_bits}
 use Rattle.cert_text.specs.declared.lines.Version.{Version}
 use Rattle.cert_text.specs.declared.lines.Version.TheVariants as version
-use Rattle.cert_text.specs.Reading.{version_in}
+use Rattle.cert_text.specs.CertificateReading.{version_in}
 use Rattle.smv_language.proofs.BoolLaws.{if_true, if_false}
 use Rattle.smv_language.specs.Texts.{same_text}
 use Rattle.smv_language.proofs.ValueLaws.{same_text_equal, same_text_refl}

@@ -1,9 +1,9 @@
-pub mod Seen
+pub mod CertificateView
 pub mod LinesIn
 pub mod Pieces
-pub mod Cuts
-pub mod Told
-pub mod Reading
+pub mod LineWords
+pub mod Expectations
+pub mod CertificateReading
 pub mod Faults
 pub mod Numerals
 pub mod Words

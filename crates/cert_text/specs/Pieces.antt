@@ -13,7 +13,8 @@ after_spaces words = flat_map (λ word. 32 ∷ word) words
 -- the first two lines, with their line feeds
 abbrev pub head_text : ℕ → ℕ → ℕ → List ℕ
 head_text bits faults size =
-    codes "xsap-certificate 2\nbits " ++ (decimal bits ++ (codes " faults " ++ (decimal faults ++ (codes " size " ++ (decimal size ++ 10 ∷ [])))))
+    codes "xsap-certificate 2\nbits "
+    ++ (decimal bits ++ (codes " faults " ++ (decimal faults ++ (codes " size " ++ (decimal size ++ 10 ∷ [])))))
 
 -- a set with its trace
 abbrev pub traced_lines : List ℕ → List Line → List Line
@@ -29,4 +30,5 @@ invariant_lines clauses = counted (codes "invariant") (length clauses) ∷ map c
 
 -- the three derivations and the last line
 abbrev pub derived_lines : List Step → List Step → List Step → List Line
-derived_lines first next bad = part_lines (codes "first") first ++ (part_lines (codes "next") next ++ (part_lines (codes "bad") bad ++ codes "end" ∷ []))
+derived_lines first next bad =
+    part_lines (codes "first") first ++ (part_lines (codes "next") next ++ (part_lines (codes "bad") bad ++ codes "end" ∷ []))

@@ -2,7 +2,7 @@
 use Rattle.std.specs.Prelude.{◌≡◌, ◌≢◌, ℕ, List, [], ◌∷◌, Option, Some, None, codes, if◌then◌else◌}
 use Rattle.cut_text_laws.specs.Lines.{Line}
 use Rattle.cert_laws.specs.CertificateText.{Version}
-use Rattle.cert_laws.specs.Expecting.{Numbers, numbers_from, small_in, size_of}
+use Rattle.cert_laws.specs.ExpectedLines.{Numbers, numbers_from, small_in, size_of}
 use Rattle.smv_language.specs.Texts.{same_text}
 
 -- the first word is no number below 2^31
@@ -26,7 +26,8 @@ one_small _ = None
 
 -- the numbers, where that of bits and the words after it, those after `faults`, and the number of faults are known
 abbrev pub after_bits : Version → ℕ → List Line → Option Numbers
-after_bits version b (f ∷ n ∷ words) = if same_text f (codes "faults") then numbers_from (Some b) (small_in n) (size_of version (small_in n) words) else None
+after_bits version b (f ∷ n ∷ words) =
+    if same_text f (codes "faults") then numbers_from (Some b) (small_in n) (size_of version (small_in n) words) else None
 after_bits version b _ = None
 
 -- the numbers that the words after `faults` say, where that of bits is given

@@ -1,7 +1,6 @@
 //! What a text of a certificate gives.
 //!
 //! [`Certificate`] has the parts of a certificate, its lists and its copy, and [`CertFault`] says why bytes are none.
-
 ghost use Rattle.std.specs.Prelude.{◌≡◌, IfOk};
 
 use crate::line_list::LineList;

@@ -2,7 +2,7 @@
 //!
 //! [`write`] gives the text of a certificate, and [`read`] the certificate that a text spells, or the line
 //! that is wrong first or missing ([`CertFault`]). Which bytes spell a certificate, and what is wrong first
-//! with bytes that spell none, stands in `cert_laws`; `specs/Seen.antt` says which certificate of those
+//! with bytes that spell none, stands in `cert_laws`; `specs/CertificateView.antt` says which certificate of those
 //! definitions a [`Certificate`] is. Both are linear in the text, and no room is reserved by a number that a
 //! text claims. The lines of a trace lie in one text, and are seen as a list ([`LineList`]).
 //!

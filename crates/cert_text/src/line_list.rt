@@ -1,7 +1,6 @@
 //! The lines of a trace's text.
 //!
 //! [`LineList`] keeps them in one text, each with its line feed, and contracts see it as the list of the lines.
-
 ghost use Rattle.std.specs.Prelude.{◌≡◌, ◌<◌, ◌^◌, [], ◌∷◌, ◌++◌, length, IfOk, OnOk, OnErr};
 ghost use Rattle.cut_text_laws.specs.Lines.{fed, IsLine};
 

@@ -2,15 +2,15 @@
 //!
 //! There is a function for each form of line: [`version_in`], [`numbers_in`], [`count_in`], [`set_in`], [`clause_in`] and [`step_in`].
 //! Each gives what a line of its form says, and nothing for another line. `reading` asks them for one line after another.
-
 ghost use Rattle.std.specs.Prelude.{◌≡◌, ℕ, ◌∷◌, IfOk, Option, Some, MatchOption};
 ghost use Rattle.std.specs.Option.{option_map};
-ghost use Rattle.cert_laws.specs.LineReading.{count_in, set_in, clause_in, step_in, each_in, literal_in, hint_in, one_number, step_of, step_of_words};
-ghost use Rattle.cert_laws.specs.Expecting.{small_in, numbers_in, numbers_of_words, size_of};
+ghost use Rattle.cert_laws.specs.LineReading.{count_in, set_in, clause_in, step_in, each_in, literal_in, hint_in, one_number, step_of};
+ghost use Rattle.cert_laws.specs.LineReading.{step_of_words};
+ghost use Rattle.cert_laws.specs.ExpectedLines.{small_in, numbers_in, numbers_of_words, size_of};
 ghost use Rattle.cert_laws.specs.CertificateText.{version_two};
-ghost use Rattle.cert_text.specs.Cuts.{words_after};
-ghost use Rattle.cert_text.specs.Told.{told_version, told_numbers};
-ghost use Rattle.cert_text.specs.Reading.{version_in};
+ghost use Rattle.cert_text.specs.LineWords.{words_after};
+ghost use Rattle.cert_text.specs.Expectations.{told_version, told_numbers};
+ghost use Rattle.cert_text.specs.CertificateReading.{version_in};
 ghost use Rattle.cert_text.specs.Words.{LacksNumber, IsNumberThen, LacksName, one_small, after_bits, after_faults};
 
 use crate::numbers::{count, hint, literal, small};
@@ -30,7 +30,7 @@ pub(crate) enum Version {
 
 /// The numbers of bits and faults, and the size.
 #[derive(Clone, Copy, Debug, PartialEq, Eq)]
-pub(crate) struct Numbers {
+pub(crate) struct HeadNumbers {
     pub(crate) bits: u32,
     pub(crate) faults: u32,
     pub(crate) size: u32,
@@ -180,7 +180,7 @@ fn hints_in(alloc: Global, words: &[u8]) -> Result<Option<HintList>, OutOfMemory
 }
 
 /// The numbers that the second line gives.
-pub(crate) fn numbers_in(version: Version, line: &[u8]) -> Option<Numbers>
+pub(crate) fn numbers_in(version: Version, line: &[u8]) -> Option<HeadNumbers>
     ensures { option_map told_numbers result ≡ numbers_in (told_version version) line.now }
 {
     match after_word(line, b"bits") {
@@ -190,7 +190,7 @@ pub(crate) fn numbers_in(version: Version, line: &[u8]) -> Option<Numbers>
 }
 
 /// The numbers that the words after `bits` give.
-fn numbers_of(version: Version, words: &[u8]) -> Option<Numbers>
+fn numbers_of(version: Version, words: &[u8]) -> Option<HeadNumbers>
     ensures { option_map told_numbers result ≡ numbers_of_words (told_version version) (words_after words.now) }
 {
     match number_then(words) {
@@ -200,7 +200,7 @@ fn numbers_of(version: Version, words: &[u8]) -> Option<Numbers>
 }
 
 /// The numbers that the words after the number of bits give.
-fn faults_and_size(version: Version, bits: u32, words: &[u8]) -> Option<Numbers>
+fn faults_and_size(version: Version, bits: u32, words: &[u8]) -> Option<HeadNumbers>
     ensures { option_map told_numbers result ≡ after_bits (told_version version) bits (words_after words.now) }
 {
     match after_name(words, b"faults") {
@@ -210,12 +210,12 @@ fn faults_and_size(version: Version, bits: u32, words: &[u8]) -> Option<Numbers>
 }
 
 /// The numbers that the words after `faults` give.
-fn with_faults(version: Version, bits: u32, words: &[u8]) -> Option<Numbers>
+fn with_faults(version: Version, bits: u32, words: &[u8]) -> Option<HeadNumbers>
     ensures { option_map told_numbers result ≡ after_faults (told_version version) bits (words_after words.now) }
 {
     match number_then(words) {
         Some((faults, rest)) => match size_in(version, faults, rest) {
-            Some(size) => Some(Numbers { bits, faults, size }),
+            Some(size) => Some(HeadNumbers { bits, faults, size }),
             None => None,
         },
         None => None,
@@ -254,7 +254,8 @@ fn only_number(words: &[u8]) -> Option<u32>
 
 /// The number that the first word is, and what stands after it.
 fn number_then(words: &[u8]) -> Option<(u32, &[u8])>
-    ensures { MatchOption result (LacksNumber (words_after words.now)) (λ p. IsNumberThen (words_after words.now) p.0 (words_after p.1.now)) }
+    ensures { MatchOption result (LacksNumber (words_after words.now))
+        (λ p. IsNumberThen (words_after words.now) p.0 (words_after p.1.now)) }
 {
     match next_word(words) {
         Some((word, more)) => match small(word) {
@@ -267,7 +268,8 @@ fn number_then(words: &[u8]) -> Option<(u32, &[u8])>
 
 /// What stands after the first word, where that is this one.
 fn after_name<'a>(words: &'a [u8], name: &[u8]) -> Option<&'a [u8]>
-    ensures { MatchOption result (LacksName (words_after words.now) name.now) (λ rest. words_after words.now ≡ name.now ∷ words_after rest.now) }
+    ensures { MatchOption result (LacksName (words_after words.now) name.now) (λ rest. words_after words.now
+        ≡ name.now ∷ words_after rest.now) }
 {
     match next_word(words) {
         Some((word, more)) => { if word == name { Some(more) } else { None } }

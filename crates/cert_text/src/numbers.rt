@@ -1,11 +1,10 @@
 //! Numbers and literals in the words of a line.
 //!
 //! [`small`], [`count`] and [`hint`] read numbers, each with its limit and without leading zeros, and [`literal`] a literal.
-
 ghost use Rattle.std.specs.Prelude.{◌≡◌, ◌≢◌, ◌<◌, ◌≤◌, ◌^◌, IfSome, MatchOption, slice_index_or};
 ghost use Rattle.std.specs.Option.{option_map};
 ghost use Rattle.cert_laws.specs.LineReading.{number_in, hint_in, literal_in};
-ghost use Rattle.cert_laws.specs.Expecting.{small_in};
+ghost use Rattle.cert_laws.specs.ExpectedLines.{small_in};
 ghost use Rattle.cert_text.specs.Numerals.{IsValueOf, IsNoNumeral, literal_of};
 
 use sat_clauses::lit::Lit;

@@ -1,6 +1,5 @@
 //! Pieces of a certificate's text, each appended to the end of one buffer, so that the work is linear in the
 //! text.
-
 ghost use Rattle.std.specs.Prelude.{◌≡◌, [], ◌∷◌, ◌++◌, OnOk, map};
 ghost use Rattle.std.specs.Fmt.{decimal};
 ghost use Rattle.cut_text_laws.specs.Lines.{counted};

@@ -1,23 +1,23 @@
 //! The lines of a certificate read one after another.
 //!
-//! The main function is [`Reading::take`]: it reads one more line, as what the lines before it make it, and keeps what it says.
+//! The main function is [`CertificateReading::take`]: it reads one more line, as what the lines before it make it, and keeps what it says.
 //! [`Expect`] says what the next line is to be, with how many of its kind come after it.
-
 ghost use Rattle.std.specs.Prelude.{◌≡◌, IfErr, OnOk, Some, codes};
 ghost use Rattle.std.specs.Option.{option_map};
 ghost use Rattle.cut_text_laws.specs.Lines.{IsLine};
 ghost use Rattle.cert_laws.specs.LineReading.{count_in, set_in, clause_in, step_in};
-ghost use Rattle.cert_laws.specs.Expecting.{numbers_in, part_word};
-ghost use Rattle.cert_text.specs.Told.{told_version, told_part};
+ghost use Rattle.cert_laws.specs.ExpectedLines.{numbers_in, part_word};
+ghost use Rattle.cert_text.specs.Expectations.{told_version, told_part};
 ghost use Rattle.cert_text.specs.Faults.{IsRefused, fault_at};
-ghost use Rattle.cert_text.specs.Reading.{sets_left, clauses_left, steps_left, version_in, then_expecting, with_numbers, with_set, text_left, with_line, with_clause, with_step, end_in, read_line, unread};
+ghost use Rattle.cert_text.specs.CertificateReading.{sets_left, clauses_left, steps_left, version_in, then_expecting, with_numbers};
+ghost use Rattle.cert_text.specs.CertificateReading.{with_set, text_left, with_line, with_clause, with_step, end_in, read_line, unread};
 ghost use Rattle.cert_text.specs.declared.reading.Expect.TheVariants as expect;
-ghost use Rattle.cert_text.specs.declared.reading.Refusal.TheVariants as refusal;
+ghost use Rattle.cert_text.specs.declared.reading.LineRefusal.TheVariants as refusal;
 
 use crate::certificate::{CertFault, Certificate, TextList};
 use crate::line_list::LineList;
 use crate::lines::{
-    Numbers, Version, clause_in, count_in, numbers_in, set_in, step_in, version_in,
+    HeadNumbers, Version, clause_in, count_in, numbers_in, set_in, step_in, version_in,
 };
 use base_values::{OutOfMemory, SetList};
 use sat_clauses::clause::ClauseList;
@@ -27,7 +27,7 @@ use std::alloc::Global;
 
 /// The three derivations.
 #[derive(Clone, Copy, Debug, PartialEq, Eq)]
-pub(crate) enum Part {
+pub(crate) enum TextPart {
     First,
     Next,
     Bad,
@@ -44,55 +44,55 @@ pub(crate) enum Expect {
     TextLine(u64, u64),
     ClausesCount,
     ClauseLine(u64),
-    StepsCount(Part),
-    StepLine(Part, u64),
+    StepsCount(TextPart),
+    StepLine(TextPart, u64),
     End,
     NoLine,
 }
 
 /// Why a line is not taken.
 #[derive(Clone, Copy, Debug, PartialEq, Eq)]
-pub(crate) enum Refusal {
+pub(crate) enum LineRefusal {
     BadLine,
     OutOfMemory,
 }
 
-impl Refusal {
+impl LineRefusal {
     /// The fault of the line of this number.
     pub(crate) fn at_line(self, number: u64) -> CertFault
         ensures { result ≡ fault_at self number }
     {
         match self {
-            Refusal::BadLine => CertFault::BadLine(number),
-            Refusal::OutOfMemory => CertFault::OutOfMemory,
+            LineRefusal::BadLine => CertFault::BadLine(number),
+            LineRefusal::OutOfMemory => CertFault::OutOfMemory,
         }
     }
 }
 
-impl From<OutOfMemory> for Refusal {
-    ghost use Rattle.cert_text.specs.declared.reading.Refusal.TheVariants as refusal;
+impl From<OutOfMemory> for LineRefusal {
+    ghost use Rattle.cert_text.specs.declared.reading.LineRefusal.TheVariants as refusal;
 
     ghost from_gives = { λ _ made. made ≡ refusal.OutOfMemory };
 
-    fn from(_refused: OutOfMemory) -> Refusal {
-        Refusal::OutOfMemory
+    fn from(_refused: OutOfMemory) -> LineRefusal {
+        LineRefusal::OutOfMemory
     }
 }
 
 /// What the lines so far gave, the lines of the trace that is being read, and what the next line is to be.
 #[derive(Drop)]
-pub(crate) struct Reading {
+pub(crate) struct CertificateReading {
     pub(crate) expect: Expect,
     pub(crate) trace: LineList,
     pub(crate) certificate: Certificate,
 }
 
-impl Reading {
+impl CertificateReading {
     /// Before the first line.
-    pub(crate) fn new(alloc: Global) -> Reading
+    pub(crate) fn new(alloc: Global) -> CertificateReading
         ensures { result ≡ unread }
     {
-        Reading {
+        CertificateReading {
             expect: Expect::Version,
             trace: LineList::new(alloc),
             certificate: Certificate {
@@ -110,7 +110,7 @@ impl Reading {
     }
 
     /// Reads one more line, which has no line feed in it.
-    pub(crate) fn take(&mut self, alloc: Global, line: &[u8]) -> Result<(), Refusal>
+    pub(crate) fn take(&mut self, alloc: Global, line: &[u8]) -> Result<(), LineRefusal>
         requires { IsLine line.now }
         ensures ok { OnOk result (read_line self.old line.now ≡ Some self.new) }
         ensures err { IfErr result (IsRefused (read_line self.old line.now)) }
@@ -127,12 +127,12 @@ impl Reading {
             Expect::StepsCount(part) => self.take_steps_count(part, line),
             Expect::StepLine(part, left) => self.take_step(alloc, part, left, line),
             Expect::End => self.take_end(line),
-            Expect::NoLine => Err(Refusal::BadLine),
+            Expect::NoLine => Err(LineRefusal::BadLine),
         }
     }
 
     /// Reads the version.
-    fn take_version(&mut self, line: &[u8]) -> Result<(), Refusal>
+    fn take_version(&mut self, line: &[u8]) -> Result<(), LineRefusal>
         ensures ok { OnOk result (option_map (λ v. then_expecting self.old (expect.Numbers v)) (version_in line.now) ≡ Some self.new) }
         ensures err { IfErr result (IsRefused (option_map (λ v. then_expecting self.old (expect.Numbers v)) (version_in line.now))) }
     {
@@ -141,12 +141,12 @@ impl Reading {
                 self.expect = Expect::Numbers(version);
                 Ok(())
             }
-            None => Err(Refusal::BadLine),
+            None => Err(LineRefusal::BadLine),
         }
     }
 
     /// Reads the numbers.
-    fn take_numbers(&mut self, version: Version, line: &[u8]) -> Result<(), Refusal>
+    fn take_numbers(&mut self, version: Version, line: &[u8]) -> Result<(), LineRefusal>
         ensures ok { OnOk result (option_map (with_numbers self.old) (numbers_in (told_version version) line.now) ≡ Some self.new) }
         ensures err { IfErr result (IsRefused (option_map (with_numbers self.old) (numbers_in (told_version version) line.now))) }
     {
@@ -158,13 +158,14 @@ impl Reading {
                 self.expect = Expect::SetsCount;
                 Ok(())
             }
-            None => Err(Refusal::BadLine),
+            None => Err(LineRefusal::BadLine),
         }
     }
 
     /// Reads the number of sets.
-    fn take_sets_count(&mut self, line: &[u8]) -> Result<(), Refusal>
-        ensures ok { OnOk result (option_map (λ n. then_expecting self.old (sets_left n)) (count_in (codes "sets") line.now) ≡ Some self.new) }
+    fn take_sets_count(&mut self, line: &[u8]) -> Result<(), LineRefusal>
+        ensures ok { OnOk result (option_map (λ n. then_expecting self.old (sets_left n)) (count_in (codes "sets") line.now)
+            ≡ Some self.new) }
         ensures err { IfErr result (IsRefused (option_map (λ n. then_expecting self.old (sets_left n)) (count_in (codes "sets") line.now))) }
     {
         match count_in(line, b"sets") {
@@ -172,12 +173,12 @@ impl Reading {
                 self.expect = sets_left(count);
                 Ok(())
             }
-            None => Err(Refusal::BadLine),
+            None => Err(LineRefusal::BadLine),
         }
     }
 
     /// Reads and keeps a set.
-    fn take_set(&mut self, alloc: Global, left: u64, line: &[u8]) -> Result<(), Refusal>
+    fn take_set(&mut self, alloc: Global, left: u64, line: &[u8]) -> Result<(), LineRefusal>
         ensures ok { OnOk result (option_map (with_set left self.old) (set_in line.now) ≡ Some self.new) }
         ensures err { IfErr result (IsRefused (option_map (with_set left self.old) (set_in line.now))) }
     {
@@ -187,12 +188,12 @@ impl Reading {
                 self.expect = Expect::TraceCount(left);
                 Ok(())
             }
-            None => Err(Refusal::BadLine),
+            None => Err(LineRefusal::BadLine),
         }
     }
 
     /// Reads the number of lines of a trace's text.
-    fn take_trace_count(&mut self, alloc: Global, left: u64, line: &[u8]) -> Result<(), Refusal>
+    fn take_trace_count(&mut self, alloc: Global, left: u64, line: &[u8]) -> Result<(), LineRefusal>
         ensures ok { OnOk result (option_map (λ n. text_left n left self.old) (count_in (codes "trace") line.now) ≡ Some self.new) }
         ensures err { IfErr result (IsRefused (option_map (λ n. text_left n left self.old) (count_in (codes "trace") line.now))) }
     {
@@ -201,12 +202,18 @@ impl Reading {
                 self.leave_text(alloc, count, left)?;
                 Ok(())
             }
-            None => Err(Refusal::BadLine),
+            None => Err(LineRefusal::BadLine),
         }
     }
 
     /// Keeps a line of a trace's text.
-    fn take_text(&mut self, alloc: Global, more: u64, left: u64, line: &[u8]) -> Result<(), Refusal>
+    fn take_text(
+        &mut self,
+        alloc: Global,
+        more: u64,
+        left: u64,
+        line: &[u8],
+    ) -> Result<(), LineRefusal>
         requires { IsLine line.now }
         ensures ok { OnOk result (with_line more left self.old line.now ≡ self.new) }
         ensures err { IfErr result (λ made. made ≡ refusal.OutOfMemory) }
@@ -231,22 +238,23 @@ impl Reading {
     }
 
     /// Reads the number of clauses.
-    fn take_clauses_count(&mut self, line: &[u8]) -> Result<(), Refusal>
+    fn take_clauses_count(&mut self, line: &[u8]) -> Result<(), LineRefusal>
         ensures ok { OnOk result (option_map (λ n. then_expecting self.old (clauses_left n)) (count_in (codes "invariant") line.now)
             ≡ Some self.new) }
-        ensures err { IfErr result (IsRefused (option_map (λ n. then_expecting self.old (clauses_left n)) (count_in (codes "invariant") line.now))) }
+        ensures err { IfErr result
+            (IsRefused (option_map (λ n. then_expecting self.old (clauses_left n)) (count_in (codes "invariant") line.now))) }
     {
         match count_in(line, b"invariant") {
             Some(count) => {
                 self.expect = clauses_left(count);
                 Ok(())
             }
-            None => Err(Refusal::BadLine),
+            None => Err(LineRefusal::BadLine),
         }
     }
 
     /// Reads and keeps a clause.
-    fn take_clause(&mut self, alloc: Global, left: u64, line: &[u8]) -> Result<(), Refusal>
+    fn take_clause(&mut self, alloc: Global, left: u64, line: &[u8]) -> Result<(), LineRefusal>
         ensures ok { OnOk result (option_map (with_clause left self.old) (clause_in line.now) ≡ Some self.new) }
         ensures err { IfErr result (IsRefused (option_map (with_clause left self.old) (clause_in line.now))) }
     {
@@ -256,22 +264,25 @@ impl Reading {
                 self.expect = clauses_left(left);
                 Ok(())
             }
-            None => Err(Refusal::BadLine),
+            None => Err(LineRefusal::BadLine),
         }
     }
 
     /// Reads the number of a derivation's steps.
-    fn take_steps_count(&mut self, part: Part, line: &[u8]) -> Result<(), Refusal>
-        ensures ok { OnOk result (option_map (λ n. then_expecting self.old (steps_left part n)) (count_in (part_word (told_part part)) line.now)
+    fn take_steps_count(&mut self, part: TextPart, line: &[u8]) -> Result<(), LineRefusal>
+        ensures ok { OnOk result
+            (option_map (λ n. then_expecting self.old (steps_left part n)) (count_in (part_word (told_part part)) line.now)
             ≡ Some self.new) }
-        ensures err { IfErr result (IsRefused (option_map (λ n. then_expecting self.old (steps_left part n)) (count_in (part_word (told_part part)) line.now))) }
+        ensures err { IfErr result
+            (IsRefused (option_map (λ n. then_expecting self.old (steps_left part n))
+            (count_in (part_word (told_part part)) line.now))) }
     {
         match steps_count(part, line) {
             Some(count) => {
                 self.expect = steps_left(part, count);
                 Ok(())
             }
-            None => Err(Refusal::BadLine),
+            None => Err(LineRefusal::BadLine),
         }
     }
 
@@ -279,10 +290,10 @@ impl Reading {
     fn take_step(
         &mut self,
         alloc: Global,
-        part: Part,
+        part: TextPart,
         left: u64,
         line: &[u8],
-    ) -> Result<(), Refusal>
+    ) -> Result<(), LineRefusal>
         ensures ok { OnOk result (option_map (with_step part left self.old) (step_in line.now) ≡ Some self.new) }
         ensures err { IfErr result (IsRefused (option_map (with_step part left self.old) (step_in line.now))) }
     {
@@ -291,25 +302,25 @@ impl Reading {
                 self.keep_step(part, left, step)?;
                 Ok(())
             }
-            None => Err(Refusal::BadLine),
+            None => Err(LineRefusal::BadLine),
         }
     }
 
     /// Keeps a step of a derivation of which so many are left.
-    fn keep_step(&mut self, part: Part, left: u64, step: Step) -> Result<(), OutOfMemory>
+    fn keep_step(&mut self, part: TextPart, left: u64, step: Step) -> Result<(), OutOfMemory>
         ensures { OnOk result (with_step part left self.old step ≡ self.new) }
     {
         match part {
-            Part::First => self.certificate.first.push(step)?,
-            Part::Next => self.certificate.next.push(step)?,
-            Part::Bad => self.certificate.bad.push(step)?,
+            TextPart::First => self.certificate.first.push(step)?,
+            TextPart::Next => self.certificate.next.push(step)?,
+            TextPart::Bad => self.certificate.bad.push(step)?,
         }
         self.expect = steps_left(part, left);
         Ok(())
     }
 
     /// Reads the last line.
-    fn take_end(&mut self, line: &[u8]) -> Result<(), Refusal>
+    fn take_end(&mut self, line: &[u8]) -> Result<(), LineRefusal>
         ensures ok { OnOk result (option_map (then_expecting self.old) (end_in line.now) ≡ Some self.new) }
         ensures err { IfErr result (IsRefused (option_map (then_expecting self.old) (end_in line.now))) }
     {
@@ -317,19 +328,19 @@ impl Reading {
             self.expect = Expect::NoLine;
             Ok(())
         } else {
-            Err(Refusal::BadLine)
+            Err(LineRefusal::BadLine)
         }
     }
 }
 
 /// The number in the line that begins a derivation.
-fn steps_count(part: Part, line: &[u8]) -> Option<u64>
+fn steps_count(part: TextPart, line: &[u8]) -> Option<u64>
     ensures { result ≡ count_in (part_word (told_part part)) line.now }
 {
     match part {
-        Part::First => count_in(line, b"first"),
-        Part::Next => count_in(line, b"next"),
-        Part::Bad => count_in(line, b"bad"),
+        TextPart::First => count_in(line, b"first"),
+        TextPart::Next => count_in(line, b"next"),
+        TextPart::Bad => count_in(line, b"bad"),
     }
 }
 
@@ -351,20 +362,20 @@ fn clauses_left(left: u64) -> Expect
     if left > 0 {
         Expect::ClauseLine(left - 1)
     } else {
-        Expect::StepsCount(Part::First)
+        Expect::StepsCount(TextPart::First)
     }
 }
 
 /// What comes next where so many steps of a derivation are left.
-fn steps_left(part: Part, left: u64) -> Expect
+fn steps_left(part: TextPart, left: u64) -> Expect
     ensures { result ≡ steps_left part left }
 {
     if left > 0 {
         return Expect::StepLine(part, left - 1);
     }
     match part {
-        Part::First => Expect::StepsCount(Part::Next),
-        Part::Next => Expect::StepsCount(Part::Bad),
-        Part::Bad => Expect::End,
+        TextPart::First => Expect::StepsCount(TextPart::Next),
+        TextPart::Next => Expect::StepsCount(TextPart::Bad),
+        TextPart::Bad => Expect::End,
     }
 }

@@ -1,16 +1,15 @@
 //! A certificate's text read line by line.
 //!
 //! The main function is [`read`]. It gives line after line to `reading`, and a text is whole where none is missing at its end.
-
 ghost use Rattle.std.specs.Prelude.{◌≡◌, ◌≢◌, ℕ, IfOk, IfErr, IsErrOf};
 ghost use Rattle.cert_laws.specs.CertificateText.{SpellsCertificate, IsBadLine, EndsBefore};
-ghost use Rattle.cert_text.specs.Seen.{seen};
+ghost use Rattle.cert_text.specs.CertificateView.{seen};
 ghost use Rattle.cert_text.specs.Faults.{IsFaultOf};
 ghost use Rattle.cert_text.specs.declared.certificate.CertFault.TheVariants as fault;
 ghost use Rattle.cert_text.specs.declared.reading.Expect.TheVariants as expect;
 
 use crate::certificate::{CertFault, Certificate};
-use crate::reading::{Expect, Reading};
+use crate::reading::{CertificateReading, Expect};
 use base_values::first_line;
 use std::alloc::Global;
 
@@ -33,7 +32,7 @@ fn read_lines(alloc: Global, bytes: &[u8]) -> Result<Certificate, CertFault>
     ensures ok { IfOk result (λ c. SpellsCertificate bytes.now (seen c)) }
     ensures err { IfErr result (IsFaultOf bytes.now) }
 {
-    let mut reading = Reading::new(alloc);
+    let mut reading = CertificateReading::new(alloc);
     let mut rest = bytes;
     let mut number: u64 = 1;
     while let Some((line, after)) = first_line(rest) {
@@ -50,11 +49,11 @@ fn read_lines(alloc: Global, bytes: &[u8]) -> Result<Certificate, CertFault>
 }
 
 /// The certificate of all lines, where none is missing.
-fn finished(reading: Reading, number: u64) -> Result<Certificate, CertFault>
+fn finished(reading: CertificateReading, number: u64) -> Result<Certificate, CertFault>
     ensures ok { IfOk result (λ c. (reading.expect ≡ expect.NoLine) × (c ≡ reading.certificate)) }
     ensures err { IfErr result (λ f. (f ≡ fault.Ends number) × (reading.expect ≢ expect.NoLine)) }
 {
-    let Reading {
+    let CertificateReading {
         expect,
         trace: _,
         certificate,

@@ -1,7 +1,6 @@
 //! Lines cut into words: [`after_word`] and [`next_word`] cut a word off a line at its space.
-
 ghost use Rattle.std.specs.Prelude.{◌≡◌, [], MatchOption};
-ghost use Rattle.cert_text.specs.Cuts.{IsWordThen, LacksWord, IsAfterWord};
+ghost use Rattle.cert_text.specs.LineWords.{IsWordThen, LacksWord, IsAfterWord};
 
 use base_values::cut;
 

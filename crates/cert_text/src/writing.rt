@@ -1,13 +1,13 @@
 //! A certificate written.
 //!
 //! The main function is [`write`]. Each part of a certificate has a function that appends its lines, by the `pieces` below.
-
 ghost use Rattle.std.specs.Prelude.{◌≡◌, [], ◌∷◌, ◌++◌, IfOk, OnOk, codes, map};
 ghost use Rattle.std.specs.Fmt.{decimal};
 ghost use Rattle.cut_text_laws.specs.Lines.{fed};
-ghost use Rattle.cert_laws.specs.CertificateText.{IsWritable, SpellsCertificate, version_two, lines_of, set_lines, clause_line, step_line, part_lines};
+ghost use Rattle.cert_laws.specs.CertificateText.{IsWritable, SpellsCertificate, version_two, lines_of, set_lines, clause_line, step_line};
+ghost use Rattle.cert_laws.specs.CertificateText.{part_lines};
 ghost use Rattle.cert_text.specs.Pieces.{head_text, traced_lines, listed_lines, invariant_lines, derived_lines};
-ghost use Rattle.cert_text.specs.Seen.{seen};
+ghost use Rattle.cert_text.specs.CertificateView.{seen};
 
 use crate::certificate::Certificate;
 use crate::line_list::LineList;
@@ -59,7 +59,8 @@ fn append_faults_and_size(
     text: &mut ByteList,
     c: &Certificate,
 ) -> Result<(), OutOfMemory>
-    ensures { OnOk result (text.new ≡ text.old ++ (codes " faults " ++ (decimal c.now.faults ++ (codes " size " ++ (decimal c.now.size ++ 10 ∷ []))))) }
+    ensures { OnOk result (text.new
+        ≡ text.old ++ (codes " faults " ++ (decimal c.now.faults ++ (codes " size " ++ (decimal c.now.size ++ 10 ∷ []))))) }
 {
     append_named(alloc, text, b" faults ", c.faults)?;
     append_named(alloc, text, b" size ", c.size)?;

@@ -6,8 +6,8 @@ use Rattle.std.proofs.lemmas.List.Elements.{All-contains, Contains-get_or}
 use Rattle.sat_clauses.specs.Literal.{Literal}
 use Rattle.sat_clauses.specs.declared.system.System.{System}
 use Rattle.cut_frames.specs.Chain.{state_values, InFrame, Stands}
-use Rattle.cut_frames.specs.Framed.{frame_at, IsFramed, AreStronger, HasEqualNeighbours, IsInductive, ArePushed}
-use Rattle.cut_frames.specs.Growing.{Keeps}
+use Rattle.cut_frames.specs.FrameLists.{frame_at, IsFramed, AreStronger, HasEqualNeighbours, IsInductive, ArePushed}
+use Rattle.cut_frames.specs.FrontierGrowth.{Keeps}
 use Rattle.cut_frames.specs.Advance.{IsFixed, IsFurther}
 use Rattle.cut_frames.specs.Levels.{standing_in, frames_from, frames_of, held_at, IsLevelled, IsEmptyLevel, IsFilledLevel, AreFilledBelow, AreLevelsPushed}
 use Rattle.cut_frames.specs.declared.levels.Held.{Held}

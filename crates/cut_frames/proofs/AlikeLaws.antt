@@ -8,7 +8,7 @@ use Rattle.sat_clauses.specs.Models.{TotalAssignment, clause_value}
 use Rattle.sat_clauses.proofs.ModelLemmas.{Satisfies-from_All}
 use Rattle.sat_clauses.proofs.ClauseLists.{member_true}
 use Rattle.base_values.proofs.ListLaws.{all_from}
-use Rattle.cut_frames.specs.Guarding.{Meets, MeetAlike}
+use Rattle.cut_frames.specs.GuardedSearch.{Meets, MeetAlike}
 
 -- a clause over the places is what these make it
 clause_same : (p : ℕ) (v w : TotalAssignment) (c : List Literal) → ((x : ℕ) → x ≤ p → v x ≡ w x) → All (IsUpTo p) c → clause_value v c ≡ clause_value w c

@@ -1,7 +1,7 @@
 -- How many patterns of n truth values pass a test.
 use Rattle.std.proofs.Common.{◌≡◌, ◌≤◌, ◌<◌, ℕ, zero, suc, ◌+◌, ◌^◌, Bool, true, false, List, [], ◌∷◌, refl, sym, ◌∙◌, arith, length, ◌⊎◌, inl, inr}
 use Rattle.std.proofs.lemmas.Bool.{cases_lt}
-use Rattle.cut_frames.specs.Counted.{one_if, count}
+use Rattle.cut_frames.specs.StatesLeft.{one_if, count}
 
 pub twice : (n : ℕ) → 2 ^ suc n ≡ 2 ^ n + 2 ^ n
 twice n = grind arith

@@ -7,10 +7,10 @@ use Rattle.sat_clauses.specs.Models.{TotalAssignment, clause_value, all_true}
 use Rattle.sat_clauses.specs.declared.system.System.{System}
 use Rattle.cut_frames.specs.Chain.{State, state_values, IsFirstState, IsStepOf, Makes, InFrame, IsOverBits, IsPart, Stands}
 use Rattle.sat_clauses.specs.Hints.{HasNoOpposites}
-use Rattle.cut_frames.specs.Framed.{frame_at, IsFramed, InNumber, AreStronger, ArePushed, IsInductive, HasEqualNeighbours}
-use Rattle.cut_frames.specs.Growing.{IsOpenChain}
+use Rattle.cut_frames.specs.FrameLists.{frame_at, IsFramed, InNumber, AreStronger, ArePushed, IsInductive, HasEqualNeighbours}
+use Rattle.cut_frames.specs.FrontierGrowth.{IsOpenChain}
 use Rattle.cut_frames.specs.Levels.{HasGained}
-use Rattle.cut_frames.specs.Numbered.{AreNumbered}
+use Rattle.cut_frames.specs.FramesByNumber.{AreNumbered}
 use Rattle.sat_clauses.proofs.ClauseLists.{covered_true}
 use Rattle.cut_frames.proofs.Sets.{stands_itself}
 use Rattle.cut_frames.proofs.Short.{all_from_members, member_true, subset_true, standing_true}

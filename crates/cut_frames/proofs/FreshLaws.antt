@@ -7,9 +7,9 @@ use Rattle.std.proofs.lemmas.List.Elements.{Contains-append_left, Contains-appen
 use Rattle.sat_clauses.specs.Literal.{Literal}
 use Rattle.sat_clauses.specs.declared.system.System.{System}
 use Rattle.cut_frames.specs.Chain.{IsOverBits}
-use Rattle.cut_frames.specs.Framed.{frame_at}
+use Rattle.cut_frames.specs.FrameLists.{frame_at}
 use Rattle.cut_frames.specs.Guards.{Layout, IsHeld, of_list, of_frame, of_next, of_retired, IsCovered, IsUnder, AreHeld, IsPut}
-use Rattle.cut_frames.specs.Guarding.{IsHolding, added_in, guard_of, guard_at}
+use Rattle.cut_frames.specs.GuardedSearch.{IsHolding, added_in, guard_of, guard_at}
 use Rattle.cut_frames.specs.Levels.{standing_in, frames_from, IsLevelled}
 use Rattle.cut_frames.specs.declared.levels.Held.{Held}
 use Rattle.cut_frames.specs.declared.levels.Levels.{Levels}

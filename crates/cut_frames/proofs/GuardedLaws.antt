@@ -5,11 +5,11 @@ use Rattle.std.proofs.lemmas.List.{get_or_append_left, get_or-append_right, appe
 use Rattle.std.proofs.lemmas.List.Elements.{All-cons, All-nil, All-head, All-tail}
 use Rattle.sat_clauses.specs.Literal.{Literal, plain, opposite}
 use Rattle.sat_clauses.specs.Derivation.{IsUpTo}
-use Rattle.sat_solver.specs.Kept.{added_of}
+use Rattle.sat_solver.specs.LearnedClauses.{added_of}
 use Rattle.sat_clauses.specs.declared.system.System.{System}
 use Rattle.cut_frames.specs.Roles.{Listed, first, step, bad, Role, renamed, renamed_literal, renamed_clause, under_guard, under_list}
 use Rattle.cut_frames.specs.Guards.{Layout, AreHeld, guards_next}
-use Rattle.cut_frames.specs.Guarding.{places_of, added_in, IsGuardIn, IsWell, HasSameGuards, HasPut, HasWidened, HasNewBad, HasNewFrame, IsEmpty, HasRoomFor, guard_at, guard_of, lists_of, MeetAlike, IsHolding, HasAsked, TakesBad, Puts, Grows, BeginsAgain}
+use Rattle.cut_frames.specs.GuardedSearch.{places_of, added_in, IsGuardIn, IsWell, HasSameGuards, HasPut, HasWidened, HasNewBad, HasNewFrame, IsEmpty, HasRoomFor, guard_at, guard_of, lists_of, MeetAlike, IsHolding, HasAsked, TakesBad, Puts, Grows, BeginsAgain}
 use Rattle.cut_frames.specs.declared.guarded.Guarded.{Guarded}
 use Rattle.cut_frames.proofs.RoleLaws.{order, renamed_low, renamed_high}
 use Rattle.cut_frames.proofs.GuardedSteps.{equal_most, guard_raised, guards_raised, put_none, put_both}

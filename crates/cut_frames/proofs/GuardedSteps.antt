@@ -6,10 +6,10 @@ use Rattle.std.proofs.lemmas.List.Elements.{All-append, All-nil, All-cons}
 use Rattle.sat_clauses.specs.Literal.{Literal, plain, opposite}
 use Rattle.sat_clauses.specs.declared.step.Step.{Step}
 use Rattle.sat_solver.specs.KeptRecord.{KeptValue}
-use Rattle.sat_solver.specs.Kept.{added_of, HasLearned}
+use Rattle.sat_solver.specs.LearnedClauses.{added_of, HasLearned}
 use Rattle.sat_solver.specs.Search.{with_steps}
 use Rattle.sat_solver.proofs.KeptLemmas.{length_with_steps}
-use Rattle.cut_frames.specs.Guarding.{added_in, IsGuardIn, IsWell, HasSameGuards, HasPut, HasWidened, HasNewBad, HasNewFrame}
+use Rattle.cut_frames.specs.GuardedSearch.{added_in, IsGuardIn, IsWell, HasSameGuards, HasPut, HasWidened, HasNewBad, HasNewFrame}
 use Rattle.cut_frames.specs.declared.guarded.Guarded.{Guarded}
 
 -- a clause that was added stands at the end of those that were added

@@ -10,16 +10,16 @@ use Rattle.sat_clauses.specs.Models.{TotalAssignment, literal_value, clause_valu
 use Rattle.sat_clauses.proofs.ModelLemmas.{Satisfies-from_All}
 use Rattle.sat_clauses.specs.Derivation.{IsUpTo}
 use Rattle.sat_clauses.specs.Hints.{HasNoOpposites, LacksOpposite}
-use Rattle.sat_solver.specs.Kept.{IsRefuted}
+use Rattle.sat_solver.specs.LearnedClauses.{IsRefuted}
 use Rattle.sat_solver.specs.Search.{IsSolution}
 use Rattle.sat_solver.specs.declared.solve.Verdict.TheVariants.{Sat, Unsat}
 use Rattle.sat_clauses.specs.declared.system.System.{System}
 use Rattle.cut_frames.specs.Bits.{values_of}
-use Rattle.cut_frames.specs.Framed.{frame_at}
+use Rattle.cut_frames.specs.FrameLists.{frame_at}
 use Rattle.cut_frames.specs.Roles.{Listed, first, step, bad, list_guard}
 use Rattle.cut_frames.specs.Roles as roles
 use Rattle.cut_frames.specs.Guards.{Layout, IsCovered, IsCoveredUpTo, unguarded}
-use Rattle.cut_frames.specs.Guarding.{Meets, places_of, MeetsFrame, MeetsBeside, added_in, IsGuardIn, IsWell, asked_guards, guard_at, guard_of, Tells}
+use Rattle.cut_frames.specs.GuardedSearch.{Meets, places_of, MeetsFrame, MeetsBeside, added_in, IsGuardIn, IsWell, asked_guards, guard_at, guard_of, Tells}
 use Rattle.cut_frames.specs.declared.guarded.Beside.{Beside}
 use Rattle.cut_frames.specs.declared.guarded.Beside.TheVariants.{Nothing, Step, Bad}
 use Rattle.cut_frames.specs.declared.guarded.Guarded.{Guarded}

@@ -8,11 +8,11 @@ use Rattle.sat_clauses.specs.Models.{TotalAssignment, literal_value, clause_valu
 use Rattle.sat_clauses.proofs.ModelLemmas.{clause_value-same, literal_value-same, Satisfies-from_All, literal_value-opposite}
 use Rattle.sat_clauses.specs.Derivation.{IsUpTo}
 use Rattle.cut_frames.specs.Chain.{IsPart}
-use Rattle.cut_frames.specs.Framed.{frame_at}
+use Rattle.cut_frames.specs.FrameLists.{frame_at}
 use Rattle.cut_frames.specs.Roles.{Listed, place, list_guard, gate, retired, renamed, renamed_clause, under_guard}
 use Rattle.cut_frames.specs.Roles as roles
 use Rattle.cut_frames.specs.Guards.{guards_next, IsCoveredUpTo, Layout, IsHeld, of_list, of_frame, of_next, of_retired, AreHeld, unguarded}
-use Rattle.cut_frames.specs.Guarding.{Meets}
+use Rattle.cut_frames.specs.GuardedSearch.{Meets}
 use Rattle.cut_frames.proofs.Sets.{from_member, true_member}
 use Rattle.cut_frames.proofs.RoleLaws.{order, first_in, later_in, renamed_low, renamed_high, renamed_value, unguards, unasked, anyway, Asked, spread, spread_at}
 use Rattle.sat_clauses.proofs.ClauseLists.{member_true, covered_true}

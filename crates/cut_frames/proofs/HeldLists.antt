@@ -5,7 +5,7 @@ use Rattle.std.proofs.lemmas.Bool.{le-leb, lt-leb}
 use Rattle.std.proofs.lemmas.List.Elements.{All-contains, Contains-append_left, Contains-append_right, Contains-append_cases}
 use Rattle.sat_clauses.specs.Literal.{Literal, plain, opposite}
 use Rattle.sat_clauses.specs.Derivation.{IsUpTo}
-use Rattle.cut_frames.specs.Framed.{frame_at}
+use Rattle.cut_frames.specs.FrameLists.{frame_at}
 use Rattle.cut_frames.specs.Roles.{Listed, first, step, bad, Role, place, list_guard, gate, retired, unused, renamed_clause, under_guard, under_list}
 use Rattle.cut_frames.specs.Roles as roles
 use Rattle.cut_frames.specs.Guards.{guards_next, Layout, IsHeld, of_list, of_frame, of_next, of_retired, IsUnder, AreHeld}

@@ -7,7 +7,7 @@ use Rattle.sat_clauses.specs.Literal.{Literal}
 use Rattle.sat_clauses.specs.Derivation.{IsUpTo}
 use Rattle.cut_frames.specs.Roles.{Listed, first, step, bad, gate, renamed_clause, under_guard}
 use Rattle.cut_frames.specs.Guards.{guards_next, Layout, IsHeld, of_list, of_frame, of_next, of_retired, IsUnder, AreHeld}
-use Rattle.cut_frames.specs.Guarding.{HasPut, IsWell, places_of, guard_of, guard_at, added_in, AddsBad}
+use Rattle.cut_frames.specs.GuardedSearch.{HasPut, IsWell, places_of, guard_of, guard_at, added_in, AddsBad}
 use Rattle.cut_frames.specs.declared.guarded.Guarded.{Guarded}
 use Rattle.cut_frames.proofs.RoleLaws.{renamed_low}
 use Rattle.cut_frames.proofs.AnswerLemmas.{all_raised}

@@ -7,7 +7,7 @@ use Rattle.std.proofs.lemmas.List.Elements.{Contains-push, Contains-push_cases, 
 use Rattle.sat_clauses.specs.Literal.{Literal, plain, opposite}
 use Rattle.sat_clauses.specs.Derivation.{IsUpTo}
 use Rattle.cut_frames.specs.Chain.{IsPart}
-use Rattle.cut_frames.specs.Framed.{frame_at}
+use Rattle.cut_frames.specs.FrameLists.{frame_at}
 use Rattle.cut_frames.specs.Roles.{Listed, bad, Role, place, list_guard, gate, retired, unused, renamed_clause, under_guard}
 use Rattle.cut_frames.specs.Roles as roles
 use Rattle.cut_frames.specs.Guards.{guards_next, IsCovered, IsCoveredUpTo, IsOld, IsPut, Layout, IsHeld, of_list, of_frame, of_next, of_retired, IsUnder, AreHeld}

@@ -8,8 +8,8 @@ use Rattle.sat_clauses.specs.declared.system.System.{System}
 use Rattle.sat_clauses.specs.Models.{clause_value}
 use Rattle.sat_clauses.specs.Hints.{HasNoOpposites}
 use Rattle.cut_frames.specs.Chain.{State, state_values, IsStepOf, Makes, InFrame, IsOverBits}
-use Rattle.cut_frames.specs.Framed.{frame_at, InNumber, AreStronger, IsInductive}
-use Rattle.cut_frames.specs.Lasting.{AreImplied, AreLasting}
+use Rattle.cut_frames.specs.FrameLists.{frame_at, InNumber, AreStronger, IsInductive}
+use Rattle.cut_frames.specs.LastingClauses.{AreImplied, AreLasting}
 use Rattle.cut_frames.specs.Levels.{frames_of, with_clause, IsLevelled, HasGained}
 use Rattle.cut_frames.specs.declared.lasting.Lasting.{Lasting}
 use Rattle.cut_frames.specs.declared.levels.Held.{Held}

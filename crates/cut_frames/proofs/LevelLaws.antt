@@ -6,7 +6,7 @@ use Rattle.std.proofs.lemmas.List.{length-set, get_or-set_same, get_or-set_other
 use Rattle.std.proofs.lemmas.List.Elements.{All-head, All-tail}
 use Rattle.sat_clauses.specs.Literal.{Literal}
 use Rattle.cut_frames.specs.Chain.{IsPart}
-use Rattle.cut_frames.specs.Framed.{frame_at}
+use Rattle.cut_frames.specs.FrameLists.{frame_at}
 use Rattle.cut_frames.specs.Guards.{IsPut}
 use Rattle.cut_frames.specs.Levels.{standing_in, frames_from, frames_of, HasGained}
 use Rattle.cut_frames.specs.declared.levels.Held.{Held}

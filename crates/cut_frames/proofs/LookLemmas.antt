@@ -9,13 +9,13 @@ use Rattle.sat_clauses.specs.Models.{TotalAssignment, literal_value, clause_valu
 use Rattle.sat_clauses.specs.declared.system.System.{System}
 use Rattle.cut_frames.specs.Chain.{State, Agrees, state_values, IsState, IsFirstState, IsStepOf, IsBad, Makes, IsOverBits}
 use Rattle.cut_frames.specs.Condition.{IsFit, IsOverNow}
-use Rattle.cut_frames.specs.Framed.{frame_at, InNumber, IsFramed, IsClear}
+use Rattle.cut_frames.specs.FrameLists.{frame_at, InNumber, IsFramed, IsClear}
 use Rattle.cut_frames.specs.Bits.{literal_for, literals_from, values_of, read_from, joined, moved_back}
-use Rattle.cut_frames.specs.Guarding.{places_of}
-use Rattle.sat_simplify.specs.Meeting.{IsMet}
-use Rattle.cut_frames.specs.Apart.{IsMetFrame, IsFound, IsExcluded}
+use Rattle.cut_frames.specs.GuardedSearch.{places_of}
+use Rattle.sat_simplify.specs.SamePlaces.{IsMet}
+use Rattle.cut_frames.specs.OwnVariables.{IsMetFrame, IsFound, IsExcluded}
 use Rattle.cut_frames.specs.declared.guarded.Beside.TheVariants.{Nothing, Step, Bad}
-use Rattle.cut_frames.specs.Looked.{Blocks}
+use Rattle.cut_frames.specs.ClearLooks.{Blocks}
 use Rattle.cut_frames.specs.Path.{Gives, Leads, IsStepUnder, IsStateMoment, IsStepMoment, state_in, inputs_in}
 use Rattle.cut_frames.proofs.MomentLemmas.{taken_read, taken_gives}
 use Rattle.cut_frames.proofs.Framing.{all_members}

@@ -8,10 +8,10 @@ use Rattle.sat_clauses.specs.Assignment.{Assignment}
 use Rattle.sat_clauses.specs.Literal.{Literal}
 use Rattle.sat_clauses.specs.declared.system.System.{System}
 use Rattle.cut_frames.specs.Chain.{State, IsFirstState, IsBad, InFrame}
-use Rattle.cut_frames.specs.Framed.{frame_at, InNumber, IsFramed, IsClear, AreStronger}
+use Rattle.cut_frames.specs.FrameLists.{frame_at, InNumber, IsFramed, IsClear, AreStronger}
 use Rattle.cut_frames.specs.Path.{Gives, Leads, IsPath, AreOwed, state_in}
-use Rattle.cut_frames.specs.Counted.{states_left, work_left}
-use Rattle.cut_frames.specs.Looked.{Blocks, IsLook, IsStepLook}
+use Rattle.cut_frames.specs.StatesLeft.{states_left, work_left}
+use Rattle.cut_frames.specs.ClearLooks.{Blocks, IsLook, IsStepLook}
 use Rattle.cut_frames.specs.declared.clear.Look.{Look}
 use Rattle.cut_frames.specs.declared.clear.Look.TheVariants.{Nothing, IsFirst, Deeper, Blocked}
 use Rattle.cut_frames.specs.Levels.{frames_from, frames_of, with_clause, HasGained, IsLevelled}

@@ -14,11 +14,11 @@ use Rattle.sat_clauses.proofs.ModelLemmas.{literal_value-opposite}
 use Rattle.sat_clauses.specs.Derivation.{IsUpTo}
 use Rattle.cut_frames.specs.Chain.{State, state_values, IsState, IsFirstState, IsOverBits}
 use Rattle.cut_frames.specs.Condition.{IsFit}
-use Rattle.cut_frames.specs.Framed.{InNumber, IsFramed}
+use Rattle.cut_frames.specs.FrameLists.{InNumber, IsFramed}
 use Rattle.cut_frames.specs.Bits.{against_next, moved_on, moved_back, joined, literal_for, literals_from}
-use Rattle.cut_frames.specs.Apart.{IsExcluded, IsKept, apart_system, apart_list}
-use Rattle.cut_frames.specs.Guarding.{HasAsked, places_of}
-use Rattle.cut_frames.specs.Looked.{Blocks}
+use Rattle.cut_frames.specs.OwnVariables.{IsExcluded, IsKept, apart_system, apart_list}
+use Rattle.cut_frames.specs.GuardedSearch.{HasAsked, places_of}
+use Rattle.cut_frames.specs.ClearLooks.{Blocks}
 use Rattle.cut_frames.specs.declared.guarded.Guarded.{Guarded}
 use Rattle.cut_frames.specs.Parts.{IsPart, IsOfFirst, IsAfter, IsAgreed, AreAgreed, MayStand, HoldsFrames, IsAskable}
 use Rattle.cut_frames.specs.declared.guarded.Beside.TheVariants.{Nothing, Step}

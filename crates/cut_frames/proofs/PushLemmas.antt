@@ -13,9 +13,9 @@ use Rattle.sat_clauses.specs.declared.system.System.{System}
 use Rattle.cut_frames.specs.Bits.{values_of, read_from, against_next, moved_on}
 use Rattle.cut_frames.specs.Chain.{State, Agrees, state_values, IsStepOf, IsOverBits, InFrame}
 use Rattle.cut_frames.specs.Condition.{IsFit}
-use Rattle.cut_frames.specs.Framed.{frame_at, InNumber, IsFramed, AreStronger}
-use Rattle.cut_frames.specs.Growing.{Keeps}
-use Rattle.cut_frames.specs.Apart.{IsFound, IsExcluded}
+use Rattle.cut_frames.specs.FrameLists.{frame_at, InNumber, IsFramed, AreStronger}
+use Rattle.cut_frames.specs.FrontierGrowth.{Keeps}
+use Rattle.cut_frames.specs.OwnVariables.{IsFound, IsExcluded}
 use Rattle.cut_frames.specs.declared.guarded.Beside.TheVariants.{Step}
 use Rattle.cut_frames.specs.Levels.{standing_in, frames_of, held_at, IsLevelled, HasMoved, IsStuck, IsLevelPushed, AreLevelsPushed, IsFilledLevel, AreFilledBelow}
 use Rattle.cut_frames.specs.declared.levels.Held.{Held}

@@ -7,7 +7,7 @@ use Rattle.sat_clauses.specs.Derivation.{IsUpTo}
 use Rattle.sat_clauses.specs.Hints.{HasNoOpposites, LacksOpposite}
 use Rattle.cut_frames.specs.Chain.{State, IsOverBits}
 use Rattle.sat_clauses.specs.declared.system.System.{System}
-use Rattle.cut_frames.specs.Guarding.{places_of}
+use Rattle.cut_frames.specs.GuardedSearch.{places_of}
 use Rattle.cut_frames.specs.Bits.{literal_for, literals_from, against_next, moved_on}
 use Rattle.cut_frames.proofs.BitLemmas.{literal_found}
 use Rattle.cut_frames.proofs.PushLemmas.{from_map}

@@ -6,7 +6,7 @@ use Rattle.sat_clauses.specs.Literal.{Literal}
 use Rattle.sat_clauses.specs.Models.{TotalAssignment, clause_value, all_true}
 use Rattle.sat_clauses.specs.declared.system.System.{System}
 use Rattle.cut_frames.specs.Chain.{InFrame, IsFrame, IsChain, ChainsAreShort, Stands}
-use Rattle.cut_frames.specs.Counted.{count, passes}
+use Rattle.cut_frames.specs.StatesLeft.{count, passes}
 use Rattle.cut_frames.proofs.Count.{Within, count_back, count_bound}
 use Rattle.sat_clauses.proofs.ClauseLists.{covered_true}
 

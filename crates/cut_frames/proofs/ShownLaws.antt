@@ -10,16 +10,16 @@ use Rattle.sat_clauses.specs.Assignment.{Assignment}
 use Rattle.sat_clauses.specs.Models.{TotalAssignment, clause_value, all_true}
 use Rattle.sat_clauses.specs.declared.system.System.{System}
 use Rattle.cut_frames.specs.Chain.{State}
-use Rattle.cut_frames.specs.Framed.{frame_at, IsFramed}
-use Rattle.cut_frames.specs.Growing.{Keeps}
+use Rattle.cut_frames.specs.FrameLists.{frame_at, IsFramed}
+use Rattle.cut_frames.specs.FrontierGrowth.{Keeps}
 use Rattle.cut_frames.specs.Bits.{values_of, read_from}
-use Rattle.cut_frames.specs.Apart.{IsFound}
+use Rattle.cut_frames.specs.OwnVariables.{IsFound}
 use Rattle.cut_frames.specs.Levels.{frames_of, standing_in, HasMoved}
 use Rattle.cut_frames.specs.declared.guarded.Beside.TheVariants.{Step}
 use Rattle.cut_frames.specs.declared.levels.Held.{Held}
 use Rattle.cut_frames.specs.declared.levels.Levels.{Levels}
 use Rattle.cut_frames.specs.declared.shown.Seen.{Seen}
-use Rattle.cut_frames.specs.Shown.{bits_of, breaks, shows, is_true_at, is_hit, counts, IsSeen, IsShown}
+use Rattle.cut_frames.specs.KnownSteps.{bits_of, breaks, shows, is_true_at, is_hit, counts, IsSeen, IsShown}
 use Rattle.cut_frames.proofs.BitLemmas.{agrees_read, length_read}
 use Rattle.cut_frames.proofs.Framing.{in_list}
 use Rattle.cut_frames.proofs.LevelLaws.{stands, stands_not, frame_is}

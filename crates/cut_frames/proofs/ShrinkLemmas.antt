@@ -12,9 +12,9 @@ use Rattle.sat_clauses.proofs.ModelLemmas.{literal_value-opposite}
 use Rattle.sat_clauses.proofs.FalseLemmas.{opposite-opposite}
 use Rattle.cut_frames.specs.Chain.{State, state_values, IsOverBits}
 use Rattle.cut_frames.specs.Condition.{IsFit}
-use Rattle.cut_frames.specs.Framed.{InNumber, IsFramed}
+use Rattle.cut_frames.specs.FrameLists.{InNumber, IsFramed}
 use Rattle.cut_frames.specs.Bits.{values_of, read_from}
-use Rattle.cut_frames.specs.Apart.{IsFound, IsExcluded}
+use Rattle.cut_frames.specs.OwnVariables.{IsFound, IsExcluded}
 use Rattle.cut_frames.specs.Path.{IsStateMoment, state_in}
 use Rattle.cut_frames.specs.Parts.{IsPart}
 use Rattle.cut_frames.specs.Minimal.{IsPlain, IsWithin, given_up, IsNeeded, IsMinimal}

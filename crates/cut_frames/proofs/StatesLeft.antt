@@ -4,8 +4,8 @@ use Rattle.std.specs.Prelude.{slice_index_or, Contains}
 use Rattle.sat_clauses.specs.Literal.{Literal}
 use Rattle.sat_clauses.specs.Models.{TotalAssignment, clause_value, all_true}
 use Rattle.cut_frames.specs.Chain.{State}
-use Rattle.cut_frames.specs.Framed.{frame_at}
-use Rattle.cut_frames.specs.Counted.{passes, states_left}
+use Rattle.cut_frames.specs.FrameLists.{frame_at}
+use Rattle.cut_frames.specs.StatesLeft.{passes, states_left}
 use Rattle.cut_frames.proofs.Count.{Within, count_mono, count_less}
 use Rattle.cut_frames.proofs.Short.{member_true}
 

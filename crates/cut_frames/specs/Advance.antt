@@ -3,8 +3,8 @@ use Rattle.std.specs.Prelude.{◌-◌, List, drop, length}
 use Rattle.sat_clauses.specs.Literal.{Literal}
 use Rattle.sat_clauses.specs.declared.system.System.{System}
 use Rattle.cut_frames.specs.Chain.{State, InFrame}
-use Rattle.cut_frames.specs.Framed.{frame_at, IsInductive, HasEqualNeighbours}
-use Rattle.cut_frames.specs.Growing.{IsOpenChain}
+use Rattle.cut_frames.specs.FrameLists.{frame_at, IsInductive, HasEqualNeighbours}
+use Rattle.cut_frames.specs.FrontierGrowth.{IsOpenChain}
 use Rattle.cut_frames.specs.declared.advance.Advanced.{Advanced}
 use Rattle.cut_frames.specs.declared.advance.Advanced.TheVariants.{Further, Fixed}
 

@@ -30,7 +30,8 @@ module _ (system : System) where
   pub record IsChain (bad : List (List Literal)) (frames : List (List (List Literal))) : Type 0 where
     pub over_bits : All (All (IsOverBits system)) frames
     pub first : (frame : List (List Literal)) (s : State) → IsFrame frames 1 frame → IsFirstState system s → InFrame system frame s
-    pub after_first : (frame : List (List Literal)) (s t : State) → IsFrame frames 1 frame → IsFirstState system s → IsStepOf system s t → InFrame system frame t
+    pub after_first : (frame : List (List Literal)) (s t : State) → IsFrame frames 1 frame → IsFirstState system s → IsStepOf system s t →
+        InFrame system frame t
     pub advances : (i : ℕ) (frame next : List (List Literal)) (s t : State) → IsFrame frames i frame → IsFrame frames (i + 1) next →
         InFrame system frame s → IsStepOf system s t → InFrame system next t
     pub shrinks : (i : ℕ) (frame next : List (List Literal)) → IsFrame frames i frame → IsFrame frames (i + 1) next →
@@ -38,8 +39,10 @@ module _ (system : System) where
     pub loses : (i : ℕ) (frame next : List (List Literal)) → IsFrame frames i frame → IsFrame frames (i + 1) next →
         (c : List Literal) × Contains frame c × (Stands next c → ⊥)
     pub pushed : (i : ℕ) (frame next : List (List Literal)) → IsFrame frames i frame → IsFrame frames (i + 1) next →
-        (c : List Literal) → Contains frame c → ((s t : State) → InFrame system frame s → IsStepOf system s t → Makes system t c) → Stands next c
-    pub clear : (i : ℕ) (frame next : List (List Literal)) → IsFrame frames i frame → IsFrame frames (i + 1) next → (s : State) → InFrame system frame s → IsBad system bad s → ⊥
+        (c : List Literal) → Contains frame c → ((s t : State) → InFrame system frame s → IsStepOf system s t → Makes system t c) →
+        Stands next c
+    pub clear : (i : ℕ) (frame next : List (List Literal)) → IsFrame frames i frame → IsFrame frames (i + 1) next → (s : State) →
+        InFrame system frame s → IsBad system bad s → ⊥
 
 -- there is a chain of k frames
 abbrev pub HasChain : System → List (List Literal) → ℕ → Type 0

@@ -3,10 +3,10 @@ use Rattle.std.specs.Prelude.{◌≡◌, false, All}
 use Rattle.cut_frames.specs.FramesRecord.{FramesValue}
 use Rattle.cut_frames.specs.Condition.{IsFit, IsOverNow}
 use Rattle.cut_frames.specs.Levels.{frames_of, IsLevelled}
-use Rattle.cut_frames.specs.Apart.{IsKept}
+use Rattle.cut_frames.specs.OwnVariables.{IsKept}
 use Rattle.cut_frames.specs.Parts.{AreAgreed}
-use Rattle.cut_frames.specs.Lasting.{AreLasting}
-use Rattle.cut_frames.specs.Shown.{IsSeen}
+use Rattle.cut_frames.specs.LastingClauses.{AreLasting}
+use Rattle.cut_frames.specs.KnownSteps.{IsSeen}
 use Rattle.cut_frames.specs.declared.frames.Frames.TheInside.{Inside}
 
 -- what contracts see of its parts

@@ -5,7 +5,7 @@ use Rattle.std.specs.Prelude.{◌≡◌, ◌⊎◌, ℕ, suc, ◌+◌, ◌-◌, 
 use Rattle.sat_clauses.specs.Literal.{Literal, plain, opposite}
 use Rattle.sat_clauses.specs.Derivation.{IsUpTo}
 use Rattle.cut_frames.specs.Chain.{IsPart}
-use Rattle.cut_frames.specs.Framed.{frame_at}
+use Rattle.cut_frames.specs.FrameLists.{frame_at}
 use Rattle.cut_frames.specs.Roles.{Listed, Role, place, list_guard, gate, retired, unused, renamed_clause, under_guard}
 use Rattle.cut_frames.specs.Roles as roles
 
@@ -52,8 +52,10 @@ pub record Layout : Type 0 where
 -- An added clause is one of a list, renamed, under the list's guard; or one that the frames imply under a guard; or says that a guard
 -- implies the next; or holds since something is not asked about any more.
 pub data IsHeld (l : Layout) (d : List Literal) : Type 0 where
-  of_list : (which : Listed) (c : List Literal) → d ≡ under_guard (l.guard which) (renamed_clause l.places (l.base which) c) → Contains (l.list which) c → IsHeld l d
-  of_frame : (x j : ℕ) (c : List Literal) → d ≡ under_guard x c → l.role x ≡ roles.frame_guard j → 0 < j → IsCoveredUpTo l.frames j c → IsHeld l d
+  of_list : (which : Listed) (c : List Literal) → d ≡ under_guard (l.guard which) (renamed_clause l.places (l.base which) c) →
+      Contains (l.list which) c → IsHeld l d
+  of_frame : (x j : ℕ) (c : List Literal) → d ≡ under_guard x c → l.role x ≡ roles.frame_guard j → 0 < j → IsCoveredUpTo l.frames j c →
+      IsHeld l d
   of_next : (x y j : ℕ) → d ≡ guards_next x y → l.role x ≡ roles.frame_guard j → l.role y ≡ roles.frame_guard (suc j) → IsHeld l d
   of_retired : (x : ℕ) → Contains d (opposite (plain x)) → l.role x ≡ retired → IsHeld l d
 
@@ -74,7 +76,8 @@ pub record AreHeld (l : Layout) (vars : ℕ) (added : List (List Literal)) : Typ
   pub list_low : (which : Listed) (c : List Literal) → Contains (l.list which) c → All (IsUpTo (l.top which)) c
   pub frames_low : (i : ℕ) (c : List Literal) → 0 < i → Contains (frame_at l.frames i) c → All (IsUpTo l.places) c
   pub each : (d : List Literal) → Contains added d → IsHeld l d
-  pub has_list : (which : Listed) (c : List Literal) → Contains (l.list which) c → Contains added (under_guard (l.guard which) (renamed_clause l.places (l.base which) c))
+  pub has_list : (which : Listed) (c : List Literal) → Contains (l.list which) c →
+      Contains added (under_guard (l.guard which) (renamed_clause l.places (l.base which) c))
   pub has_frames : (i : ℕ) (c : List Literal) → 0 < i → Contains (frame_at l.frames i) c → IsUnder l added i c
   pub has_next : (j : ℕ) → 0 < j → suc j < length l.frames → Contains added (guards_next (l.guard_at j) (l.guard_at (suc j)))
 

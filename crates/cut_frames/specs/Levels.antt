@@ -1,11 +1,12 @@
 -- Frames by the number of the highest frame in which a clause holds: it is kept once, and stands in each frame up to that one.
-use Rattle.std.specs.Prelude.{◌≡◌, ◌≢◌, ◌⊎◌, ℕ, zero, suc, ◌+◌, ◌≤◌, ◌<◌, Bool, not, ◌&&◌, List, [], ◌∷◌, ◌++◌, All, Contains, filter, length, slice_index_or, nat_le, if◌then◌else◌}
+use Rattle.std.specs.Prelude.{◌≡◌, ◌≢◌, ◌⊎◌, ℕ, zero, suc, ◌+◌, ◌≤◌, ◌<◌, Bool, not, ◌&&◌, List, [], ◌∷◌, ◌++◌, All, Contains, filter}
+use Rattle.std.specs.Prelude.{length, slice_index_or, nat_le, if◌then◌else◌}
 use Rattle.sat_clauses.specs.Literal.{Literal}
 use Rattle.sat_simplify.specs.Resolution.{subsumes}
 use Rattle.sat_clauses.specs.declared.system.System.{System}
 use Rattle.cut_frames.specs.Chain.{IsPart}
-use Rattle.cut_frames.specs.Framed.{frame_at, IsFramed}
-use Rattle.cut_frames.specs.Growing.{Keeps, HasGrown}
+use Rattle.cut_frames.specs.FrameLists.{frame_at, IsFramed}
+use Rattle.cut_frames.specs.FrontierGrowth.{Keeps, HasGrown}
 use Rattle.cut_frames.specs.declared.levels.Held.{Held}
 use Rattle.cut_frames.specs.declared.levels.Levels.{Levels}
 

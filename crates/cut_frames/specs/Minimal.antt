@@ -4,7 +4,7 @@ use Rattle.sat_clauses.specs.Literal.{Literal, opposite}
 use Rattle.sat_clauses.specs.Models.{TotalAssignment, literal_value}
 use Rattle.sat_clauses.specs.declared.system.System.{System}
 use Rattle.cut_frames.specs.Chain.{State, state_values, IsBad}
-use Rattle.cut_frames.specs.Framed.{InNumber}
+use Rattle.cut_frames.specs.FrameLists.{InNumber}
 use Rattle.cut_frames.specs.Path.{state_in}
 use Rattle.cut_frames.specs.declared.clear.Look.{Look}
 use Rattle.cut_frames.specs.declared.clear.Look.TheVariants.{Deeper}
@@ -24,11 +24,13 @@ given_up v history = map opposite (filter (λ l. not (literal_value v l)) histor
 module _ (system : System) (bad : List (List Literal)) (frames : List (List (List Literal))) (history : List Literal) where
   -- the values make this literal true only if every bad state of the frame does that makes no other one true than they do
   abbrev pub IsNeeded : ℕ → TotalAssignment → Literal → Type 0
-  IsNeeded last v l = IsTrue (literal_value v l) → (t : State) → InNumber system frames last t → IsBad system bad t → IsWithin history (state_values system t) v → IsTrue (literal_value (state_values system t) l)
+  IsNeeded last v l = IsTrue (literal_value v l) → (t : State) → InNumber system frames last t → IsBad system bad t →
+      IsWithin history (state_values system t) v → IsTrue (literal_value (state_values system t) l)
 
   -- a bad state of the last frame that makes no literal true that this one doesn't make true makes all of its literals true
   abbrev pub IsMinimal : State → Type 0
-  IsMinimal s = (t : State) → InNumber system frames (length frames - 1) t → IsBad system bad t → IsWithin history (state_values system t) (state_values system s) →
+  IsMinimal s = (t : State) → InNumber system frames (length frames - 1) t → IsBad system bad t →
+      IsWithin history (state_values system t) (state_values system s) →
       IsWithin history (state_values system s) (state_values system t)
 
   -- a bad state that a look finds is such a one

@@ -5,8 +5,8 @@ use Rattle.sat_clauses.specs.Hints.{HasNoOpposites}
 use Rattle.sat_clauses.specs.declared.system.System.{System}
 pub use Rattle.cut_frames.specs.Chain.{IsPart}
 use Rattle.cut_frames.specs.Chain.{State, IsFirstState, IsStepOf, Makes, IsOverBits}
-use Rattle.cut_frames.specs.Framed.{InNumber}
-use Rattle.cut_frames.specs.Apart.{IsKept}
+use Rattle.cut_frames.specs.FrameLists.{InNumber}
+use Rattle.cut_frames.specs.OwnVariables.{IsKept}
 use Rattle.cut_frames.specs.declared.guarded.Guarded.{Guarded}
 
 module _ (system : System) where

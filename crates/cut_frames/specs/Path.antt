@@ -1,12 +1,13 @@
 -- Paths of a system, one assignment for each moment.
-use Rattle.std.specs.Prelude.{◌≡◌, ◌⊎◌, ℕ, suc, ◌+◌, ◌-◌, ◌*◌, ◌≤◌, ◌<◌, Bool, List, [], Some, None, IsSome, All, slice_get, slice_index_or, length}
+use Rattle.std.specs.Prelude.{◌≡◌, ◌⊎◌, ℕ, suc, ◌+◌, ◌-◌, ◌*◌, ◌≤◌, ◌<◌, Bool, List, [], Some, None, IsSome, All, slice_get, slice_index_or}
+use Rattle.std.specs.Prelude.{length}
 use Rattle.sat_clauses.specs.Literal.{Literal}
 use Rattle.sat_clauses.specs.Assignment.{Assignment}
 use Rattle.sat_clauses.specs.declared.system.System.{System}
 pub use Rattle.sat_clauses.specs.States.{IsStepUnder}
 use Rattle.cut_frames.specs.Bits.{values_of, read_from}
 use Rattle.cut_frames.specs.Chain.{State, IsFirstState, IsBad}
-use Rattle.cut_frames.specs.Framed.{InNumber}
+use Rattle.cut_frames.specs.FrameLists.{InNumber}
 
 -- each of the k variables from n on has a value
 abbrev pub Gives : ℕ → ℕ → Assignment → Type 0
@@ -49,7 +50,8 @@ module _ (system : System) where
     pub steps : (i : ℕ) → i + 1 < length path → Leads (slice_index_or path i []) (state_in (slice_index_or path (i + 1) []))
     pub ends_bad : IsBad system bad (state_in (slice_index_or path (length path - 1) []))
 
-  -- obligations, the oldest first: a bad state of the last frame, then each a state of the frame before, with a step to the one before it in the list
+  -- obligations, the oldest first: a bad state of the last frame, then each a state of the frame before, with a step to the one before it
+  -- in the list
   pub record AreOwed (bad : List (List Literal)) (frames : List (List (List Literal))) (owed : List Assignment) : Type 0 where
     pub fits : length owed ≤ length frames
     pub given : (p : ℕ) (a : Assignment) → slice_get owed p ≡ Some a → Gives 2 system.state_bits a

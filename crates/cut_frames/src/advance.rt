@@ -5,13 +5,14 @@ ghost use Rattle.std.specs.Prelude.{◌≡◌, ◌≤◌, ◌<◌, ◌+◌, leng
 ghost use Rattle.sat_clauses.specs.Hints.{HasNoOpposites};
 ghost use Rattle.cut_frames.specs.Condition.{IsFit, IsOverNow};
 ghost use Rattle.cut_frames.specs.Chain.{IsOverBits};
-ghost use Rattle.cut_frames.specs.Framed.{frame_at, AreStronger, ArePushed};
+ghost use Rattle.cut_frames.specs.FrameLists.{frame_at, AreStronger, ArePushed};
 ghost use Rattle.cut_frames.specs.Advance.{IsAdvanced};
-ghost use Rattle.cut_frames.specs.Apart.{IsKept};
-ghost use Rattle.cut_frames.specs.Growing.{DecidesKept};
-ghost use Rattle.cut_frames.specs.Lasting.{AreLasting};
-ghost use Rattle.cut_frames.specs.Shown.{IsSeen, IsShown};
-ghost use Rattle.cut_frames.specs.Levels.{frames_of, held_at, IsLevelled, HasMoved, IsStuck, IsLevelPushed, AreLevelsPushed, IsEmptyLevel, AreFilledBelow};
+ghost use Rattle.cut_frames.specs.OwnVariables.{IsKept};
+ghost use Rattle.cut_frames.specs.FrontierGrowth.{DecidesKept};
+ghost use Rattle.cut_frames.specs.LastingClauses.{AreLasting};
+ghost use Rattle.cut_frames.specs.KnownSteps.{IsSeen, IsShown};
+ghost use Rattle.cut_frames.specs.Levels.{frames_of, held_at, IsLevelled, HasMoved, IsStuck, IsLevelPushed, AreLevelsPushed, IsEmptyLevel};
+ghost use Rattle.cut_frames.specs.Levels.{AreFilledBelow};
 
 use crate::bits::{read, turn_next};
 use crate::fresh::freshen;

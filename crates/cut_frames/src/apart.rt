@@ -2,11 +2,11 @@
 //!
 //! The variables 0 and 1 of a list are its own, as those above states and inputs are. Numbered apart from these places, they are
 //! renamed where the list goes into a search with others. [`simpler_apart`] is the main function: the search needs only what a list
-//! says of the places, so it gets a simpler one that says the same (`MeetAlike` of `specs/Guarding.antt`).
+//! says of the places, so it gets a simpler one that says the same (`MeetAlike` of `specs/GuardedSearch.antt`).
 ghost use Rattle.std.specs.Prelude.{◌≡◌, ◌<◌, ◌^◌, IfOk, All};
 ghost use Rattle.cut_frames.specs.Condition.{IsLow};
-ghost use Rattle.cut_frames.specs.Guarding.{MeetAlike};
-ghost use Rattle.cut_frames.specs.Apart.{apart_literal, apart_clause, apart_list, IsNear};
+ghost use Rattle.cut_frames.specs.GuardedSearch.{MeetAlike};
+ghost use Rattle.cut_frames.specs.OwnVariables.{apart_literal, apart_clause, apart_list, IsNear};
 
 use base_values::OutOfMemory;
 use sat_clauses::clause::{Clause, ClauseList};

@@ -1,7 +1,7 @@
 //! The bad states that frames are asked about: a list that takes the place of the one before, and clauses that are added to it. A list
 //! stands in the search under a guard of its own, so a clause that is added is one clause more under that guard, and nothing is made anew.
 ghost use Rattle.std.specs.Prelude.{◌≡◌, ◌++◌, ◌∷◌, [], All, OnOk};
-ghost use Rattle.cut_frames.specs.Apart.{IsKept};
+ghost use Rattle.cut_frames.specs.OwnVariables.{IsKept};
 ghost use Rattle.cut_frames.specs.Chain.{IsOverBits};
 ghost use Rattle.cut_frames.specs.Condition.{IsOverNow};
 ghost use Rattle.cut_frames.specs.Levels.{frames_of};

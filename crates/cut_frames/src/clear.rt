@@ -7,15 +7,15 @@ ghost use Rattle.std.specs.Prelude.{◌≡◌, ◌≤◌, ◌<◌, ◌+◌, ◌-
 ghost use Rattle.sat_clauses.specs.Literal.{opposite};
 ghost use Rattle.cut_frames.specs.Bits.{literals_from, moved_back};
 ghost use Rattle.cut_frames.specs.Condition.{IsFit, IsOverNow};
-ghost use Rattle.cut_frames.specs.Guarding.{HasAsked};
+ghost use Rattle.cut_frames.specs.GuardedSearch.{HasAsked};
 ghost use Rattle.cut_frames.specs.Minimal.{IsPlain, FindsMinimal};
 ghost use Rattle.cut_frames.specs.Parts.{IsPart, IsOfFirst, IsAfter, AreAgreed, HoldsFrames};
-ghost use Rattle.cut_frames.specs.Framed.{AreStronger, InNumber};
+ghost use Rattle.cut_frames.specs.FrameLists.{AreStronger, InNumber};
 ghost use Rattle.cut_frames.specs.Levels.{frames_of, with_clause, IsLevelled};
-ghost use Rattle.cut_frames.specs.Looked.{Blocks, IsBadLook, IsStepLook, IsLook, IsCleared};
+ghost use Rattle.cut_frames.specs.ClearLooks.{Blocks, IsBadLook, IsStepLook, IsLook, IsCleared};
 ghost use Rattle.cut_frames.specs.Chain.{IsState, IsOverBits};
 ghost use Rattle.cut_frames.specs.Path.{AreOwed};
-ghost use Rattle.cut_frames.specs.Apart.{IsKept};
+ghost use Rattle.cut_frames.specs.OwnVariables.{IsKept};
 
 use crate::bits::{State, broken_by, join, literals, read, state_moment, step_moment};
 use crate::fresh::freshen;

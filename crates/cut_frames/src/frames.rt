@@ -8,12 +8,12 @@
 ghost use Rattle.std.specs.Prelude.{◌≡◌, ◌↔◌, IsTrue, ◌+◌, ◌∷◌, ◌++◌, [], IfOk, OnOk, OnErr, IsErr, All, true, false};
 ghost use Rattle.cut_frames.specs.Chain.{IsOverBits};
 ghost use Rattle.cut_frames.specs.Condition.{IsOverNow, IsFit};
-ghost use Rattle.cut_frames.specs.Framed.{AreStronger, ArePushed};
-ghost use Rattle.cut_frames.specs.Looked.{IsCleared};
+ghost use Rattle.cut_frames.specs.FrameLists.{AreStronger, ArePushed};
+ghost use Rattle.cut_frames.specs.ClearLooks.{IsCleared};
 ghost use Rattle.cut_frames.specs.Minimal.{IsPlain};
 ghost use Rattle.cut_frames.specs.Advance.{IsAdvanced};
 ghost use Rattle.cut_frames.specs.FramesRecord.{frontier};
-ghost use Rattle.cut_frames.specs.Numbered.{AreNumbered};
+ghost use Rattle.cut_frames.specs.FramesByNumber.{AreNumbered};
 
 use crate::advance::{Advanced, advance_frames};
 use crate::bad::{add_bad, take_bad};

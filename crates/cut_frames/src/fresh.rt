@@ -3,7 +3,7 @@
 //! makes one over what is alive: the lists of the system, the bad states that are asked about, and each clause of the frames once. So
 //! memory is in proportion to what is alive, and no question pays for what was learned long ago.
 ghost use Rattle.std.specs.Prelude.{◌≡◌, suc, [], ◌∷◌, All, IfOk, OnOk};
-ghost use Rattle.cut_frames.specs.Apart.{IsKept};
+ghost use Rattle.cut_frames.specs.OwnVariables.{IsKept};
 ghost use Rattle.cut_frames.specs.Condition.{IsFit, IsOverNow};
 ghost use Rattle.cut_frames.specs.Levels.{frames_from, frames_of, IsLevelled};
 

@@ -2,8 +2,8 @@
 //!
 //! A guard is a variable above those of states and inputs. The first states, the steps and the bad states that are
 //! asked about are made simpler (`src/apart.rt`) and stand in the search as `guard of the list -> clause`, with their gates
-//! renamed, so that those of two lists never meet. A clause that holds in the frames up to a number is kept once, as `guard of that frame ->
-//! clause`, and each guard implies the next frame's: so under the guard of a frame just its clauses have to hold.
+//! renamed, so that those of two lists never meet. A clause that holds in the frames up to a number is kept once, as `guard of that frame
+//! -> clause`, and each guard implies the next frame's: so under the guard of a frame just its clauses have to hold.
 //! The frame of number 0 is the list of the first states. Bad states and frames that are not asked about any more
 //! are retired: their guard is false from then on. What the search learns stays as long as it is of use, and a clause whose place in the
 //! frames another one took until the search is made anew ([`crate::fresh`]).
@@ -11,11 +11,12 @@ ghost use Rattle.std.specs.Prelude.{◌≡◌, ◌≤◌, ◌<◌, ◌+◌, ◌*
 ghost use Rattle.sat_clauses.specs.Literal.{opposite};
 ghost use Rattle.sat_clauses.specs.Derivation.{IsUpTo};
 ghost use Rattle.sat_clauses.specs.Hints.{HasNoOpposites};
-ghost use Rattle.cut_frames.specs.Apart.{apart_system, apart_list, IsNear};
+ghost use Rattle.cut_frames.specs.OwnVariables.{apart_system, apart_list, IsNear};
 ghost use Rattle.cut_frames.specs.Condition.{IsLow, IsFit};
 ghost use Rattle.cut_frames.specs.Roles.{renamed_literal, renamed_clause, under_list};
 ghost use Rattle.cut_frames.specs.Guards.{unguarded};
-ghost use Rattle.cut_frames.specs.Guarding.{IsWell, IsHolding, IsGuardIn, HasRoomFor, IsEmpty, HasPut, HasWidened, HasNewBad, HasNewFrame, HasAsked, Tells, TakesBad, AddsBad, Puts, Grows, BeginsAgain, asked_guards};
+ghost use Rattle.cut_frames.specs.GuardedSearch.{IsWell, IsHolding, IsGuardIn, HasRoomFor, IsEmpty, HasPut, HasWidened, HasNewBad};
+ghost use Rattle.cut_frames.specs.GuardedSearch.{HasNewFrame, HasAsked, Tells, TakesBad, AddsBad, Puts, Grows, BeginsAgain, asked_guards};
 ghost use Rattle.sat_solver.specs.declared.solve.Verdict.TheVariants.{Unsat};
 
 use crate::apart::simpler_apart;

@@ -2,10 +2,10 @@
 //! every step keeps them, whatever is bad, so once the frames have begun again they are put into each new frame without a question.
 //! `refill` is the main function.
 ghost use Rattle.std.specs.Prelude.{◌≡◌, ◌<◌, ◌-◌, true, false, [], IfOk, OnOk};
-ghost use Rattle.cut_frames.specs.Apart.{IsKept};
+ghost use Rattle.cut_frames.specs.OwnVariables.{IsKept};
 ghost use Rattle.cut_frames.specs.Chain.{State, InFrame};
-ghost use Rattle.cut_frames.specs.Framed.{frame_at, InNumber, AreStronger, IsInductive};
-ghost use Rattle.cut_frames.specs.Lasting.{AreLasting};
+ghost use Rattle.cut_frames.specs.FrameLists.{frame_at, InNumber, AreStronger, IsInductive};
+ghost use Rattle.cut_frames.specs.LastingClauses.{AreLasting};
 ghost use Rattle.cut_frames.specs.Levels.{frames_of, IsLevelled};
 
 use crate::clear::block;
@@ -69,7 +69,8 @@ fn put_all(
     ensures framed { IsLevelled system.now frames.new }
     ensures last { frames.new.last ≡ frames.old.last }
     ensures stronger { AreStronger system.now (frames_of frames.old) (frames_of frames.new) }
-    ensures implied { OnOk result ((s : State) → InFrame system.now (frame_at (frames_of frames.new) frames.new.last) s → InFrame system.now clauses.now s) }
+    ensures implied { OnOk result ((s : State) → InFrame system.now (frame_at (frames_of frames.new) frames.new.last) s →
+        InFrame system.now clauses.now s) }
     ensures kept { OnOk result (IsKept system.now bad.now (frames_of frames.new) kept.new) }
 {
     for clause in clauses {
@@ -90,7 +91,8 @@ pub fn refill(
     requires framed { IsLevelled system.now frames.old }
     requires some { 0 < frames.old.last }
     requires inductive { IsInductive system.now lasting.now.clauses }
-    requires before { lasting.now.is_implied ≡ true → (s : State) → InNumber system.now (frames_of frames.old) (frames.old.last - 1) s → InFrame system.now lasting.now.clauses s }
+    requires before { lasting.now.is_implied ≡ true → (s : State) → InNumber system.now (frames_of frames.old) (frames.old.last - 1) s →
+        InFrame system.now lasting.now.clauses s }
     requires kept { IsKept system.now bad.now (frames_of frames.old) kept.old }
     ensures framed { IsLevelled system.now frames.new }
     ensures last { frames.new.last ≡ frames.old.last }

@@ -98,7 +98,8 @@ impl Levels {
     pub fn raise(&mut self, k: usize, highest: usize)
         requires { k < length self.old.held.items }
         ensures last { self.new.last ≡ self.old.last }
-        ensures items { self.new.held.items ≡ slice_set self.old.held.items k (record { clause = (held_at self.old k).clause; highest = highest }) }
+        ensures items { self.new.held.items
+            ≡ slice_set self.old.held.items k (record { clause = (held_at self.old k).clause; highest = highest }) }
     {
         self.held[k].highest = highest;
     }

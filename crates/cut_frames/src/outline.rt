@@ -8,7 +8,7 @@ ghost use Rattle.sat_clauses.specs.Literal.{opposite};
 ghost use Rattle.cut_frames.specs.Bits.{literals_from};
 ghost use Rattle.cut_frames.specs.Chain.{IsState, IsFirstState, IsOverBits};
 ghost use Rattle.cut_frames.specs.Condition.{IsFit};
-ghost use Rattle.cut_frames.specs.Guarding.{HasAsked};
+ghost use Rattle.cut_frames.specs.GuardedSearch.{HasAsked};
 ghost use Rattle.cut_frames.specs.Parts.{IsPart, IsOfFirst, IsAgreed, AreAgreed, IsAskable};
 
 use crate::bits::{State, broken_by, literals, read, turned};
@@ -149,7 +149,8 @@ impl Outline {
     /// One of these literals of state bits that every first state makes true, where one is known.
     fn agreed_in(&self, lits: &[Lit]) -> Option<Lit>
         requires { All (λ l. 2 ≤ l.var) lits.now }
-        ensures { IfSome result (λ l. Contains lits.now l × (slice_index_or self.now.agreed.items (l.var - 2) None ≡ Some (not l.negated))) }
+        ensures { IfSome result (λ l. Contains lits.now l
+            × (slice_index_or self.now.agreed.items (l.var - 2) None ≡ Some (not l.negated))) }
     {
         for lit in lits {
             let place = (lit.var() - 2) as usize;
@@ -232,7 +233,8 @@ impl Outline {
         requires state { IsState system.now state.now }
         requires kept { IsAskable system.now kept.old }
         ensures same { self.new.agreed.items ≡ self.old.agreed.items }
-        ensures core { IfOk result (λ r. IfSome r (λ core. IsPart core (map opposite (literals_from 2 state.now)) × IsOfFirst system.now core)) }
+        ensures core { IfOk result (λ r. IfSome r (λ core. IsPart core (map opposite (literals_from 2 state.now))
+            × IsOfFirst system.now core)) }
         ensures first { IfOk result (λ r. r ≡ None → IsFirstState system.now state.now) }
         ensures asked { IfOk result (λ _. HasAsked kept.old kept.new) }
     {

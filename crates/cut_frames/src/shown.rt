@@ -5,9 +5,9 @@
 ghost use Rattle.std.specs.Prelude.{◌≡◌, ◌≤◌, All};
 ghost use Rattle.std.specs.List.{list_any, list_all};
 ghost use Rattle.sat_clauses.specs.Models.{literal_value, clause_value};
-ghost use Rattle.cut_frames.specs.Framed.{frame_at};
+ghost use Rattle.cut_frames.specs.FrameLists.{frame_at};
 ghost use Rattle.cut_frames.specs.Levels.{frames_of};
-ghost use Rattle.cut_frames.specs.Shown.{bits_of, breaks, shows, is_true_at, is_hit, counts, IsSeen, IsShown};
+ghost use Rattle.cut_frames.specs.KnownSteps.{bits_of, breaks, shows, is_true_at, is_hit, counts, IsSeen, IsShown};
 
 use crate::bits::State;
 use crate::levels::{Held, Levels};

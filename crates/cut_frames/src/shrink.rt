@@ -6,7 +6,7 @@ ghost use Rattle.std.specs.Prelude.{◌≡◌, ◌≤◌, ◌<◌, ◌^◌, ◌+
 ghost use Rattle.cut_frames.specs.Parts.{IsPart};
 ghost use Rattle.sat_clauses.specs.Literal.{opposite};
 ghost use Rattle.sat_clauses.specs.Models.{literal_value};
-ghost use Rattle.cut_frames.specs.Apart.{IsKept, IsFound};
+ghost use Rattle.cut_frames.specs.OwnVariables.{IsKept, IsFound};
 ghost use Rattle.cut_frames.specs.Bits.{values_of};
 ghost use Rattle.cut_frames.specs.Chain.{IsOverBits};
 ghost use Rattle.cut_frames.specs.Condition.{IsFit};
@@ -76,7 +76,8 @@ fn without_one(
     requires kept { IsKept system.now bad.now (frames_of frames.now) kept.old }
     ensures values { IfOk result (λ found. IsFound system.now bad.now (frames_of frames.now) Bad frames.now.last [] found) }
     ensures within { IfOk result (λ found. IsWithin history.now (values_of found) (values_of values)) }
-    ensures needed { IfOk result (λ found. IsNeeded system.now bad.now (frames_of frames.now) history.now frames.now.last (values_of found) lit) }
+    ensures needed { IfOk result
+        (λ found. IsNeeded system.now bad.now (frames_of frames.now) history.now frames.now.last (values_of found) lit) }
     ensures kept { IfOk result (λ _. IsKept system.now bad.now (frames_of frames.now) kept.new) }
 {
     if !is_true(&values, lit) {
@@ -264,7 +265,8 @@ pub fn shrink(
     requires values { IsFound system.now bad.now (frames_of frames.now) Bad frames.now.last [] values }
     requires kept { IsKept system.now bad.now (frames_of frames.now) kept.old }
     ensures values { IfOk result (λ found. IsFound system.now bad.now (frames_of frames.now) Bad frames.now.last [] found) }
-    ensures needed { IfOk result (λ found. All (IsNeeded system.now bad.now (frames_of frames.now) history.now frames.now.last (values_of found)) history.now) }
+    ensures needed { IfOk result
+        (λ found. All (IsNeeded system.now bad.now (frames_of frames.now) history.now frames.now.last (values_of found)) history.now) }
     ensures kept { IfOk result (λ _. IsKept system.now bad.now (frames_of frames.now) kept.new) }
 {
     let fewer = by_halves(system, frames, bad, history, values, kept, panel)?;

@@ -1,12 +1,13 @@
-//! Smaller clauses: what blocks a state holds more literals than it needs, and one with fewer blocks more states. [`smaller`] takes literals
-//! out of a blocking clause one by one, first those that stand in few other clauses. Each try is made by the questions that showed the
-//! clause, about the first states and about the steps from the frame before, and takes over what their answers need; after some tries in
-//! vain the clause stays as it is.
-ghost use Rattle.std.specs.Prelude.{◌≡◌, ◌≤◌, ◌<◌, ◌+◌, ◌^◌, ℕ, not, nat_eq, length, IfOk, IfSome, All, true, false, slice_index_or, filter};
+//! Smaller clauses: what blocks a state holds more literals than it needs, and one with fewer blocks more states. [`smaller`] takes
+//! literals out of a blocking clause one by one, first those that stand in few other clauses. Each try is made by the questions that showed
+//! the clause, about the first states and about the steps from the frame before, and takes over what their answers need; after some tries
+//! in vain the clause stays as it is.
+ghost use Rattle.std.specs.Prelude.{◌≡◌, ◌≤◌, ◌<◌, ◌+◌, ◌^◌, ℕ, not, nat_eq, length, IfOk, IfSome, All, true, false, slice_index_or};
+ghost use Rattle.std.specs.Prelude.{filter};
 ghost use Rattle.sat_clauses.specs.Hints.{HasNoOpposites};
 ghost use Rattle.cut_frames.specs.Chain.{IsOverBits};
 ghost use Rattle.cut_frames.specs.Condition.{IsFit};
-ghost use Rattle.cut_frames.specs.Guarding.{HasAsked};
+ghost use Rattle.cut_frames.specs.GuardedSearch.{HasAsked};
 ghost use Rattle.cut_frames.specs.Levels.{frames_of, IsLevelled};
 ghost use Rattle.cut_frames.specs.Parts.{IsPart, IsOfFirst, IsAfter, AreAgreed, MayStand, HoldsFrames, IsAskable};
 
@@ -87,7 +88,8 @@ fn without(alloc: Global, lits: &[Lit], var: u64) -> Result<Clause, OutOfMemory>
     Clause::from_lits(alloc, rest.as_slice())
 }
 
-/// Literals of a clause of which each step from the frame before that of a number makes one true; none where a step makes all of them false.
+/// Literals of a clause of which each step from the frame before that of a number makes one true; none where a step makes all of them
+/// false.
 pub fn step_core(
     system: &System,
     frames: &Levels,

@@ -1,5 +1,5 @@
-//! How often literals stand in clauses that block states, of late more than long ago. A literal that stands in few of them is the first that
-//! is tried to be taken out of a new one: so clauses come to be about the same bits, and a clause for one state holds at more others.
+//! How often literals stand in clauses that block states, of late more than long ago. A literal that stands in few of them is the first
+//! that is tried to be taken out of a new one: so clauses come to be about the same bits, and a clause for one state holds at more others.
 //! Which literal is tried changes which of the right clauses is found; contracts see nothing of it.
 use base_values::OutOfMemory;
 use sat_clauses::lit::Lit;

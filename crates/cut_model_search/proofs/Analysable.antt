@@ -17,7 +17,7 @@ use Rattle.fault_woven_laws.proofs.Fits.{tops_fit}
 use Rattle.fault_woven_laws.proofs.Meanings.{tops_of_extensions}
 use Rattle.verb_loading.specs.declared.loaded.LoadedCase.{LoadedCase}
 use Rattle.verb_loading.specs.Cases.{Case, whole_of}
-use Rattle.verb_loading.specs.Loaded.{case_of}
+use Rattle.verb_loading.specs.LoadedCases.{case_of}
 use Rattle.verb_loading.specs.LoadedEvents.{IsAnalysable}
 use Rattle.verb_loading.proofs.FlatLimits.{flat_typed}
 use Rattle.verb_loading.proofs.LoadedLaws.{same_counts}

@@ -14,7 +14,7 @@ use Rattle.smv_flat_laws.specs.History.{Mode, with_history}
 use Rattle.sat_clauses.specs.Literal.{Literal}
 use Rattle.cut_frames.specs.Condition.{IsOverNow}
 use Rattle.cut_search_laws.specs.Problem.{problem_of}
-use Rattle.cut_search_laws.specs.Searched.{IsBadFor}
+use Rattle.cut_search_laws.specs.FlatSearch.{IsBadFor}
 use Rattle.sat_encoding_laws.specs.FlatTraces.{history_of}
 use Rattle.sat_encoding_laws.specs.Lists.{system_of, bad_list}
 use Rattle.sat_encoding.specs.History.{last_numbers}

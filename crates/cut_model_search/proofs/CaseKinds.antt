@@ -5,7 +5,7 @@ use Rattle.smv_language.specs.Flat.{FlatModel}
 use Rattle.smv_flat_laws.specs.History.{Mode}
 use Rattle.smv_flat_laws.specs.FlatTrace.{IsModeOf}
 use Rattle.smv_flat_laws.proofs.Lists.{each_more}
-use Rattle.smv_type_laws.specs.Judged.{KindRule, too_large}
+use Rattle.smv_type_laws.specs.ExpressionKinds.{KindRule, too_large}
 use Rattle.smv_type_laws.specs.Laws.{IsClosed}
 use Rattle.smv_type_laws.specs.Models.{breaches, IsTyped, IsFault}
 use Rattle.smv_type_laws.proofs.ClosedLaws.{models_closed}

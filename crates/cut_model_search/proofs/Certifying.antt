@@ -8,21 +8,21 @@ use Rattle.smv_language.specs.Flat.{FlatLeaf, FlatModel}
 use Rattle.smv_flat_laws.specs.History.{Mode, with_history}
 use Rattle.cut_text_laws.specs.Lines.{fed}
 use Rattle.cut_text_laws.specs.TraceText.{trace_lines}
-use Rattle.cut_text_laws.specs.Given.{GivesTrace}
-use Rattle.cert_text.specs.Seen.{seen}
+use Rattle.cut_text_laws.specs.TraceOfText.{GivesTrace}
+use Rattle.cert_text.specs.CertificateView.{seen}
 use Rattle.cert_text.specs.declared.certificate.Certificate.{Certificate as Written}
 use Rattle.cert_laws.specs.CertificateText.{IsWritable, SpellsCertificate, version_two, lines_of}
 use Rattle.cert_laws.specs.Certificate.{Certificate}
-use Rattle.cert_laws.specs.Certified.{IsCertified}
+use Rattle.cert_laws.specs.Certification.{IsCertified}
 use Rattle.cut_model_search.specs.Certifiable.{IsCompleteAnswer}
 use Rattle.cert_laws.specs.Subject.{subject_of}
 use Rattle.cut_model_search.specs.Texts.{text_lines}
-use Rattle.smv_language.specs.Told.{told_trace}
+use Rattle.smv_language.specs.NumberedValues.{told_trace}
 use Rattle.cut_search.specs.declared.answer.Analysis.{Analysis as Searched}
 use Rattle.cut_search.specs.declared.answer.End.{End}
 use Rattle.cut_search.specs.declared.answer.End.TheVariants.{Complete, Bounded}
 use Rattle.cut_report_laws.specs.ExtendedTraces.{complete}
-use Rattle.cut_model_search.specs.Found.{IsCertificateFor}
+use Rattle.cut_model_search.specs.CaseAnalysis.{IsCertificateFor}
 use Rattle.cut_model_search.specs.Searches.{IsSearched}
 
 -- the lines of texts are those of the traces that are told

@@ -15,12 +15,12 @@ use Rattle.cut_text_laws.specs.Lines.{Line}
 use Rattle.sat_encoding_laws.specs.Lists.{system_of}
 use Rattle.cut_search.specs.declared.answer.Analysis.{Analysis}
 use Rattle.cut_search.specs.declared.answer.End.TheVariants.{Complete}
-use Rattle.cut_text_laws.specs.Given.{GivesTrace}
+use Rattle.cut_text_laws.specs.TraceOfText.{GivesTrace}
 use Rattle.cert_laws.specs.Certificate.{Certificate}
 use Rattle.cert_laws.specs.CertificateText.{IsWritableText, IsWritable}
-use Rattle.cert_making.specs.Deriving.{AreDerived}
-use Rattle.cert_making.specs.declared.parts.Parts.{Parts}
-use Rattle.cert_laws.specs.Certified.{IsCertified}
+use Rattle.cert_making.specs.PartDerivations.{AreDerived}
+use Rattle.cert_making.specs.declared.parts.PartDerivations.{PartDerivations}
+use Rattle.cert_laws.specs.Certification.{IsCertified}
 use Rattle.cert_laws.specs.Subject.{subject_of}
 use Rattle.cut_model_search.specs.Texts.{text_lines}
 use Rattle.cut_model_search.specs.Certifiable.{IsCertifiable, IsCompleteAnswer, IsProof, bad_of, certificate_of}
@@ -49,7 +49,7 @@ module _ (plain : Model) (full : FlatModel) (faults : List Fault) (top : Tree Fl
       (subst (λ n. IsProof (with_history (model_tree plain) fs) top n a invariant) (as_many ∙ sym e)
       (subst (λ cs. IsProof (with_history (model_tree plain) fs) top (length fs) a cs) (sym invariant_is) (proof plain fs top able a is)))
 
-  module _ (bits count : ℕ) (texts : List (List Line)) (parts : Parts) (c : Certificate) (bits_are : bits ≡ state_bits full) (count_is : count ≡ length faults) (texts_are : texts ≡ map (text_lines plain) a.traces)
+  module _ (bits count : ℕ) (texts : List (List Line)) (parts : PartDerivations) (c : Certificate) (bits_are : bits ≡ state_bits full) (count_is : count ≡ length faults) (texts_are : texts ≡ map (text_lines plain) a.traces)
       (derived : AreDerived (system_of full) invariant (bad_of full top count a) parts) (made : c ≡ certificate_of bits count a texts invariant parts) where
     all_derived : AreDerived (system_of (with_history (model_tree plain) fs)) is.clauses (bad_of (with_history (model_tree plain) fs) top (length fs) a) parts
     all_derived =

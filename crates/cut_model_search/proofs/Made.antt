@@ -22,14 +22,14 @@ use Rattle.cut_right_laws.specs.Sets.{IsRising, stands_before}
 use Rattle.cut_right_laws.specs.Right.{Shows}
 use Rattle.cut_right_laws.specs.Laws.{AreBoth}
 use Rattle.cut_right_laws.proofs.Places.{get_within, place_within}
-use Rattle.sat_encoding_laws.specs.Encoded.{IsBadListOf, IsBadMoment}
+use Rattle.sat_encoding_laws.specs.Encodings.{IsBadListOf, IsBadMoment}
 use Rattle.sat_encoding_laws.specs.FlatTraces.{ReachesTop, HasFailedNumber, IsNumbered, IsRightFlat, history_of}
 use Rattle.sat_encoding_laws.specs.Bits.{state_of}
 use Rattle.sat_encoding_laws.specs.Lists.{system_of, bad_list}
 use Rattle.sat_encoding_laws.specs.Encodable.{IsEncodable}
 use Rattle.sat_encoding_laws.proofs.EncodingLaws.{bad_states_encoded}
 use Rattle.sat_encoding_laws.proofs.HistoryPlaces.{history_last}
-use Rattle.cut_search_laws.specs.Found.{traces_of}
+use Rattle.cut_search_laws.specs.FoundSets.{traces_of}
 use Rattle.cut_search_laws.specs.Problem.{problem_of}
 use Rattle.cut_search.specs.Answer.{IsEnd}
 use Rattle.cut_search.specs.Progress.{CodeFound}
@@ -37,19 +37,19 @@ use Rattle.cut_search.specs.Values.{value_of, values_of, trace_of, all_found}
 use Rattle.cut_search.specs.declared.answer.Analysis.{Analysis}
 use Rattle.cut_search.specs.declared.answer.End.TheVariants.{Complete}
 use Rattle.cut_search.proofs.SearchLemmas.{sets_same, sets_numbered}
-use Rattle.cut_text_laws.specs.Given.{GivesTrace}
+use Rattle.cut_text_laws.specs.TraceOfText.{GivesTrace}
 use Rattle.cut_text_laws.specs.TraceText.{trace_lines}
 use Rattle.cut_text_laws.proofs.Printed.{printed_gives_alone}
-use Rattle.smv_language.specs.Told.{told_value, told_moment, told_trace}
+use Rattle.smv_language.specs.NumberedValues.{told_value, told_moment, told_trace}
 use Rattle.cert_laws.specs.Certificate.{Certificate, Part, part_first, part_next, part_bad, steps_in}
-use Rattle.cert_laws.specs.Accepted.{Subject, givens, goals}
+use Rattle.cert_laws.specs.Acceptance.{Subject, givens, goals}
 use Rattle.cert_laws.specs.CertificateText.{IsLiteral, IsSmall, IsWritableText, IsWritable}
 use Rattle.cert_making.specs.Queries.{IsSoFar}
-use Rattle.cert_making.specs.Deriving.{AreDerived}
-use Rattle.cert_making.specs.declared.parts.Parts.{Parts}
+use Rattle.cert_making.specs.PartDerivations.{AreDerived}
+use Rattle.cert_making.specs.declared.parts.PartDerivations.{PartDerivations}
 use Rattle.cert_making.proofs.Queries.{all_covered_derived}
-use Rattle.cert_laws.specs.Certified.{IsCertified}
-use Rattle.cert_laws.specs.Analysed.{GivesAlone, IsOfAnalysis}
+use Rattle.cert_laws.specs.Certification.{IsCertified}
+use Rattle.cert_laws.specs.AnalysisCertificates.{GivesAlone, IsOfAnalysis}
 use Rattle.cert_laws.proofs.Analysed.{analysed_is_accepted}
 use Rattle.cert_laws.specs.Subject.{subject_of}
 use Rattle.cert_laws.proofs.Subjects.{subjects_right}
@@ -174,7 +174,7 @@ module _ (plain : Model) (fs : List Mode) (top : Tree FlatLeaf) (able : IsCertif
   texts_both = both_mapped (GivesAlone (GivesTrace m)) (text_lines plain) (trace_of m.symbols) a.traces gives_alone
 
   -- The certificate of its parts.
-  module _ (parts : Parts) (derived : AreDerived (system_of full) is.clauses (bad_of full top (length fs) a) parts) where
+  module _ (parts : PartDerivations) (derived : AreDerived (system_of full) is.clauses (bad_of full top (length fs) a) parts) where
     abbrev made : Certificate
     made = certificate_of (system_of full).state_bits (length fs) a (map (text_lines plain) a.traces) is.clauses parts
 

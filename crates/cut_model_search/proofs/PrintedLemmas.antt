@@ -8,7 +8,7 @@ use Rattle.cut_text_laws.specs.Lines.{Line, IsLine}
 use Rattle.cut_text_laws.specs.TraceText.{trace_text}
 use Rattle.cut_text_laws.proofs.Printed.{printed_lines}
 use Rattle.cert_laws.specs.CertificateText.{IsWritableText}
-use Rattle.smv_language.specs.Told.{told_trace}
+use Rattle.smv_language.specs.NumberedValues.{told_trace}
 use Rattle.cut_model_search.specs.Texts.{AreLinesIn, text_lines, CanBePrinted}
 use Rattle.cut_model_search.proofs.TextLemmas.{lines_are}
 

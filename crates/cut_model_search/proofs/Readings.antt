@@ -24,7 +24,7 @@ use Rattle.cut_search_laws.proofs.Leasts.{least_values_show}
 use Rattle.sat_encoding.specs.Values.{StandFor, HasState, values_in}
 use Rattle.cut_search.specs.Values.{value_of, values_of}
 use Rattle.cut_search.specs.Progress.{IsReadable, IsReadOf}
-use Rattle.cut_model_search.specs.Reads.{IsRead}
+use Rattle.cut_model_search.specs.MomentReading.{IsRead}
 
 -- what is read agrees with what is there
 read_agrees : (k n : ℕ) (a : Assignment) → Agrees (values_in a) n (read_from n k a)

@@ -10,9 +10,9 @@ use Rattle.cut_text_laws.specs.Lines.{Line}
 use Rattle.sat_encoding_laws.specs.Lists.{system_of, bad_list}
 use Rattle.sat_encoding_laws.specs.Encodable.{IsEncodable, IsFitTop}
 use Rattle.sat_encoding.specs.History.{last_numbers}
-use Rattle.cut_text_laws.specs.Given.{IsPrintable}
+use Rattle.cut_text_laws.specs.TraceOfText.{IsPrintable}
 use Rattle.cert_laws.specs.Certificate.{Certificate}
-use Rattle.cert_making.specs.declared.parts.Parts.{Parts}
+use Rattle.cert_making.specs.declared.parts.PartDerivations.{PartDerivations}
 use Rattle.cut_search_laws.specs.Problem.{problem_of}
 use Rattle.cut_search.specs.Answer.{IsAnswer}
 use Rattle.cut_search.specs.declared.answer.Analysis.{Analysis}
@@ -47,7 +47,7 @@ pub record IsProof (full : FlatModel) (top : Tree FlatLeaf) (faults : ℕ) (a : 
   pub invariant : IsInvariant (system_of full) (bad_of full top faults a) clauses
 
 -- the certificate with the sets and the size of an analysis
-abbrev pub certificate_of : ℕ → ℕ → Analysis → List (List Line) → List (List Literal) → Parts → Certificate
+abbrev pub certificate_of : ℕ → ℕ → Analysis → List (List Line) → List (List Literal) → PartDerivations → Certificate
 certificate_of bits faults a traces clauses parts =
     record {
       bits = bits;

@@ -1,6 +1,6 @@
-pub mod Found
+pub mod CaseAnalysis
 pub mod Searches
 pub mod Wholes
-pub mod Reads
+pub mod MomentReading
 pub mod Texts
 pub mod Certifiable

@@ -7,9 +7,9 @@ use Rattle.base_values.specs.declared.value.Value.{Value}
 use Rattle.smv_language.specs.declared.model.FlatModel.{FlatModel}
 use Rattle.smv_language.specs.ModelTree.{model_tree}
 use Rattle.cut_text_laws.specs.Lines.{Line, fed, IsLine}
-use Rattle.cut_text_laws.specs.Given.{IsPrintable}
+use Rattle.cut_text_laws.specs.TraceOfText.{IsPrintable}
 use Rattle.cut_text_laws.specs.TraceText.{trace_lines}
-use Rattle.smv_language.specs.Told.{told_trace}
+use Rattle.smv_language.specs.NumberedValues.{told_trace}
 
 -- the bytes are these lines, each with its line feed, and then some without
 pub record AreLinesIn (bytes : List ℕ) (lines : List Line) : Type 0 where

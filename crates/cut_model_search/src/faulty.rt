@@ -2,13 +2,12 @@
 //!
 //! [`Faulty`] has the one impl of `Encoded`, the trait by which the search of `cut_search` asks for clause lists and reads moments. What
 //! they are stands in the trait; the lists are made in `sat_encoding`.
-
 ghost use Rattle.std.specs.Prelude.{◌≡◌, IfOk, length};
 ghost use Rattle.smv_language.specs.ModelTree.{model_tree, flat_tree};
 ghost use Rattle.sat_encoding_laws.specs.Encodable.{IsEncodable};
 ghost use Rattle.cut_search_laws.specs.Problem.{problem_of};
 ghost use Rattle.cut_search_laws.specs.Searchable.{IsSearchable};
-ghost use Rattle.cut_model_search.specs.Reads.{IsRead};
+ghost use Rattle.cut_model_search.specs.MomentReading.{IsRead};
 ghost use Rattle.cut_model_search.specs.Wholes.{modes_of, whole_of, CanBeSearched};
 
 use base_values::{Items, OutOfMemory, SetList, Valuation, Value};

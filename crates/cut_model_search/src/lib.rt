@@ -17,7 +17,7 @@
 //! (`specs/Certifiable.antt` says of what one can be made). Nothing here is trusted: what an accepted certificate shows is a law of
 //! `cert_laws`, which uses nothing of the search. [`told`] is how a report tells the ending of a search.
 //!
-//! What an analysis of a case is, and which bytes certify one, stands in `specs/Found.antt`, what a search answered of a model in
+//! What an analysis of a case is, and which bytes certify one, stands in `specs/CaseAnalysis.antt`, what a search answered of a model in
 //! `specs/Searches.antt`. That a case with a top event can be searched is the law `proofs/Analysable.antt`, and that a complete
 //! answer is certified `proofs/Certifying.antt`.
 //!

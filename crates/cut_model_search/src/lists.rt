@@ -4,11 +4,11 @@
 ghost use Rattle.std.specs.Prelude.{IfOk};
 ghost use Rattle.smv_language.specs.ModelTree.{model_tree, flat_tree};
 ghost use Rattle.sat_encoding_laws.specs.Lists.{system_of};
-ghost use Rattle.cert_making.specs.Deriving.{AreDerived};
+ghost use Rattle.cert_making.specs.PartDerivations.{AreDerived};
 ghost use Rattle.cut_model_search.specs.Certifiable.{IsProof, bad_of};
 
 use base_values::OutOfMemory;
-use cert_making::parts::{Parts, derive_parts};
+use cert_making::parts::{PartDerivations, derive_parts};
 use cut_search::answer::Analysis;
 use sat_adviser::Panel;
 use sat_clauses::clause::ClauseList;
@@ -28,9 +28,11 @@ pub(crate) fn parts_of(
     a: &Analysis,
     invariant: &ClauseList,
     panel: &mut Panel,
-) -> Result<Parts, OutOfMemory>
+) -> Result<PartDerivations, OutOfMemory>
     requires { IsProof (model_tree full.now.model) (flat_tree top.now) faults a.now invariant.now }
-    ensures { IfOk result (AreDerived (system_of (model_tree full.now.model)) invariant.now (bad_of (model_tree full.now.model) (flat_tree top.now) faults a.now)) }
+    ensures { IfOk result
+        (AreDerived (system_of (model_tree full.now.model)) invariant.now
+        (bad_of (model_tree full.now.model) (flat_tree top.now) faults a.now)) }
 {
     let system = encode(alloc, full)?;
     let bad = bad_clauses(alloc, full, top, &a.sets, faults, a.size)?;

@@ -6,18 +6,18 @@ ghost use Rattle.std.specs.Prelude.{◌≡◌, ◌<◌, ◌^◌, map, length, If
 ghost use Rattle.smv_language.specs.ModelTree.{model_tree, flat_tree};
 ghost use Rattle.smv_flat_laws.specs.FaultModes.{mode_of};
 ghost use Rattle.smv_flat_laws.specs.History.{with_history};
-ghost use Rattle.cut_text_laws.specs.Given.{GivesTrace};
+ghost use Rattle.cut_text_laws.specs.TraceOfText.{GivesTrace};
 ghost use Rattle.cert_laws.specs.CertificateText.{IsWritable};
-ghost use Rattle.cert_laws.specs.Certified.{IsCertified};
+ghost use Rattle.cert_laws.specs.Certification.{IsCertified};
 ghost use Rattle.cert_laws.specs.Subject.{subject_of};
-ghost use Rattle.cert_text.specs.Seen.{seen};
+ghost use Rattle.cert_text.specs.CertificateView.{seen};
 ghost use Rattle.cut_model_search.specs.Texts.{text_lines};
 ghost use Rattle.cut_model_search.specs.Certifiable.{IsCertifiable, IsCompleteAnswer, certificate_of};
 
 use crate::lists::parts_of;
 use crate::texts::texts_of;
 use base_values::{FaultSet, OutOfMemory, SetList};
-use cert_making::parts::Parts;
+use cert_making::parts::PartDerivations;
 use cert_text::{Certificate, TextList};
 use cut_search::answer::{Analysis, End};
 use sat_adviser::Panel;
@@ -58,7 +58,7 @@ fn assembled(
     a: &Analysis,
     traces: TextList,
     invariant: &ClauseList,
-    parts: Parts,
+    parts: PartDerivations,
 ) -> Result<Certificate, OutOfMemory>
     ensures made { IfOk result (λ c. seen c ≡ certificate_of bits faults a.now traces invariant.now parts) }
     ensures few_sets { IfOk result (λ c. length a.now.sets < 2 ^ 63) }
@@ -66,7 +66,7 @@ fn assembled(
 {
     let sets = copied(alloc, a.sets.as_slice())?;
     let clauses = copied_clauses(invariant)?;
-    let Parts { first, next, bad } = parts;
+    let PartDerivations { first, next, bad } = parts;
     Ok(Certificate {
         bits,
         faults,

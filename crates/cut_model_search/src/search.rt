@@ -10,7 +10,7 @@ ghost use Rattle.sat_encoding_laws.specs.Lists.{system_of};
 ghost use Rattle.cut_search_laws.specs.Problem.{problem_of};
 ghost use Rattle.cut_search_laws.specs.Searchable.{IsSearchable};
 ghost use Rattle.cut_search.specs.Answer.{IsAnswer};
-ghost use Rattle.cut_model_search.specs.Found.{size_for};
+ghost use Rattle.cut_model_search.specs.CaseAnalysis.{size_for};
 
 use crate::{analyse, analyse_in, frames_of};
 use base_values::OutOfMemory;
@@ -88,7 +88,8 @@ pub fn frames_of_case(
         ≡ with_history (model_tree case.now.limited.typed.model) (map mode_of case.now.limited.faults) }
     requires searchable { length case.now.limited.typed.model.symbols < 2 ^ 31 →
         IsSearchable (model_tree case.now.limited.typed.model) (map mode_of case.now.limited.faults) (flat_tree top.now) }
-    ensures { IfOk result (λ f. f.system ≡ system_of (with_history (model_tree case.now.limited.typed.model) (map mode_of case.now.limited.faults))) }
+    ensures { IfOk result (λ f. f.system
+        ≡ system_of (with_history (model_tree case.now.limited.typed.model) (map mode_of case.now.limited.faults))) }
 {
     count_symbols(case)?;
     let limited = &case.limited;
@@ -110,7 +111,8 @@ pub fn analysed_in(
         ≡ with_history (model_tree case.now.limited.typed.model) (map mode_of case.now.limited.faults) }
     requires searchable { length case.now.limited.typed.model.symbols < 2 ^ 31 →
         IsSearchable (model_tree case.now.limited.typed.model) (map mode_of case.now.limited.faults) (flat_tree top.now) }
-    requires system { frames.old.system ≡ system_of (with_history (model_tree case.now.limited.typed.model) (map mode_of case.now.limited.faults)) }
+    requires system { frames.old.system
+        ≡ system_of (with_history (model_tree case.now.limited.typed.model) (map mode_of case.now.limited.faults)) }
     ensures system { frames.new.system ≡ frames.old.system }
     ensures answer { IfOk result (IsAnswer (problem_of (model_tree case.now.limited.typed.model)
         (map mode_of case.now.limited.faults) (flat_tree top.now)) depth size) }

@@ -2,7 +2,6 @@
 //!
 //! The main function is [`analyse`], the search of `cut_search` over a [`Faulty`] model; [`frames_of`] and [`analyse_in`] do the same for
 //! many top events of one model.
-
 ghost use Rattle.std.specs.Prelude.{◌≡◌, IfOk};
 ghost use Rattle.smv_language.specs.ModelTree.{model_tree, flat_tree};
 ghost use Rattle.sat_encoding_laws.specs.Lists.{system_of};

@@ -11,9 +11,9 @@ use Rattle.fault_weave.specs.Faults.{Fault}
 use Rattle.cut_right_laws.specs.Laws.{AreBoth}
 use Rattle.sat_encoding_laws.specs.FlatTraces.{ReachesTop, HasFailedNumber, IsShortTrace, IsRightFlat}
 use Rattle.cert_laws.specs.ExtendedTraces.{IsExtensionModel}
-use Rattle.cut_search_laws.specs.Found.{Found, sets_of, traces_of, AreFound}
+use Rattle.cut_search_laws.specs.FoundSets.{Found, sets_of, traces_of, AreFound}
 use Rattle.cut_search_laws.specs.Problem.{Problem}
-use Rattle.cut_search_laws.specs.Searched.{FlatTrace}
+use Rattle.cut_search_laws.specs.FlatSearch.{FlatTrace}
 use Rattle.cut_search.specs.Values.{trace_of, all_found}
 use Rattle.cut_search.specs.Progress.{CodeFound}
 use Rattle.cut_search.specs.Answer.{IsEnd}
@@ -21,12 +21,12 @@ use Rattle.cut_search.specs.declared.answer.End.{End}
 use Rattle.cut_search.specs.declared.answer.End.TheVariants.{Complete, Bounded}
 use Rattle.cut_search.proofs.SearchLemmas.{sets_same}
 use Rattle.fault_cause_laws.specs.Causes.{CommonCause, IsCauseOf}
-use Rattle.fault_cause_laws.specs.Staged.{with_causes, events_of}
+use Rattle.fault_cause_laws.specs.StagedModel.{with_causes, events_of}
 use Rattle.fault_cause_laws.proofs.Carried.{all_right, short_right}
 use Rattle.fault_cause_laws.specs.CausedTraces.{CausedTrace, IsRightCausedExtended}
 use Rattle.fault_cause_laws.proofs.Staged.{extensions_staged}
 use Rattle.fault_cause_laws.proofs.CausesExtendedCarried.{all_right_caused_extended, short_right_caused_extended}
-use Rattle.cut_reach_laws.specs.Shown.{ShowsCaused, IsOfEnd, AnswersAreCaused}
+use Rattle.cut_reach_laws.specs.CausedAnalyses.{ShowsCaused, IsOfEnd, AnswersAreCaused}
 use Rattle.cut_reach_laws.proofs.Shown.{shown, Parts, parts_of}
 use Rattle.cut_search.proofs.TraceLaws.{traces_same}
 

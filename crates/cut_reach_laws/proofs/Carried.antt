@@ -16,8 +16,8 @@ use Rattle.smv_language.proofs.ValueLaws.{same_text_refl}
 use Rattle.smv_language.specs.Flat.{FlatLeaf, FlatVariable, FlatModel}
 use Rattle.smv_flat_laws.specs.History.{Mode, stands_now}
 use Rattle.smv_flat_laws.proofs.Lists.{get_end, length_end, each_more}
-use Rattle.fault_cause_laws.specs.Added.{Addition, with_addition}
-use Rattle.smv_type_laws.specs.Judged.{hull_of}
+use Rattle.fault_cause_laws.specs.Additions.{Addition, with_addition}
+use Rattle.smv_type_laws.specs.ExpressionKinds.{hull_of}
 use Rattle.smv_type_laws.specs.Costs.{symbol_number, member_number, number_kind, width_in, declared_width}
 use Rattle.sat_encoding_laws.specs.Inputs.{is_input}
 use Rattle.sat_encoding_laws.specs.Layout.{width_as_input, input_width, input_bits}
@@ -25,7 +25,7 @@ use Rattle.sat_encoding_laws.specs.Encodable.{IsListedMember, IsListedType, IsFi
 use Rattle.sat_encoding_laws.specs.HistoryBits.{IsStateMode}
 use Rattle.cut_right_laws.specs.Sets.{has_number}
 use Rattle.fault_cause_laws.specs.Causes.{CommonCause, IsCauseOf}
-use Rattle.fault_cause_laws.specs.Staged.{age_name, event_name, quiet_name, now_name, hit_name, own_name, none_name, self_name, added_variable, mode_of, stands_of, in_window, age_at_first, age_at_step, with_age, event_at_each, with_event, hit_at_first, landed_at_each, hit_at_step, with_hit, with_hits, with_cause, with_each_cause, age_numbers, windows_on, joined_after, joined, own_at_first, own_at_step, with_own, with_owns, with_causes, own_events, cause_events, events_of}
+use Rattle.fault_cause_laws.specs.StagedModel.{age_name, event_name, quiet_name, now_name, hit_name, own_name, none_name, self_name, added_variable, mode_of, stands_of, in_window, age_at_first, age_at_step, with_age, event_at_each, with_event, hit_at_first, landed_at_each, hit_at_step, with_hit, with_hits, with_cause, with_each_cause, age_numbers, windows_on, joined_after, joined, own_at_first, own_at_step, with_own, with_owns, with_causes, own_events, cause_events, events_of}
 use Rattle.fault_staging.proofs.Counts.{cause_count, cause_symbols, own_count, own_symbols, each_get}
 use Rattle.cut_reach_laws.proofs.Widened.{IsStateVariable, IsStateName, HasClauses, IsOfState, variable_kept, more_symbols, mode_kept, fit_wide, clauses_wide}
 use Rattle.smv_flat_laws.proofs.HistoryTraces.{get_middle as get_first}

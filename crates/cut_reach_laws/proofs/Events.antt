@@ -20,9 +20,9 @@ use Rattle.sat_encoding_laws.specs.Layout.{input_bits}
 use Rattle.sat_encoding_laws.specs.Encodable.{IsListedMember, IsListedType, IsEncodable, IsFitTop}
 use Rattle.sat_encoding_laws.specs.HistoryBits.{IsStateMode}
 use Rattle.sat_encoding_laws.proofs.HistoryEncodable.{history_encodable}
-use Rattle.cut_text_laws.specs.Given.{HasItsSymbols}
+use Rattle.cut_text_laws.specs.TraceOfText.{HasItsSymbols}
 use Rattle.fault_cause_laws.specs.Causes.{CommonCause}
-use Rattle.fault_cause_laws.specs.Staged.{with_causes, events_of}
+use Rattle.fault_cause_laws.specs.StagedModel.{with_causes, events_of}
 use Rattle.cut_reach_laws.specs.CausedLaws.{CanHaveCauses, CausedAreSearchable}
 use Rattle.fault_cause_laws.proofs.HistoryKinds.{history_addition, history_is}
 use Rattle.cut_reach_laws.proofs.Widened.{HasClauses, fit_wide}

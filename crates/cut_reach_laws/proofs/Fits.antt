@@ -4,10 +4,10 @@ use Rattle.std.specs.List.{list_any}
 use Rattle.smv_language.specs.declared.expr.Op.TheVariants as op
 use Rattle.smv_language.specs.Tree.{Tree, not_of, binary}
 use Rattle.smv_language.specs.Flat.{FlatLeaf, flat_variable, FlatVariable, FlatFormula, FlatModel}
-use Rattle.smv_flat_laws.specs.Resolved.{leaves_in}
+use Rattle.smv_flat_laws.specs.NameResolution.{leaves_in}
 use Rattle.smv_type_laws.specs.Costs.{cost_of}
-use Rattle.smv_type_laws.specs.Judged.{Class, truth_class, KindRule, not_boolean, same_class, rule_if, Judged, judged_not, judged_connective}
-use Rattle.smv_type_laws.specs.Declared.{judged_declared}
+use Rattle.smv_type_laws.specs.ExpressionKinds.{Class, truth_class, KindRule, not_boolean, same_class, rule_if, Judged, judged_not, judged_connective}
+use Rattle.smv_type_laws.specs.DeclaredKinds.{judged_declared}
 use Rattle.smv_type_laws.specs.Laws.{IsClosed}
 use Rattle.smv_type_laws.specs.Models.{kind_at, kind_of_leaf, judged_in, broken_condition}
 use Rattle.smv_type_laws.proofs.Parts.{none_first, none_second}

@@ -5,7 +5,7 @@ use Rattle.smv_language.specs.Tree.{Tree}
 use Rattle.smv_language.specs.ProgramTree.{boolean}
 use Rattle.smv_language.specs.Trace.{Each}
 use Rattle.smv_language.specs.Flat.{FlatLeaf, FlatVariable, FlatFormula, FlatModel}
-use Rattle.smv_flat_laws.specs.Resolved.{leaves_in}
+use Rattle.smv_flat_laws.specs.NameResolution.{leaves_in}
 use Rattle.smv_flat_laws.specs.Rules.{leaves_under}
 use Rattle.smv_flat_laws.proofs.Lists.{each_more, length_end}
 use Rattle.smv_type_laws.specs.Models.{leaf_kind, judged_variables, judged_definitions, kind_of_leaf, judged_in}

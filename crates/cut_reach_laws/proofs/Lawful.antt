@@ -26,11 +26,11 @@ use Rattle.fault_weave.specs.Faults.{Fault}
 use Rattle.fault_rules.specs.Rules.{is_name_of_decls, is_name_of_section, is_name_of_module, is_program_name}
 use Rattle.fault_cause_laws.specs.Causes.{CommonCause, IsCauseOf}
 use Rattle.fault_cause_laws.specs.CausesText.{WrittenCause}
-use Rattle.fault_cause_laws.specs.Staged.{age_name, event_name, quiet_name, now_name, hit_name, own_name, none_name, self_name}
+use Rattle.fault_cause_laws.specs.StagedModel.{age_name, event_name, quiet_name, now_name, hit_name, own_name, none_name, self_name}
 use Rattle.fault_cause_laws.specs.CauseRules.{fault_path, same_path, is_path_among, has_double, hit_names, names_of_cause, own_names, is_any_taken, no_such_fault, double_cause, double_strike, empty_window, too_wide, too_many, name_taken, first_of, broken_at, AllKept, are_owns_taken, AreLawful, IsStrikeOf, IsReadAs, AreReadAs}
 use Rattle.cut_reach_laws.specs.Names.{AreDistinct, IsNewName, hit_names_of, names_added_by, names_of_each, own_names_from, names_added, AreNewNames}
 use Rattle.smv_lexer.specs.Tokens.{IsWord}
-use Rattle.smv_language.specs.Printed.{IsName}
+use Rattle.smv_language.specs.PrintedTokens.{IsName}
 use Rattle.cut_reach_laws.proofs.Naming.{each_of}
 use Rattle.cut_reach_laws.proofs.Words.{cause_words, cause_distinct, own_words, owns_distinct}
 use Rattle.std.proofs.lemmas.Bool.{or_parts as neither}

@@ -10,7 +10,7 @@ use Rattle.sat_encoding_laws.specs.Layout.{input_bits}
 use Rattle.sat_encoding_laws.specs.Encodable.{IsEncodable, is_input_name}
 use Rattle.sat_encoding_laws.specs.HistoryBits.{IsStateMode}
 use Rattle.fault_cause_laws.specs.Causes.{CommonCause}
-use Rattle.fault_cause_laws.specs.Staged.{with_cause, with_each_cause, with_own, with_owns, age_numbers, with_causes}
+use Rattle.fault_cause_laws.specs.StagedModel.{with_cause, with_each_cause, with_own, with_owns, age_numbers, with_causes}
 use Rattle.fault_staging.proofs.Counts.{cause_symbols, own_symbols}
 use Rattle.cut_reach_laws.proofs.Carried.{same_inputs}
 use Rattle.fault_cause_laws.proofs.HistoryKinds.{history_addition, history_is}

@@ -10,13 +10,13 @@ use Rattle.smv_language.specs.Flat.{FlatLeaf, FlatModel}
 use Rattle.smv_flat_laws.specs.FlatTrace.{IsFlatTrace}
 use Rattle.cut_right_laws.specs.Right.{HasFailedAtMost}
 use Rattle.sat_encoding_laws.specs.FlatTraces.{ReachesTop, HasFailedNumber, IsShortTrace, IsRightFlat}
-use Rattle.cut_search_laws.specs.Found.{sets_of, traces_of}
+use Rattle.cut_search_laws.specs.FoundSets.{sets_of, traces_of}
 use Rattle.cut_search.specs.declared.answer.End.{End}
 use Rattle.cut_search.specs.declared.answer.End.TheVariants.{Complete, Bounded}
 use Rattle.cut_search.specs.Answer.{IsEnd}
 use Rattle.cut_search.specs.Progress.{CodeFound, AreListed}
 use Rattle.cut_search.specs.Values.{trace_of, all_found}
-use Rattle.cut_text_laws.specs.Given.{GivesTrace}
+use Rattle.cut_text_laws.specs.TraceOfText.{GivesTrace}
 use Rattle.cert_laws.proofs.Certified.{certified_is_right}
 use Rattle.cut_reach_laws.specs.FaultlessLaws.{class_of, NoneReaches, without_faults, EmptyAnswersRefute, FoundTracesReach, AcceptedRefute}
 

@@ -10,10 +10,10 @@ use Rattle.smv_language.specs.Trace.{Each}
 use Rattle.smv_language.specs.Flat.{FlatLeaf, FlatModel}
 use Rattle.smv_flat_laws.specs.History.{Mode}
 use Rattle.smv_flat_laws.specs.FlatTrace.{IsFlatTrace, stands, stands_in_some, told_from}
-use Rattle.smv_flat_laws.specs.Resolved.{leaves_in}
+use Rattle.smv_flat_laws.specs.NameResolution.{leaves_in}
 use Rattle.smv_type_laws.specs.Laws.{values_by_number}
 use Rattle.fault_instructions.specs.Instructions.{InstructionTree}
-use Rattle.fault_weave.specs.Extended.{Moment, IsExtended, Reaches}
+use Rattle.fault_weave.specs.ExtensionTraces.{Moment, IsExtended, Reaches}
 use Rattle.fault_weave.specs.Conservative.{IsCutMoment, IsCut}
 use Rattle.fault_weave.specs.Faults.{Fault}
 use Rattle.cut_right_laws.specs.Right.{HasFailedExactly}
@@ -24,7 +24,7 @@ use Rattle.sat_encoding_laws.proofs.SetLaws.{has_contains}
 use Rattle.cert_laws.specs.ExtendedTraces.{IsExtensionModel, IsModeOfFault, IsFlatCut, HasFailedFault}
 use Rattle.cert_laws.proofs.Modes.{stands_iff}
 use Rattle.cert_laws.proofs.Carried.{fault_of_slice, cut_long, correspond, uncut}
-use Rattle.fault_cause_laws.specs.Added.{IsKnownName}
+use Rattle.fault_cause_laws.specs.Additions.{IsKnownName}
 use Rattle.fault_cause_laws.specs.Columns.{with_value}
 use Rattle.fault_cause_laws.proofs.Columns.{with_values_length}
 use Rattle.fault_cause_laws.specs.Laws.{AreStaged}
@@ -32,7 +32,7 @@ use Rattle.fault_cause_laws.proofs.Staged.{extensions_staged}
 use Rattle.fault_orders.specs.declared.Relation.{Relation}
 use Rattle.fault_orders.specs.declared.Relation.TheVariants.{Before, After, Together}
 use Rattle.fault_orders.specs.Relations.{BeginsAt, Stands, HasRelation}
-use Rattle.fault_orders.specs.Told.{order_value, ordered_told}
+use Rattle.fault_orders.specs.RelationValues.{order_value, ordered_told}
 use Rattle.fault_orders.specs.Laws.{SpeaksAgainst}
 use Rattle.fault_orders.proofs.Ordered.{orders_told}
 use Rattle.fault_orders.proofs.Begins.{Stood, begins_somewhere, begins_once}

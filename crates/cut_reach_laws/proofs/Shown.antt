@@ -14,10 +14,10 @@ use Rattle.cut_right_laws.proofs.Minimal.{right_sets_minimal}
 use Rattle.cert_laws.specs.ExtendedTraces.{IsExtensionModel}
 use Rattle.cert_laws.proofs.Carried.{flat_traces_cut}
 use Rattle.cut_text_laws.specs.Lines.{Line}
-use Rattle.cut_text_laws.specs.Given.{GivesTrace}
+use Rattle.cut_text_laws.specs.TraceOfText.{GivesTrace}
 use Rattle.cert_laws.proofs.Certified.{all_given, text_gives, certified_is_right}
 use Rattle.fault_cause_laws.specs.Causes.{CommonCause, IsCauseOf}
-use Rattle.fault_cause_laws.specs.Staged.{with_causes, events_of}
+use Rattle.fault_cause_laws.specs.StagedModel.{with_causes, events_of}
 use Rattle.fault_cause_laws.proofs.StagedTraces.{staged_traces}
 use Rattle.fault_cause_laws.specs.CausesRightLaws.{Caused, Tells}
 use Rattle.fault_cause_laws.proofs.Carried.{all_right}
@@ -25,7 +25,7 @@ use Rattle.fault_cause_laws.specs.CausedTraces.{CausedTrace, IsCausedExtended, C
 use Rattle.fault_cause_laws.specs.CausesExtendedLaws.{IsCausedCut}
 use Rattle.fault_cause_laws.proofs.Staged.{extensions_staged}
 use Rattle.fault_cause_laws.proofs.CausesExtendedCarried.{all_right_caused_extended}
-use Rattle.cut_reach_laws.specs.Shown.{ShowsCaused, GivesCaused, AcceptedCertifiesCauses}
+use Rattle.cut_reach_laws.specs.CausedAnalyses.{ShowsCaused, GivesCaused, AcceptedCertifiesCauses}
 
 module _ (p : ProgramTree) (i : InstructionTree) (faults : List Fault) (top : Formula) (m : FlatModel) (fs : List Mode) (flat_top : Tree FlatLeaf) (model : IsExtensionModel p i faults top m fs flat_top) (cs : List CommonCause) (are : Each (IsCauseOf (length fs)) cs) where
   -- each trace of the model with causes shows a caused trace

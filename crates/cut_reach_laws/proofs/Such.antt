@@ -8,7 +8,7 @@ use Rattle.smv_language.specs.Flat.{FlatLeaf, FlatModel}
 use Rattle.smv_flat_laws.specs.History.{Mode}
 use Rattle.smv_flat_laws.specs.FlatTrace.{IsFlatTrace, stands_in_some}
 use Rattle.fault_instructions.specs.Instructions.{InstructionTree}
-use Rattle.fault_weave.specs.Extended.{Moment, IsExtended, Reaches}
+use Rattle.fault_weave.specs.ExtensionTraces.{Moment, IsExtended, Reaches}
 use Rattle.fault_weave.specs.Faults.{Fault}
 use Rattle.cut_right_laws.specs.Right.{HasFailedExactly}
 use Rattle.cut_right_laws.specs.Laws.{Correspond}
@@ -19,7 +19,7 @@ use Rattle.fault_orders.specs.declared.Relation.{Relation}
 use Rattle.fault_orders.specs.declared.Relation.TheVariants.{Before, After, Together}
 use Rattle.fault_orders.specs.Relations.{BeginsAt, Stands, HasRelation}
 use Rattle.fault_orders.specs.Stage.{stage, against}
-use Rattle.fault_orders.specs.Told.{ordered_told, told_relation}
+use Rattle.fault_orders.specs.RelationValues.{ordered_told, told_relation}
 use Rattle.fault_orders.specs.Laws.{SpeaksAgainst, TellsOrder}
 use Rattle.fault_orders.proofs.Ordered.{orders_told}
 use Rattle.fault_orders.proofs.Begins.{Stood, begins_somewhere}

@@ -4,10 +4,10 @@ use Rattle.smv_language.specs.Values.{Value, truth, number, symbol, one}
 use Rattle.smv_language.specs.Tree.{Tree}
 use Rattle.smv_language.specs.Flat.{FlatLeaf, FlatFormula, FlatModel, FlatGives}
 use Rattle.smv_flat_laws.proofs.Conditions.{MayBe, may_one}
-use Rattle.smv_type_laws.specs.Judged.{truth_class, KindRule}
+use Rattle.smv_type_laws.specs.ExpressionKinds.{truth_class, KindRule}
 use Rattle.smv_type_laws.specs.Laws.{KeepsKind, IsClosed, ReadsOwn}
 use Rattle.smv_type_laws.specs.Models.{judged_in, broken_condition, breaches_at, IsTyped}
-use Rattle.smv_type_laws.specs.Safe.{IsOfClass}
+use Rattle.smv_type_laws.specs.KindValues.{IsOfClass}
 use Rattle.smv_type_laws.proofs.Typed.{values_lie, decided}
 use Rattle.fault_orders.specs.Laws.{IsTruth}
 use Rattle.cut_reach_laws.specs.OrdersExtendedLaws.{LawfulTopsAreTruths}

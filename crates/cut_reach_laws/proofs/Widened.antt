@@ -10,10 +10,10 @@ use Rattle.smv_language.specs.Laws.{AllLeaves}
 use Rattle.smv_language.specs.Trace.{Each}
 use Rattle.smv_language.specs.Flat.{FlatLeaf, flat_variable, flat_symbol, flat_definition, FlatVariable, FlatFormula, FlatModel}
 use Rattle.smv_flat_laws.specs.History.{Mode}
-use Rattle.smv_flat_laws.specs.Resolved.{leaves_in}
+use Rattle.smv_flat_laws.specs.NameResolution.{leaves_in}
 use Rattle.smv_flat_laws.specs.Rules.{leaves_under}
 use Rattle.smv_flat_laws.proofs.Lists.{each_more}
-use Rattle.fault_cause_laws.specs.Added.{Addition, with_addition}
+use Rattle.fault_cause_laws.specs.Additions.{Addition, with_addition}
 use Rattle.smv_type_laws.specs.Models.{leaf_kind, judged_variables, judged_definitions, kind_of_leaf, judged_in, broken_condition}
 use Rattle.smv_type_laws.specs.Laws.{IsKnown, ReadsOwn, ReadOwn, IsClosed}
 use Rattle.smv_type_laws.proofs.ModelLaws.{judge_agrees, all_leaves_more}

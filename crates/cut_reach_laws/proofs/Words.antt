@@ -5,12 +5,12 @@ use Rattle.std.proofs.lemmas.Fmt.{decimal_injective}
 use Rattle.smv_lexer.specs.Runs.{Runs, takes_word}
 use Rattle.smv_lexer.specs.Tokens.{IsWord}
 use Rattle.smv_language.specs.ProgramTree.{Text}
-use Rattle.smv_language.specs.Printed.{IsName}
+use Rattle.smv_language.specs.PrintedTokens.{IsName}
 use Rattle.smv_language.specs.Trace.{Each}
 use Rattle.smv_language.proofs.TokenTexts.{decimal_digits}
 use Rattle.smv_flat_laws.specs.History.{Mode}
 use Rattle.fault_cause_laws.specs.Causes.{CommonCause}
-use Rattle.fault_cause_laws.specs.Staged.{hit_name, own_name, none_name, self_name}
+use Rattle.fault_cause_laws.specs.StagedModel.{hit_name, own_name, none_name, self_name}
 use Rattle.cut_reach_laws.specs.Names.{AreDistinct, hit_names_of, names_added_by, own_names_from}
 use Rattle.smv_lexer.proofs.ByteLaws.{digits_in_word}
 use Rattle.smv_language.proofs.WordLaws.{suffixed}

@@ -16,12 +16,12 @@ use Rattle.sat_encoding_laws.specs.Meanings.{AreSymbols}
 use Rattle.sat_encoding_laws.specs.Encodable.{IsEncodable, IsFitTop}
 use Rattle.sat_encoding_laws.specs.HistoryBits.{IsStateMode}
 use Rattle.cut_search_laws.specs.Searchable.{IsSearchable}
-use Rattle.cut_text_laws.specs.Given.{HasItsSymbols}
+use Rattle.cut_text_laws.specs.TraceOfText.{HasItsSymbols}
 use Rattle.cut_text_laws.specs.Laws.{IsNamed}
 use Rattle.fault_cause_laws.specs.Causes.{CommonCause, IsCauseOf}
 use Rattle.fault_cause_laws.specs.CausesText.{WrittenCause, BytesSpellCauses}
 use Rattle.fault_cause_laws.specs.CauseRules.{AreLawful, AreReadAs}
-use Rattle.fault_cause_laws.specs.Staged.{with_causes, events_of}
+use Rattle.fault_cause_laws.specs.StagedModel.{with_causes, events_of}
 use Rattle.smv_language.specs.Texts.{AreApart}
 
 -- The model is encodable, its faults are modes of its state, the causes strike them, and the top event fits; inputs and event are small.
@@ -44,7 +44,8 @@ pub record IsSearchableStaged (m : FlatModel) (fs : List Mode) (cs : List Common
 -- It is so where its symbols are different, and it is typed with and without the history of its events.
 abbrev pub CausedAreSearchable : Type 0
 CausedAreSearchable =
-    (m : FlatModel) (fs : List Mode) (cs : List CommonCause) (top : Tree FlatLeaf) → CanHaveCauses m fs cs top → AreSymbols (with_causes m fs cs).symbols → IsTyped (with_causes m fs cs) →
+    (m : FlatModel) (fs : List Mode) (cs : List CommonCause) (top : Tree FlatLeaf) → CanHaveCauses m fs cs top →
+    AreSymbols (with_causes m fs cs).symbols → IsTyped (with_causes m fs cs) →
     IsTyped (with_history (with_causes m fs cs) (events_of m fs cs)) → IsSearchableStaged m fs cs top
 
 -- what a text spells has words as names
@@ -60,5 +61,7 @@ pub record AreNamed (m : FlatModel) (fs : List Mode) (cs : List CommonCause) : T
 -- So it is where causes break no rule of an extension, in whose flat model names and symbols differ.
 abbrev pub CausedAreNamed : Type 0
 CausedAreNamed =
-    (faults : List Fault) (w : ProgramTree) (m : FlatModel) (fs : List Mode) (written : List WrittenCause) (cs : List CommonCause) → IsAccepted w → IsFlatOf w m → IsNamed m → AreApart m.symbols →
-    length faults < 2 ^ 62 → length faults ≡ length fs → AreLawful faults w written → AreReadAs faults w written cs → Each (λ c. IsWord c.name []) written → AreNamed m fs cs
+    (faults : List Fault) (w : ProgramTree) (m : FlatModel) (fs : List Mode) (written : List WrittenCause) (cs : List CommonCause) →
+    IsAccepted w → IsFlatOf w m → IsNamed m → AreApart m.symbols →
+    length faults < 2 ^ 62 → length faults ≡ length fs → AreLawful faults w written → AreReadAs faults w written cs →
+    Each (λ c. IsWord c.name []) written → AreNamed m fs cs

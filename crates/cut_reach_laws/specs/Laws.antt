@@ -20,4 +20,5 @@ abbrev pub StagedAreSearchable : Type 0
 StagedAreSearchable =
     (m : FlatModel) (fs : List Mode) (top : Tree FlatLeaf) → IsSearchable m fs top → cost_of top ≤ 50000 → length fs ≤ 256 →
     (first second : ℕ) → IsFaultNumber (length fs) first → IsFaultNumber (length fs) second → IsTyped (stage m fs first second) →
-    (set : List ℕ) (claim : Option Relation) → IsSearchable (stage m fs first second) [] (against (stage m fs first second) (length fs) top set claim)
+    (set : List ℕ) (claim : Option Relation) →
+    IsSearchable (stage m fs first second) [] (against (stage m fs first second) (length fs) top set claim)

@@ -3,4 +3,4 @@ pub mod OrdersExtendedLaws
 pub mod FaultlessLaws
 pub mod Names
 pub mod CausedLaws
-pub mod Shown
+pub mod CausedAnalyses

@@ -3,7 +3,7 @@
 //! Causes that break no rule add names that are new, so that the model with them keeps its variables and symbols apart
 //! (`specs/Names.antt`). Where the flat model of an extension is encodable and typed with the causes, it can be searched with
 //! their events (`specs/CausedLaws.antt`), and a certificate that is accepted for it shows its sets for all caused traces
-//! (`specs/Shown.antt`).
+//! (`specs/CausedAnalyses.antt`).
 //!
 //! ```text
 //! // Surge#age, Surge#event and own#1 are variables of the state, and no input is read in what is asked of them
@@ -30,7 +30,7 @@ ghost use Rattle.cut_reach_laws.specs.Laws.{StagedAreSearchable};
 ghost use Rattle.cut_reach_laws.specs.OrdersExtendedLaws.{FoundAreSuch, LawfulTopsAreTruths, NoneIsSaid, OrdersAreSaid, OthersAreSuch};
 ghost use Rattle.cut_reach_laws.specs.FaultlessLaws.{AcceptedRefute, EmptyAnswersRefute, FoundTracesReach};
 ghost use Rattle.cut_reach_laws.specs.CausedLaws.{CausedAreSearchable, CausedAreNamed, SpelledAreWords};
-ghost use Rattle.cut_reach_laws.specs.Shown.{AcceptedCertifiesCauses, AnswersAreCaused};
+ghost use Rattle.cut_reach_laws.specs.CausedAnalyses.{AcceptedCertifiesCauses, AnswersAreCaused};
 
 /// The staged model can be searched with what speaks against a claim.
 pub fn staged_are_searchable()

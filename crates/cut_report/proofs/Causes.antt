@@ -8,28 +8,28 @@ use Rattle.smv_flat_laws.proofs.Lists.{get_within}
 use Rattle.std.proofs.lemmas.Option.{slice_get_within, same_Some as some_same}
 use Rattle.cut_text_laws.specs.Lines.{Line}
 use Rattle.cut_text_laws.specs.TraceText.{moment_line, equation}
-use Rattle.cut_text_laws.specs.Given.{IsPrintable}
-use Rattle.cut_text_laws.specs.Wrong.{LineFault, bad_line, unknown_name, outside, twice, number_of, moments_after, IsEquation, IsNameIn, WasSaid, Breaks, IsLeast}
+use Rattle.cut_text_laws.specs.TraceOfText.{IsPrintable}
+use Rattle.cut_text_laws.specs.TraceFaults.{LineFault, bad_line, unknown_name, outside, twice, number_of, moments_after, IsEquation, IsNameIn, WasSaid, Breaks, IsLeast}
 use Rattle.cut_text_laws.proofs.OneTrace.{same_equation}
-use Rattle.cut_report.specs.declared.fault.Cause.{Cause}
-use Rattle.cut_report.specs.declared.fault.Cause.TheVariants as cause
+use Rattle.cut_report.specs.declared.fault.LineCause.{LineCause}
+use Rattle.cut_report.specs.declared.fault.LineCause.TheVariants as cause
 use Rattle.cut_report.specs.declared.reading.Slot.{Slot}
-use Rattle.cut_report.specs.declared.reading.Reading.{Reading}
+use Rattle.cut_report.specs.declared.reading.TraceReading.{TraceReading}
 use Rattle.cut_report.specs.Cuts.{IsNoEquation}
 use Rattle.cut_report.specs.Faults.{IsCauseOf}
 use Rattle.cut_report.specs.Lookups.{IsNamedAt, HasNoValue}
-use Rattle.cut_report.specs.Reading.{IsGiven, IsAfter, IsTaken, IsRefusal, IsRefusedLine}
-use Rattle.smv_language.specs.Told.{told_value}
+use Rattle.cut_report.specs.TraceReading.{IsGiven, IsAfter, IsTaken, IsRefusal, IsRefusedLine}
+use Rattle.smv_language.specs.NumberedValues.{told_value}
 use Rattle.cut_text_laws.proofs.LineJudged.{number_least}
 
 -- a bad line has the smallest number
 pub bad_is_least : (m : FlatModel) (lines : List Line) (l : Line) → l ≢ [] → l ≢ moment_line (moments_after 0 lines) → ((name value : Line) → IsEquation name value l → moments_after 0 lines ≡ 0) → IsLeast m lines l bad_line
 bad_is_least m lines l a b c = record { breaks = (a, b, c); least = λ g d. number_least g }
 
-pub no_equation_bad : (m : FlatModel) (lines : List Line) (l : Line) (r : Reading) → IsAfter m lines r → l ≢ [] → l ≢ moment_line r.begun → IsNoEquation l → IsCauseOf m lines l cause.BadLine
+pub no_equation_bad : (m : FlatModel) (lines : List Line) (l : Line) (r : TraceReading) → IsAfter m lines r → l ≢ [] → l ≢ moment_line r.begun → IsNoEquation l → IsCauseOf m lines l cause.BadLine
 no_equation_bad m lines l r h some other none = bad_is_least m lines l some (λ e. other (e ∙ ap moment_line (sym h.begun))) (λ n v q. absurd (none n v q))
 
-pub too_early_bad : (m : FlatModel) (lines : List Line) (l : Line) (r : Reading) → IsAfter m lines r → l ≢ [] → l ≢ moment_line r.begun → r.begun ≡ 0 → IsCauseOf m lines l cause.BadLine
+pub too_early_bad : (m : FlatModel) (lines : List Line) (l : Line) (r : TraceReading) → IsAfter m lines r → l ≢ [] → l ≢ moment_line r.begun → r.begun ≡ 0 → IsCauseOf m lines l cause.BadLine
 too_early_bad m lines l r h some other none = bad_is_least m lines l some (λ e. other (e ∙ ap moment_line (sym h.begun))) (λ n v q. sym h.begun ∙ none)
 
 module _ (m : FlatModel) (p : IsPrintable m) (lines : List Line) (l name text : Line) (q : IsEquation name text l) (some : 0 < moments_after 0 lines) where
@@ -72,7 +72,7 @@ module _ (m : FlatModel) (p : IsPrintable m) (lines : List Line) (l name text : 
       least twice b = omega arith
 
 -- why a variable is given no value is what is wrong with the line
-pub refusal_cause : (m : FlatModel) → IsPrintable m → (lines : List Line) (l name text : Line) (r : Reading) (c : Cause) → IsAfter m lines r → IsEquation name text l → 0 < r.begun → IsRefusal m r name text c → IsCauseOf m lines l c
+pub refusal_cause : (m : FlatModel) → IsPrintable m → (lines : List Line) (l name text : Line) (r : TraceReading) (c : LineCause) → IsAfter m lines r → IsEquation name text l → 0 < r.begun → IsRefusal m r name text c → IsCauseOf m lines l c
 refusal_cause m p lines l name text r c h q some f = by c f
   where
     begun : 0 < moments_after 0 lines
@@ -93,14 +93,14 @@ refusal_cause m p lines l name text r c h q some f = by c f
           same_moment = g.there ∙ h.begun;
         }
 
-    by : (c : Cause) → IsRefusal m r name text c → IsCauseOf m lines l c
+    by : (c : LineCause) → IsRefusal m r name text c → IsCauseOf m lines l c
     by cause.BadLine f = absurd f
     by cause.UnknownName f = unknown_least m p lines l name text q begun f
     by cause.Outside f = outside_least m p lines l name text q begun f.0 f.1 f.2
     by cause.Twice f = twice_least m p lines l name text q begun f.0 f.2 (told_value m.symbols f.1) (f.3.inside f.2.variable f.2.is_variable) f.3.is_text (said f.0 f.2 f.4)
     by cause.OutOfMemory f = tt
 
-pub line_cause : (m : FlatModel) → IsPrintable m → (lines : List Line) (l : Line) (r : Reading) (c : Cause) → IsAfter m lines r → l ≢ [] → l ≢ moment_line r.begun → IsRefusedLine m r l c → IsCauseOf m lines l c
+pub line_cause : (m : FlatModel) → IsPrintable m → (lines : List Line) (l : Line) (r : TraceReading) (c : LineCause) → IsAfter m lines r → l ≢ [] → l ≢ moment_line r.begun → IsRefusedLine m r l c → IsCauseOf m lines l c
 line_cause m p lines l r cause.BadLine h some other (inl none) = no_equation_bad m lines l r h some other none
 line_cause m p lines l r cause.BadLine h some other (inr none) = too_early_bad m lines l r h some other none
 line_cause m p lines l r cause.UnknownName h some other f = refusal_cause m p lines l f.name f.text r cause.UnknownName h f.words f.some f.refusal

@@ -6,14 +6,14 @@ use Rattle.smv_language.specs.Flat.{FlatVariable, FlatModel}
 use Rattle.smv_flat_laws.specs.FlatTrace.{AreInDomains}
 use Rattle.cut_text_laws.specs.Lines.{Line}
 use Rattle.cut_text_laws.specs.TraceText.{variable_text, moment_line, equation, value_line}
-use Rattle.cut_text_laws.specs.Given.{IsLineWord, IsPrintable, GivesMoments}
-use Rattle.cut_text_laws.specs.Wrong.{moments_after}
+use Rattle.cut_text_laws.specs.TraceOfText.{IsLineWord, IsPrintable, GivesMoments}
+use Rattle.cut_text_laws.specs.TraceFaults.{moments_after}
 use Rattle.cut_text_laws.proofs.OneTrace.{HasNoMoment, head_of, no_items, no_moment}
 use Rattle.cut_text_laws.proofs.Moments.{next_begins, after_both, none_begins, no_fewer}
 use Rattle.cut_text_laws.proofs.LineJudged.{AllAre}
 use Rattle.cut_text_laws.proofs.GivenHasNone.{fewer_before}
 use Rattle.cut_text_laws.proofs.TextJudged.{Own, cut_own, Valued, moment_given, place_of}
-use Rattle.cut_report.specs.Reading.{IsGiven}
+use Rattle.cut_report.specs.TraceReading.{IsGiven}
 
 -- The values lie in their types, and each is said in the moment of this number.
 pub record IsTold (m : FlatModel) (lines : List Line) (v : List Value) (k : ℕ) : Type 0 where

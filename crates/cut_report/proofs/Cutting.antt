@@ -3,8 +3,8 @@ use Rattle.std.proofs.Common.{◌≡◌, ◌≢◌, ℕ, List, [], ◌∷◌, �
 use Rattle.cut_text_laws.specs.Lines.{Line, IsLine}
 use Rattle.cut_text_laws.proofs.Separators.{same_front, no_separator}
 use Rattle.cut_text_laws.specs.TraceText.{equation}
-use Rattle.cut_text_laws.specs.Wrong.{IsEquation}
-use Rattle.base_values.specs.Cuts.{Lacks, BeginsWith}
+use Rattle.cut_text_laws.specs.TraceFaults.{IsEquation}
+use Rattle.base_values.specs.Separators.{Lacks, BeginsWith}
 use Rattle.cut_report.specs.Cuts.{IsNoEquation, IsSpaceless}
 use Rattle.std.proofs.lemmas.List.{append-nil as append_none}
 use Rattle.cut_text_laws.proofs.LineJudged.{line_front}

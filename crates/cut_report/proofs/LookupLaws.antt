@@ -14,18 +14,18 @@ use Rattle.smv_language.specs.declared.model.FlatModel.{FlatModel}
 use Rattle.smv_language.specs.declared.model.Variable.{Variable}
 use Rattle.smv_language.specs.ModelTree.{model_tree, variable_tree}
 use Rattle.cut_text_laws.specs.TraceText.{variable_text}
-use Rattle.cut_text_laws.specs.Given.{IsPrintable}
-use Rattle.cut_text_laws.specs.Wrong.{IsNameIn}
+use Rattle.cut_text_laws.specs.TraceOfText.{IsPrintable}
+use Rattle.cut_text_laws.specs.TraceFaults.{IsNameIn}
 use Rattle.cut_text_laws.proofs.Plain.{domain_plain, small_end as end_small}
 use Rattle.base_values.specs.declared.domain.Domain.{Domain}
 use Rattle.base_values.specs.declared.value.Value.{Value as Numbered}
 use Rattle.base_values.specs.declared.value.Value.TheVariants.{Bool as ABool, Num, Sym}
 use Rattle.base_values.specs.Domains.{Has}
-use Rattle.smv_types.specs.Numbering.{number_from}
+use Rattle.smv_types.specs.SymbolNumbering.{number_from}
 use Rattle.smv_types.specs.Types.{StandsFor, IsType, AreValuesOf}
-use Rattle.smv_language.specs.Told.{told_value}
+use Rattle.smv_language.specs.NumberedValues.{told_value}
 use Rattle.cut_report.specs.Names.{printed_name}
-use Rattle.cut_text_laws.specs.Given.{HasItsSymbols}
+use Rattle.cut_text_laws.specs.TraceOfText.{HasItsSymbols}
 use Rattle.cut_report.specs.ValueReading.{HasText, IsShort, IsReadIn}
 use Rattle.cut_report.specs.Lookups.{IsNamedAt, IsFoundAt}
 use Rattle.cut_report.proofs.ValueLaws.{StandsAt, number_stands, none_stands, symbol_text}

@@ -3,9 +3,9 @@ use Rattle.std.proofs.Common.{◌≡◌, ◌≢◌, ◌⊎◌, inl, inr, ℕ, su
 use Rattle.std.specs.List.{AllByRecursion}
 use Rattle.smv_language.specs.Flat.{FlatModel}
 use Rattle.cut_text_laws.specs.Lines.{Line, IsLine}
-use Rattle.cut_text_laws.specs.Given.{IsPrintable}
+use Rattle.cut_text_laws.specs.TraceOfText.{IsPrintable}
 use Rattle.cut_text_laws.specs.TraceText.{variable_text, moment_line, equation}
-use Rattle.cut_text_laws.specs.Wrong.{LineFault, moments_after, Breaks, AreSound, Lacks}
+use Rattle.cut_text_laws.specs.TraceFaults.{LineFault, moments_after, Breaks, AreSound, Lacks}
 use Rattle.cut_text_laws.proofs.OneTrace.{no_items, head_of, tail_of, both_of, no_moment}
 use Rattle.cut_text_laws.proofs.Moments.{after_both, no_fewer, next_begins, other_line}
 use Rattle.cut_text_laws.proofs.LineJudged.{AllAre, Stops}

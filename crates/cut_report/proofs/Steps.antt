@@ -14,17 +14,17 @@ use Rattle.smv_flat_laws.proofs.OneOfTwo.{set_get, set_own}
 use Rattle.cut_text_laws.specs.Lines.{Line}
 use Rattle.cut_text_laws.proofs.Separators.{same_front}
 use Rattle.cut_text_laws.specs.TraceText.{variable_text, moment_line, equation, value_line}
-use Rattle.cut_text_laws.specs.Given.{IsLineWord, IsPrintable}
-use Rattle.cut_text_laws.specs.Wrong.{moments_after, IsEquation, WasSaid, Breaks, Lacks}
+use Rattle.cut_text_laws.specs.TraceOfText.{IsLineWord, IsPrintable}
+use Rattle.cut_text_laws.specs.TraceFaults.{moments_after, IsEquation, WasSaid, Breaks, Lacks}
 use Rattle.cut_text_laws.proofs.OneTrace.{some_moment, no_moment, equation_some}
 use Rattle.cut_text_laws.proofs.OneFault.{empty_breaks}
 use Rattle.cut_text_laws.proofs.GivenHasNone.{moment_sound}
 use Rattle.cut_text_laws.proofs.LineJudged.{LineIs, says, line_sound}
 use Rattle.base_values.specs.declared.value.Value.{Value as Numbered}
 use Rattle.cut_report.specs.declared.reading.Slot.{Slot}
-use Rattle.cut_report.specs.declared.reading.Reading.{Reading}
-use Rattle.smv_language.specs.Told.{told_value}
-use Rattle.cut_report.specs.Reading.{IsGiven, IsSilent, IsLast, IsSaid, AreSaid, IsAfter, values_of, with_last, Gives}
+use Rattle.cut_report.specs.declared.reading.TraceReading.{TraceReading}
+use Rattle.smv_language.specs.NumberedValues.{told_value}
+use Rattle.cut_report.specs.TraceReading.{IsGiven, IsSilent, IsLast, IsSaid, AreSaid, IsAfter, values_of, with_last, Gives}
 use Rattle.cut_report.proofs.Positions.{last_or_in, sound_more, still, one_begins, front_begun, lacks_more, lacks_at_moment}
 use Rattle.std.proofs.lemmas.Bool.{and_parts as first_true}
 use Rattle.base_values.proofs.ListLaws.{push_get}
@@ -61,7 +61,7 @@ lacking_more : (m : FlatModel) (lines : List Line) (l : Line) (begun k : ℕ) �
 lacking_more m lines l begun k e h past = lacks_more m lines l k (h past) (omega (arith, e, past))
 
 -- An empty line.
-pub after_empty : (m : FlatModel) (lines : List Line) (l : Line) (r : Reading) → l ≡ [] → IsAfter m lines r → IsAfter m (lines ++ l ∷ []) r
+pub after_empty : (m : FlatModel) (lines : List Line) (l : Line) (r : TraceReading) → l ≡ [] → IsAfter m lines r → IsAfter m (lines ++ l ∷ []) r
 after_empty m lines l r e h = record {
   sound = sound_more m lines l h.sound (λ f b. empty_breaks m lines f (subst (λ x. Breaks m lines x f) e b));
   begun = h.begun ∙ sym (still lines l (λ f. some_moment (moments_after 0 lines) (sym f ∙ e)));
@@ -73,7 +73,7 @@ after_empty m lines l r e h = record {
 }
 
 -- A value's line.
-pub after_value : (m : FlatModel) → IsPrintable m → (lines : List Line) (l name text : Line) (old new : Reading) → IsAfter m lines old → IsEquation name text l → 0 < old.begun → Gives m old new name text → IsAfter m (lines ++ l ∷ []) new
+pub after_value : (m : FlatModel) → IsPrintable m → (lines : List Line) (l name text : Line) (old new : TraceReading) → IsAfter m lines old → IsEquation name text l → 0 < old.begun → Gives m old new name text → IsAfter m (lines ++ l ∷ []) new
 after_value m p lines l name text old new h q some g = record {
   sound = sound_more m lines l h.sound (line_sound m p lines l is_line);
   begun = g.given.begun ∙ h.begun ∙ sym (still lines l (λ f. no_moment (variable_text x) (value_text w) (moments_after 0 lines) word (sym line ∙ f)));
@@ -184,7 +184,7 @@ length_values : (slots : List Slot) → length (values_of slots) ≡ length slot
 length_values [] = refl
 length_values (s ∷ slots) = ap suc (length_values slots)
 
-pub moment_ended : (m : FlatModel) (lines : List Line) (r : Reading) → IsAfter m lines r → IsEnded m lines r.begun (with_last r.begun r.slots.items r.moments)
+pub moment_ended : (m : FlatModel) (lines : List Line) (r : TraceReading) → IsAfter m lines r → IsEnded m lines r.begun (with_last r.begun r.slots.items r.moments)
 moment_ended m lines r h = by_tests (nat_lt 0 r.begun) (nat_eq (length r.moments) (r.begun - 1)) (list_all (λ s. nat_eq s.moment r.begun) r.slots.items) refl refl refl
   where
     complete : 0 < r.begun → length r.moments ≡ r.begun - 1 → ((i : ℕ) (s : Slot) → slice_get r.slots.items i ≡ Some s → s.moment ≡ r.begun) → IsEnded m lines r.begun (r.moments ++ values_of r.slots.items ∷ [])
@@ -241,7 +241,7 @@ moment_ended m lines r h = by_tests (nat_lt 0 r.begun) (nat_eq (length r.moments
     by_tests false b c e f g = partial (λ less. absurd (none_begun e less))
 
 -- The line of the next moment.
-pub after_moment : (m : FlatModel) → IsPrintable m → (lines : List Line) (l : Line) (old new : Reading) → IsAfter m lines old → l ≡ moment_line old.begun → new.begun ≡ old.begun + 1 → new.slots.items ≡ old.slots.items →
+pub after_moment : (m : FlatModel) → IsPrintable m → (lines : List Line) (l : Line) (old new : TraceReading) → IsAfter m lines old → l ≡ moment_line old.begun → new.begun ≡ old.begun + 1 → new.slots.items ≡ old.slots.items →
     new.moments ≡ with_last old.begun old.slots.items old.moments → IsAfter m (lines ++ l ∷ []) new
 after_moment m p lines l old new h e begun slots moments = record {
   sound = sound_more m lines l h.sound (λ f b. moment_sound m lines (moments_after 0 lines) refl f (subst (λ x. Breaks m lines x f) line b));

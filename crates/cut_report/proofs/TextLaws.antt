@@ -11,7 +11,7 @@ use Rattle.smv_language.specs.ModelTree.{name_in, place_in, variable_tree}
 use Rattle.base_values.specs.declared.value.Value.{Value as Numbered}
 use Rattle.cut_text_laws.specs.TraceText.{value_line, value_lines, trace_lines}
 use Rattle.cut_report.specs.Names.{printed_name}
-use Rattle.smv_language.specs.Told.{told_value, told_moment, told_trace}
+use Rattle.smv_language.specs.NumberedValues.{told_value, told_moment, told_trace}
 use Rattle.smv_language.proofs.ListLaws.{drop_past, drop_item}
 
 pub ruleset text_rules = (append_assoc, append-nil, length-map)

@@ -11,7 +11,7 @@ use Rattle.base_values.specs.declared.domain.Domain.TheVariants as domain
 use Rattle.base_values.specs.declared.value.Value.{Value as Numbered}
 use Rattle.base_values.specs.declared.value.Value.TheVariants.{Bool as ABool, Num, Sym}
 use Rattle.base_values.specs.Domains.{Has}
-use Rattle.smv_types.specs.Numbering.{number_from}
+use Rattle.smv_types.specs.SymbolNumbering.{number_from}
 use Rattle.smv_types.proofs.NumberingLaws.{number_told}
 use Rattle.cut_report.specs.ValueReading.{HasText, IsTruth, IsNumber, IsSymbol, IsReadOf, IsParsed, IsAmong, IsShort, IsReadIn}
 use Rattle.std.proofs.lemmas.Option.{same_Some as some_same, none-some as never}

@@ -14,8 +14,8 @@ use Rattle.smv_flat_laws.proofs.Lists.{get_within}
 use Rattle.cut_text_laws.specs.Lines.{Line, fed, IsLine}
 use Rattle.cut_text_laws.proofs.Cuts.{line_lies, length_more, fed_long, rest_shorter}
 use Rattle.cut_text_laws.specs.TraceText.{moment_line}
-use Rattle.cut_text_laws.specs.Given.{IsPrintable, GivesMoments, BytesGive}
-use Rattle.cut_text_laws.specs.Wrong.{moments_after, Lacks, Misses}
+use Rattle.cut_text_laws.specs.TraceOfText.{IsPrintable, GivesMoments, BytesGive}
+use Rattle.cut_text_laws.specs.TraceFaults.{moments_after, Lacks, Misses}
 use Rattle.cut_text_laws.proofs.OneTrace.{no_items}
 use Rattle.cut_text_laws.proofs.Moments.{after_both, none_begins, no_fewer, next_begins}
 use Rattle.cut_text_laws.proofs.LineJudged.{AllAre}
@@ -24,18 +24,18 @@ use Rattle.base_values.specs.declared.value.Value.{Value as Numbered}
 use Rattle.cut_report.specs.declared.fault.TraceFault.{TraceFault}
 use Rattle.cut_report.specs.declared.fault.TraceFault.TheVariants as fault
 use Rattle.cut_report.specs.declared.reading.Slot.{Slot}
-use Rattle.cut_report.specs.declared.reading.Reading.{Reading}
-use Rattle.base_values.specs.Cuts.{IsLineThen}
+use Rattle.cut_report.specs.declared.reading.TraceReading.{TraceReading}
+use Rattle.base_values.specs.Separators.{IsLineThen}
 use Rattle.cut_report.specs.Faults.{IsFaultOf}
-use Rattle.cut_report.specs.Reading.{IsGiven, IsSaid, IsAfter, with_last, ended, IsUnfinished, IsFinished}
-use Rattle.smv_language.specs.Told.{told_value, told_moment, told_trace}
+use Rattle.cut_report.specs.TraceReading.{IsGiven, IsSaid, IsAfter, with_last, ended, IsUnfinished, IsFinished}
+use Rattle.smv_language.specs.NumberedValues.{told_value, told_moment, told_trace}
 use Rattle.cut_report.proofs.Positions.{sound_are}
 use Rattle.cut_report.proofs.LookupLaws.{IsImage, image}
 use Rattle.cut_report.proofs.Steps.{IsEnded, moment_ended}
 use Rattle.cut_report.proofs.Collected.{IsTold, moments_collected}
 
 -- Before the first line.
-pub before_all : (m : FlatModel) (r : Reading) → r.begun ≡ 0 → r.moments ≡ [] → length r.slots.items ≡ length m.variables → ((i : ℕ) (s : Slot) → slice_get r.slots.items i ≡ Some s → s.moment ≡ 0) → IsAfter m [] r
+pub before_all : (m : FlatModel) (r : TraceReading) → r.begun ≡ 0 → r.moments ≡ [] → length r.slots.items ≡ length m.variables → ((i : ℕ) (s : Slot) → slice_get r.slots.items i ≡ Some s → s.moment ≡ 0) → IsAfter m [] r
 before_all m r none nothing many fresh = record {
   sound = λ front line back f e b. no_line front line back e;
   begun = none;
@@ -51,7 +51,7 @@ before_all m r none nothing many fresh = record {
     no_line (x ∷ front) line back e = no_items x (front ++ line ∷ back) [] refl e
 
 -- as many slots as variables, none of which was given a value
-pub first_after : (m : FlatModel) (r : Reading) (n : ℕ) (s : Slot) → r.begun ≡ 0 → r.moments ≡ [] → r.slots.items ≡ replicate n s → s.moment ≡ 0 → n ≡ length m.variables → IsAfter m [] r
+pub first_after : (m : FlatModel) (r : TraceReading) (n : ℕ) (s : Slot) → r.begun ≡ 0 → r.moments ≡ [] → r.slots.items ≡ replicate n s → s.moment ≡ 0 → n ≡ length m.variables → IsAfter m [] r
 first_after m r n s none nothing same zeroth many =
     before_all m r none nothing (ap length same ∙ length-replicate n s ∙ many) (λ i t e. ap (λ (u : Slot). u.moment) (all_same n i t (ap (λ ss. slice_get ss i) (sym same) ∙ e)) ∙ zeroth)
   where
@@ -61,7 +61,7 @@ first_after m r n s none nothing same zeroth many =
     all_same (suc n) (suc i) t e = all_same n i t e
 
 -- bytes after the last line feed
-pub tail_wrong : (m : FlatModel) (bytes rest : List ℕ) (lines : List Line) (r : Reading) (number : ℕ) → IsAfter m lines r → bytes ≡ fed lines ++ rest → AllByRecursion IsLine lines → IsLine rest → rest ≢ [] → number ≡ suc (length lines) →
+pub tail_wrong : (m : FlatModel) (bytes rest : List ℕ) (lines : List Line) (r : TraceReading) (number : ℕ) → IsAfter m lines r → bytes ≡ fed lines ++ rest → AllByRecursion IsLine lines → IsLine rest → rest ≢ [] → number ≡ suc (length lines) →
     IsFaultOf m bytes (fault.BadLine number)
 tail_wrong m bytes rest lines r number h e ls l some count = subst (λ n. IsFaultOf m bytes (fault.BadLine n)) (sym count) (inl (record {
   before = lines;
@@ -98,7 +98,7 @@ said_told m lines v k s = record {
     of_image i x w at u = subst (λ z. IsGiven lines x z k) u.same (s.each i x u.item at u.is)
 
 -- The end of the text.
-module _ (m : FlatModel) (p : IsPrintable m) (lines : List Line) (r : Reading) (h : IsAfter m lines r) (ls : AllByRecursion IsLine lines) where
+module _ (m : FlatModel) (p : IsPrintable m) (lines : List Line) (r : TraceReading) (h : IsAfter m lines r) (ls : AllByRecursion IsLine lines) where
   are : AllAre m [] lines
   are = sound_are m p lines ls h.sound
 
@@ -186,17 +186,17 @@ module _ (m : FlatModel) (p : IsPrintable m) (lines : List Line) (r : Reading) (
               of_moment u = subst (λ n. IsTold m lines v n) (omega arith) (subst (λ w. IsTold m lines w (suc k)) u.same (said_told m lines u.item (suc k) (done.kept k u.item (ap (λ ms. slice_get ms k) (sym f.same) ∙ u.is))))
 
 -- The text up to a line.
-pub record IsRead (m : FlatModel) (bytes rest : List ℕ) (number : ℕ) (r : Reading) : Type 0 where
+pub record IsRead (m : FlatModel) (bytes rest : List ℕ) (number : ℕ) (r : TraceReading) : Type 0 where
   pub lines : List Line
   pub lie : bytes ≡ fed lines ++ rest
   pub are_lines : AllByRecursion IsLine lines
   pub after : IsAfter m lines r
   pub count : number ≡ suc (length lines)
 
-pub read_start : (m : FlatModel) (bytes : List ℕ) (r : Reading) → IsAfter m [] r → IsRead m bytes bytes 1 r
+pub read_start : (m : FlatModel) (bytes : List ℕ) (r : TraceReading) → IsAfter m [] r → IsRead m bytes bytes 1 r
 read_start m bytes r h = record { lines = []; lie = refl; are_lines = tt; after = h; count = refl }
 
-pub read_more : (m : FlatModel) (bytes rest line after : List ℕ) (number : ℕ) (old new : Reading) → IsRead m bytes rest number old → IsLineThen rest line after →
+pub read_more : (m : FlatModel) (bytes rest line after : List ℕ) (number : ℕ) (old new : TraceReading) → IsRead m bytes rest number old → IsLineThen rest line after →
     ((lines : List Line) → IsAfter m lines old → IsAfter m (lines ++ line ∷ []) new) → IsRead m bytes after (number + 1) new
 read_more m bytes rest line after number old new h l step = record {
   lines = h.lines ++ line ∷ [];
@@ -215,7 +215,7 @@ begun_few n (l ∷ lines) = by (same_text l (moment_line n)) (begun_few (suc n) 
     by true h g = omega (arith, h)
     by false h g = omega (arith, g)
 
-pub read_few : (m : FlatModel) (bytes rest line after : List ℕ) (number : ℕ) (r : Reading) → IsRead m bytes rest number r → IsLineThen rest line after → number ≤ length bytes
+pub read_few : (m : FlatModel) (bytes rest line after : List ℕ) (number : ℕ) (r : TraceReading) → IsRead m bytes rest number r → IsLineThen rest line after → number ≤ length bytes
 read_few m bytes rest line after number r h l =
     let whole : length bytes ≡ length (fed h.lines ++ rest) = ap length h.lie in
     let sum : length (fed h.lines ++ rest) ≡ length (fed h.lines) + length rest = length-append (fed h.lines) rest in
@@ -223,14 +223,14 @@ read_few m bytes rest line after number r h l =
     let less : length after < length rest = rest_shorter rest line after l in
     omega (arith, whole, sum, long, less, h.count)
 
-pub begun_fewer : (m : FlatModel) (bytes rest : List ℕ) (number : ℕ) (r : Reading) → IsRead m bytes rest number r → r.begun < number
+pub begun_fewer : (m : FlatModel) (bytes rest : List ℕ) (number : ℕ) (r : TraceReading) → IsRead m bytes rest number r → r.begun < number
 begun_fewer m bytes rest number r h = let few : moments_after 0 h.lines ≤ 0 + length h.lines = begun_few 0 h.lines in omega (arith, few, h.count, h.after.begun)
 
-pub read_tail : (m : FlatModel) (bytes rest : List ℕ) (number : ℕ) (r : Reading) → IsRead m bytes rest number r → IsLine rest → rest ≢ [] → IsFaultOf m bytes (fault.BadLine number)
+pub read_tail : (m : FlatModel) (bytes rest : List ℕ) (number : ℕ) (r : TraceReading) → IsRead m bytes rest number r → IsLine rest → rest ≢ [] → IsFaultOf m bytes (fault.BadLine number)
 read_tail m bytes rest number r h l some = tail_wrong m bytes rest h.lines r number h.after h.lie h.are_lines l some h.count
 
-pub read_fault : (m : FlatModel) → IsPrintable m → (bytes rest : List ℕ) (number : ℕ) (r : Reading) (f : TraceFault) → IsRead m bytes rest number r → rest ≡ [] → IsUnfinished (ended r) f → IsFaultOf m bytes f
+pub read_fault : (m : FlatModel) → IsPrintable m → (bytes rest : List ℕ) (number : ℕ) (r : TraceReading) (f : TraceFault) → IsRead m bytes rest number r → rest ≡ [] → IsUnfinished (ended r) f → IsFaultOf m bytes f
 read_fault m p bytes rest number r f h none u = unfinished_wrong m p h.lines r h.after h.are_lines bytes (h.lie ∙ ap (λ b. fed h.lines ++ b) none ∙ append_none (fed h.lines)) f u
 
-pub read_gives : (m : FlatModel) → IsPrintable m → (bytes rest : List ℕ) (number : ℕ) (r : Reading) (trace : List (List Numbered)) → IsRead m bytes rest number r → rest ≡ [] → IsFinished (ended r) trace → BytesGive m bytes (told_trace m.symbols trace)
+pub read_gives : (m : FlatModel) → IsPrintable m → (bytes rest : List ℕ) (number : ℕ) (r : TraceReading) (trace : List (List Numbered)) → IsRead m bytes rest number r → rest ≡ [] → IsFinished (ended r) trace → BytesGive m bytes (told_trace m.symbols trace)
 read_gives m p bytes rest number r trace h none f = finished_gives m p h.lines r h.after h.are_lines bytes (h.lie ∙ ap (λ b. fed h.lines ++ b) none ∙ append_none (fed h.lines)) trace f

@@ -1,8 +1,8 @@
 -- Lines that are cut into words.
 use Rattle.std.specs.Prelude.{◌≢◌, []}
-use Rattle.base_values.specs.Cuts.{Lacks}
+use Rattle.base_values.specs.Separators.{Lacks}
 use Rattle.cut_text_laws.specs.Lines.{Line}
-use Rattle.cut_text_laws.specs.Wrong.{IsEquation}
+use Rattle.cut_text_laws.specs.TraceFaults.{IsEquation}
 
 -- a word has a byte, and none of its bytes is a space
 abbrev pub IsSpaceless : Line → Type 0

@@ -1,15 +1,15 @@
 -- What a fault of a text tells.
 use Rattle.std.specs.Prelude.{ℕ, List}
 use Rattle.smv_language.specs.Flat.{FlatModel}
-use Rattle.cut_text_laws.specs.Wrong.{bad_line, unknown_name, outside, twice, wrong_line, missing_value, IsFirstFault, IsLeast}
+use Rattle.cut_text_laws.specs.TraceFaults.{bad_line, unknown_name, outside, twice, wrong_line, missing_value, IsFirstFault, IsLeast}
 use Rattle.cut_text_laws.specs.Lines.{Line}
 use Rattle.cut_report.specs.declared.fault.TraceFault.{TraceFault}
 use Rattle.cut_report.specs.declared.fault.TraceFault.TheVariants as fault
-use Rattle.cut_report.specs.declared.fault.Cause.{Cause}
-use Rattle.cut_report.specs.declared.fault.Cause.TheVariants as cause
+use Rattle.cut_report.specs.declared.fault.LineCause.{LineCause}
+use Rattle.cut_report.specs.declared.fault.LineCause.TheVariants as cause
 
 -- the fault of a line of this number
-abbrev pub fault_at : Cause → ℕ → TraceFault
+abbrev pub fault_at : LineCause → ℕ → TraceFault
 fault_at cause.BadLine n = fault.BadLine n
 fault_at cause.UnknownName n = fault.UnknownName n
 fault_at cause.Outside n = fault.Outside n
@@ -17,7 +17,7 @@ fault_at cause.Twice n = fault.Twice n
 fault_at cause.OutOfMemory n = fault.OutOfMemory
 
 -- what is wrong with a line, unless memory was wanting
-abbrev pub IsCauseOf : FlatModel → List Line → Line → Cause → Type 0
+abbrev pub IsCauseOf : FlatModel → List Line → Line → LineCause → Type 0
 IsCauseOf m before line cause.BadLine = IsLeast m before line bad_line
 IsCauseOf m before line cause.UnknownName = IsLeast m before line unknown_name
 IsCauseOf m before line cause.Outside = IsLeast m before line outside

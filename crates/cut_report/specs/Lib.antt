@@ -1,8 +1,8 @@
 pub mod FaultText
-pub mod Analysed
+pub mod AnalysisView
 pub mod Names
 pub mod Cuts
 pub mod ValueReading
 pub mod Lookups
 pub mod Faults
-pub mod Reading
+pub mod TraceReading

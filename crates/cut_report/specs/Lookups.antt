@@ -5,9 +5,9 @@ use Rattle.smv_language.specs.Values.{Value, value_text}
 use Rattle.smv_language.specs.Trace.{in_domain}
 use Rattle.smv_language.specs.Flat.{FlatVariable, FlatModel}
 use Rattle.cut_text_laws.specs.TraceText.{variable_text}
-use Rattle.cut_text_laws.specs.Wrong.{IsNameIn}
+use Rattle.cut_text_laws.specs.TraceFaults.{IsNameIn}
 use Rattle.base_values.specs.declared.value.Value.{Value as Numbered}
-use Rattle.smv_language.specs.Told.{told_value}
+use Rattle.smv_language.specs.NumberedValues.{told_value}
 
 -- the variable of this number is printed so
 pub record IsNamedAt (m : FlatModel) (name : Text) (i : ℕ) : Type 0 where
@@ -27,7 +27,8 @@ pub record IsValueAt (m : FlatModel) (i : ℕ) (text : Text) (v : Numbered) : Ty
 
 -- no value of the variable's type has the text
 abbrev pub HasNoValue : FlatModel → ℕ → Text → Type 0
-HasNoValue m i text = (x : FlatVariable) → slice_get m.variables i ≡ Some x → (w : Value) → IsTrue (in_domain x.declared w) → value_text w ≢ text
+HasNoValue m i text = (x : FlatVariable) → slice_get m.variables i ≡ Some x → (w : Value) → IsTrue (in_domain x.declared w) →
+    value_text w ≢ text
 
 -- the value of the variable's type that has the text, where one has it
 abbrev pub IsFoundAt : FlatModel → ℕ → Text → Option Numbered → Type 0

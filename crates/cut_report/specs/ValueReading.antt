@@ -8,7 +8,7 @@ use Rattle.base_values.specs.declared.value.Value.{Value as Numbered}
 use Rattle.base_values.specs.declared.value.Value.TheVariants.{Bool as ABool, Num, Sym}
 use Rattle.base_values.specs.Domains.{Has}
 use Rattle.smv_types.specs.Types.{StandsFor}
-use Rattle.smv_language.specs.Told.{told_value}
+use Rattle.smv_language.specs.NumberedValues.{told_value}
 use Rattle.smv_language.specs.Values.{value_text}
 
 -- the value has this text; a symbol has the number of its first place

@@ -1,13 +1,12 @@
 //! The report of an analysis ([`print_analysis`]), piece by piece at the end of one buffer. Its text stands in `cut_text_laws`.
-
 ghost use Rattle.std.specs.Prelude.{◌≡◌, ◌++◌, codes, map, length, IfOk, OnOk};
 ghost use Rattle.std.specs.Fmt.{decimal};
 ghost use Rattle.smv_language.specs.ModelTree.{model_tree, name_of_fault};
 ghost use Rattle.cut_text_laws.specs.AnalysisText.{numbers_text, set_lines, trace_parts, first_line, ending_text, size_line, analysis_text};
 ghost use Rattle.cut_text_laws.specs.TraceText.{trace_text};
 ghost use Rattle.cut_report.specs.FaultText.{faults_text};
-ghost use Rattle.smv_language.specs.Told.{told_trace};
-ghost use Rattle.cut_report.specs.Analysed.{told_analysis, told_traces};
+ghost use Rattle.smv_language.specs.NumberedValues.{told_trace};
+ghost use Rattle.cut_report.specs.AnalysisView.{told_analysis, told_traces};
 ghost use Rattle.cut_text_laws.specs.Analysis.{told_ending};
 
 use crate::fault_list::print_faults;

@@ -1,6 +1,5 @@
 //! What is wrong first with the text of a trace ([`TraceFault`]). Inside, a line that is wrong has a cause, which becomes a
 //! fault with the line's number.
-
 ghost use Rattle.std.specs.Prelude.{◌≡◌};
 ghost use Rattle.cut_report.specs.Faults.{fault_at};
 
@@ -28,7 +27,7 @@ pub enum TraceFault {
 
 /// What is wrong with a line.
 #[derive(Clone, Copy, Debug, PartialEq, Eq)]
-pub(crate) enum Cause {
+pub(crate) enum LineCause {
     BadLine,
     UnknownName,
     Outside,
@@ -36,28 +35,28 @@ pub(crate) enum Cause {
     OutOfMemory,
 }
 
-impl Cause {
+impl LineCause {
     /// The fault of the line of this number.
     pub(crate) fn at_line(self, number: u64) -> TraceFault
         ensures { result ≡ fault_at self number }
     {
         match self {
-            Cause::BadLine => TraceFault::BadLine(number),
-            Cause::UnknownName => TraceFault::UnknownName(number),
-            Cause::Outside => TraceFault::Outside(number),
-            Cause::Twice => TraceFault::Twice(number),
-            Cause::OutOfMemory => TraceFault::OutOfMemory,
+            LineCause::BadLine => TraceFault::BadLine(number),
+            LineCause::UnknownName => TraceFault::UnknownName(number),
+            LineCause::Outside => TraceFault::Outside(number),
+            LineCause::Twice => TraceFault::Twice(number),
+            LineCause::OutOfMemory => TraceFault::OutOfMemory,
         }
     }
 }
 
-impl From<OutOfMemory> for Cause {
-    ghost use Rattle.cut_report.specs.declared.fault.Cause.TheVariants as cause;
+impl From<OutOfMemory> for LineCause {
+    ghost use Rattle.cut_report.specs.declared.fault.LineCause.TheVariants as cause;
 
     ghost from_gives = { λ _ made. made ≡ cause.OutOfMemory };
 
-    fn from(_refused: OutOfMemory) -> Cause {
-        Cause::OutOfMemory
+    fn from(_refused: OutOfMemory) -> LineCause {
+        LineCause::OutOfMemory
     }
 }
 

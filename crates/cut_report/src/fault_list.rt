@@ -1,5 +1,4 @@
 //! The lines of the faults of a report: their number, and each with its own number and name ([`print_faults`]).
-
 ghost use Rattle.std.specs.Prelude.{◌≡◌, ◌++◌, map, IfOk, OnOk};
 ghost use Rattle.cut_report.specs.FaultText.{fault_line, fault_lines, faults_text};
 ghost use Rattle.smv_language.specs.ModelTree.{name_of_fault};

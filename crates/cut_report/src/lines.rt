@@ -1,10 +1,9 @@
 //! Lines cut into words: [`equation_words`] gives the two words of an equation. What is cut off is borrowed from the
 //! text, and nothing is copied.
-
 ghost use Rattle.std.specs.Prelude.{◌≡◌, ◌≢◌, ◌↔◌, ℕ, ◌∷◌, ◌++◌, List, codes, IsTrue, IfOk, MatchOption};
 ghost use Rattle.cut_text_laws.specs.Lines.{IsLine};
 ghost use Rattle.cut_text_laws.specs.TraceText.{moment_line};
-ghost use Rattle.cut_text_laws.specs.Wrong.{IsEquation};
+ghost use Rattle.cut_text_laws.specs.TraceFaults.{IsEquation};
 ghost use Rattle.cut_report.specs.Cuts.{IsNoEquation, IsSpaceless};
 
 use base_values::{OutOfMemory, cut, length_before};
@@ -67,7 +66,8 @@ pub(crate) fn is_moment_line(alloc: Global, line: &[u8], number: u64) -> Result<
 
 /// What stands after the word `moment` and a space.
 fn after_moment(line: &[u8]) -> Option<&[u8]>
-    ensures { MatchOption result ((digits : List ℕ) → line.now ≢ codes "moment " ++ digits) (λ digits. line.now ≡ codes "moment " ++ digits.now) }
+    ensures { MatchOption result ((digits : List ℕ) →
+        line.now ≢ codes "moment " ++ digits) (λ digits. line.now ≡ codes "moment " ++ digits.now) }
 {
     match line {
         [b'm', b'o', b'm', b'e', b'n', b't', b' ', digits @ ..] => Some(digits),

@@ -1,11 +1,10 @@
 //! The variables of a model by their printed names, and their values by their texts ([`Lookup`]), as the lines of a trace
 //! name them.
-
 ghost use Rattle.std.specs.Prelude.{◌≡◌, ◌<◌, length, map, IfOk, IfSome};
 ghost use Rattle.smv_language.specs.ModelTree.{model_tree};
-ghost use Rattle.cut_text_laws.specs.Given.{IsPrintable};
+ghost use Rattle.cut_text_laws.specs.TraceOfText.{IsPrintable};
 ghost use Rattle.cut_report.specs.Names.{printed_name};
-ghost use Rattle.cut_text_laws.specs.Given.{HasItsSymbols};
+ghost use Rattle.cut_text_laws.specs.TraceOfText.{HasItsSymbols};
 ghost use Rattle.cut_report.specs.Lookups.{IsPlaceOf, IsFoundAt};
 
 use crate::text::append_variable;

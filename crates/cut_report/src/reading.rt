@@ -1,18 +1,18 @@
-//! A text of a trace read line by line: [`Reading::take`] takes a line, and [`Reading::end_moment`] keeps the moment that
+//! A text of a trace read line by line: [`TraceReading::take`] takes a line, and [`TraceReading::end_moment`] keeps the moment that
 //! ends. A variable's slot has the number of the moment in which it was given last, so no moment begins by clearing them.
-
 ghost use Rattle.std.specs.Prelude.{◌≡◌, ◌<◌, ◌-◌, ◌^◌, [], ◌∷◌, ◌++◌, List, length, replicate, false, nat_eq, IfOk, IfErr, OnOk};
 ghost use Rattle.std.specs.List.{list_all};
 ghost use Rattle.cut_text_laws.specs.Lines.{Line, IsLine};
 ghost use Rattle.smv_language.specs.ModelTree.{model_tree};
-ghost use Rattle.cut_text_laws.specs.Given.{IsPrintable};
+ghost use Rattle.cut_text_laws.specs.TraceOfText.{IsPrintable};
 ghost use Rattle.cut_report.specs.Faults.{IsCauseOf};
-ghost use Rattle.cut_report.specs.Reading.{IsAfter, is_complete, values_of, ended, IsTaken, IsGivenTo, Gives, IsRefusal, Begins, GivesLine, IsRefusedLine};
-ghost use Rattle.cut_text_laws.specs.Given.{HasItsSymbols};
-ghost use Rattle.cut_report.specs.declared.fault.Cause.TheVariants as cause;
+ghost use Rattle.cut_report.specs.TraceReading.{IsAfter, is_complete, values_of, ended, IsTaken, IsGivenTo, Gives, IsRefusal, Begins};
+ghost use Rattle.cut_report.specs.TraceReading.{GivesLine, IsRefusedLine};
+ghost use Rattle.cut_text_laws.specs.TraceOfText.{HasItsSymbols};
+ghost use Rattle.cut_report.specs.declared.fault.LineCause.TheVariants as cause;
 ghost use Rattle.base_values.specs.declared.value.Value.TheVariants.{Bool as ABool};
 
-use crate::fault::Cause;
+use crate::fault::LineCause;
 use crate::lines::{equation_words, is_moment_line};
 use crate::lookup::Lookup;
 use base_values::{MomentList, OutOfMemory, Valuation, Value};
@@ -30,15 +30,15 @@ pub(crate) struct Slot {
 /// valuations of the moments before the first that lacks a value. The moment that was begun last is not among
 /// them.
 #[derive(Drop)]
-pub(crate) struct Reading {
+pub(crate) struct TraceReading {
     pub(crate) begun: u64,
     pub(crate) slots: Vec<Slot>,
     pub(crate) moments: MomentList,
 }
 
-impl Reading {
+impl TraceReading {
     /// Before the first line, for so many variables.
-    pub(crate) fn new(alloc: Global, variables: usize) -> Result<Reading, OutOfMemory>
+    pub(crate) fn new(alloc: Global, variables: usize) -> Result<TraceReading, OutOfMemory>
         ensures { IfOk result (λ reading. (reading.begun ≡ 0) × (reading.moments ≡ [])
             × (reading.slots.items ≡ replicate variables (record { moment = 0; value = ABool false }))) }
     {
@@ -47,7 +47,7 @@ impl Reading {
             value: Value::Bool(false),
         };
         let slots = vec![in alloc; empty; variables]?;
-        Ok(Reading {
+        Ok(TraceReading {
             begun: 0,
             slots,
             moments: MomentList::new(alloc),
@@ -60,7 +60,7 @@ impl Reading {
         alloc: Global,
         lookup: &Lookup<'_>,
         line: &[u8],
-    ) -> Result<(), Cause>
+    ) -> Result<(), LineCause>
         requires line { IsLine line.now }
         requires printable { IsPrintable (model_tree lookup.now.typed.now.model) }
         requires symbols { HasItsSymbols (model_tree lookup.now.typed.now.model) }
@@ -81,7 +81,7 @@ impl Reading {
     }
 
     /// Begins the next moment.
-    fn begin(&mut self, alloc: Global) -> Result<(), Cause>
+    fn begin(&mut self, alloc: Global) -> Result<(), LineCause>
         requires { self.old.begun < 2 ^ 64 - 1 }
         ensures ok { OnOk result (Begins self.old self.new) }
         ensures err { IfErr result (λ made. made ≡ cause.OutOfMemory) }
@@ -92,7 +92,12 @@ impl Reading {
     }
 
     /// Reads a line that is not empty and begins no moment.
-    fn take_value(&mut self, alloc: Global, lookup: &Lookup<'_>, line: &[u8]) -> Result<(), Cause>
+    fn take_value(
+        &mut self,
+        alloc: Global,
+        lookup: &Lookup<'_>,
+        line: &[u8],
+    ) -> Result<(), LineCause>
         requires line { IsLine line.now }
         requires printable { IsPrintable (model_tree lookup.now.typed.now.model) }
         requires symbols { HasItsSymbols (model_tree lookup.now.typed.now.model) }
@@ -101,10 +106,10 @@ impl Reading {
         ensures err { IfErr result (IsRefusedLine (model_tree lookup.now.typed.now.model) self.old line.now) }
     {
         let Some((name, value)) = equation_words(line) else {
-            return Err(Cause::BadLine);
+            return Err(LineCause::BadLine);
         };
         if self.begun == 0 {
-            return Err(Cause::BadLine);
+            return Err(LineCause::BadLine);
         }
         self.say(alloc, lookup, name, value)
     }
@@ -116,7 +121,7 @@ impl Reading {
         lookup: &Lookup<'_>,
         name: &[u8],
         text: &[u8],
-    ) -> Result<(), Cause>
+    ) -> Result<(), LineCause>
         requires printable { IsPrintable (model_tree lookup.now.typed.now.model) }
         requires symbols { HasItsSymbols (model_tree lookup.now.typed.now.model) }
         requires many { length self.old.slots.items ≡ length lookup.now.typed.now.model.variables }
@@ -124,22 +129,22 @@ impl Reading {
         ensures err { IfErr result (IsRefusal (model_tree lookup.now.typed.now.model) self.old name.now text.now) }
     {
         let Some(place) = lookup.place(name) else {
-            return Err(Cause::UnknownName);
+            return Err(LineCause::UnknownName);
         };
         let Some(value) = lookup.value(alloc, place, text)? else {
-            return Err(Cause::Outside);
+            return Err(LineCause::Outside);
         };
         self.give(place, value)
     }
 
     /// Gives the variable of this number a value, unless it has one.
-    fn give(&mut self, place: usize, value: Value) -> Result<(), Cause>
+    fn give(&mut self, place: usize, value: Value) -> Result<(), LineCause>
         requires { place < length self.old.slots.items }
         ensures ok { OnOk result (IsGivenTo self.old self.new place value) }
         ensures err { IfErr result (λ made. (made ≡ cause.Twice) × IsTaken self.old place) }
     {
         if self.slots[place].moment == self.begun {
-            return Err(Cause::Twice);
+            return Err(LineCause::Twice);
         }
         self.slots[place] = Slot {
             moment: self.begun,

@@ -1,5 +1,4 @@
 //! Pieces of text that are appended to the end of one buffer, so that the work is linear in the text.
-
 ghost use Rattle.std.specs.Prelude.{◌≡◌, ◌++◌, OnOk};
 ghost use Rattle.cut_report.specs.Names.{printed_name};
 

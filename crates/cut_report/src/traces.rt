@@ -1,10 +1,9 @@
 //! The text of a trace ([`print_trace`]): each moment, and in it each variable's value.
-
 ghost use Rattle.std.specs.Prelude.{◌≡◌, ◌∷◌, ◌++◌, [], map, slice_get, IfOk, OnOk};
 ghost use Rattle.cut_text_laws.specs.Lines.{fed};
 ghost use Rattle.smv_language.specs.ModelTree.{model_tree, variable_tree};
 ghost use Rattle.cut_text_laws.specs.TraceText.{value_line, value_lines, moment_line, trace_text};
-ghost use Rattle.smv_language.specs.Told.{told_value, told_moment, told_trace};
+ghost use Rattle.smv_language.specs.NumberedValues.{told_value, told_moment, told_trace};
 ghost use Rattle.smv_language.specs.Values.{value_text};
 ghost use Rattle.smv_language.specs.Texts.{text_or_none};
 
@@ -60,7 +59,8 @@ fn append_values(
     m: &FlatModel,
     moment: &Valuation,
 ) -> Result<(), OutOfMemory>
-    ensures { OnOk result (text.new ≡ text.old ++ fed (value_lines (map variable_tree m.now.variables) (told_moment m.now.symbols moment.now))) }
+    ensures { OnOk result (text.new
+        ≡ text.old ++ fed (value_lines (map variable_tree m.now.variables) (told_moment m.now.symbols moment.now))) }
 {
     for (i, variable) in m.variables.as_slice().iter().enumerate() {
         if i < moment.len() {

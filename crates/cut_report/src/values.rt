@@ -1,5 +1,4 @@
 //! The value that a text stands for in a variable's domain ([`value_of`]). A number has one text alone, the printed one.
-
 ghost use lib.Signed.{mag};
 ghost use Rattle.std.specs.Prelude.{◌≡◌, ℤ, ◌<◌, ◌^◌, List, Some, IfOk};
 ghost use Rattle.std.specs.Fmt.{signed_decimal};

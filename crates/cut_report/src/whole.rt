@@ -1,17 +1,16 @@
 //! The trace that a text gives, or what is wrong with it first ([`read_trace`]): line after line, and moments that lack a
 //! value after all faults of lines.
-
 ghost use Rattle.std.specs.Prelude.{IfOk, IfErr};
 ghost use Rattle.smv_language.specs.ModelTree.{model_tree};
-ghost use Rattle.cut_text_laws.specs.Given.{IsPrintable, BytesGive};
-ghost use Rattle.smv_language.specs.Told.{told_trace};
+ghost use Rattle.cut_text_laws.specs.TraceOfText.{IsPrintable, BytesGive};
+ghost use Rattle.smv_language.specs.NumberedValues.{told_trace};
 ghost use Rattle.cut_report.specs.Faults.{IsFaultOf};
-ghost use Rattle.cut_report.specs.Reading.{ended, IsFinished, IsUnfinished};
-ghost use Rattle.cut_text_laws.specs.Given.{HasItsSymbols};
+ghost use Rattle.cut_report.specs.TraceReading.{ended, IsFinished, IsUnfinished};
+ghost use Rattle.cut_text_laws.specs.TraceOfText.{HasItsSymbols};
 
 use crate::fault::TraceFault;
 use crate::lookup::{Lookup, printed_names};
-use crate::reading::Reading;
+use crate::reading::TraceReading;
 use base_values::{MomentList, first_line};
 use smv_types::Typed;
 use std::alloc::Global;
@@ -36,10 +35,11 @@ pub fn read_trace(alloc: Global, t: &Typed, bytes: &[u8]) -> Result<MomentList, 
 fn read_lines(alloc: Global, lookup: &Lookup<'_>, bytes: &[u8]) -> Result<MomentList, TraceFault>
     requires printable { IsPrintable (model_tree lookup.now.typed.now.model) }
     requires symbols { HasItsSymbols (model_tree lookup.now.typed.now.model) }
-    ensures trace { IfOk result (λ trace. BytesGive (model_tree lookup.now.typed.now.model) bytes.now (told_trace lookup.now.typed.now.model.symbols trace)) }
+    ensures trace { IfOk result
+        (λ trace. BytesGive (model_tree lookup.now.typed.now.model) bytes.now (told_trace lookup.now.typed.now.model.symbols trace)) }
     ensures fault { IfErr result (IsFaultOf (model_tree lookup.now.typed.now.model) bytes.now) }
 {
-    let mut reading = Reading::new(alloc, lookup.typed.model().variables.len())?;
+    let mut reading = TraceReading::new(alloc, lookup.typed.model().variables.len())?;
     let mut rest = bytes;
     let mut number: u64 = 1;
     while let Some((line, after)) = first_line(rest) {
@@ -56,12 +56,12 @@ fn read_lines(alloc: Global, lookup: &Lookup<'_>, bytes: &[u8]) -> Result<Moment
 }
 
 /// The trace of all lines, none of which is wrong.
-fn finished(alloc: Global, mut reading: Reading) -> Result<MomentList, TraceFault>
+fn finished(alloc: Global, mut reading: TraceReading) -> Result<MomentList, TraceFault>
     ensures trace { IfOk result (IsFinished (ended reading)) }
     ensures fault { IfErr result (IsUnfinished (ended reading)) }
 {
     reading.end_moment(alloc)?;
-    let Reading {
+    let TraceReading {
         begun,
         slots: _,
         moments,

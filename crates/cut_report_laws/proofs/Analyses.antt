@@ -5,12 +5,12 @@ use Rattle.smv_language.specs.ProgramTree.{Formula, ProgramTree}
 use Rattle.smv_flat_laws.specs.FlatTrace.{IsFlatTrace}
 use Rattle.fault_instructions.specs.Instructions.{InstructionTree}
 use Rattle.fault_weave.specs.Faults.{Fault}
-use Rattle.fault_weave.specs.Extended.{Moment, IsExtended}
+use Rattle.fault_weave.specs.ExtensionTraces.{Moment, IsExtended}
 use Rattle.cut_right_laws.specs.Laws.{AreBoth}
 use Rattle.sat_encoding_laws.specs.FlatTraces.{ReachesTop, HasFailedNumber}
-use Rattle.cut_search_laws.specs.Found.{Found, sets_of, traces_of, AreFound}
+use Rattle.cut_search_laws.specs.FoundSets.{Found, sets_of, traces_of, AreFound}
 use Rattle.cut_search_laws.specs.Problem.{Problem}
-use Rattle.cut_search_laws.specs.Searched.{FlatTrace}
+use Rattle.cut_search_laws.specs.FlatSearch.{FlatTrace}
 use Rattle.cert_laws.specs.ExtendedTraces.{IsExtensionModel, IsFlatCut, IsRightExtended}
 use Rattle.cert_laws.proofs.Carried.{correspond, uncut, flat_traces_cut, all_right_extended, short_right_extended}
 use Rattle.cut_report_laws.specs.ExtendedTraces.{IsOfClass, IsAnalysisOf}
@@ -21,7 +21,7 @@ use Rattle.cut_search.specs.Values.{trace_of, all_found}
 use Rattle.cut_search.specs.Progress.{CodeFound, HasChainFor}
 use Rattle.cut_search.specs.Answer.{IsEnd, IsAnswer}
 use Rattle.cut_search.proofs.SearchLemmas.{sets_same}
-use Rattle.cut_report_laws.specs.Answered.{ending_of, analysis_of, EndsBy}
+use Rattle.cut_report_laws.specs.SearchAnswer.{ending_of, analysis_of, EndsBy}
 use Rattle.cut_report_laws.specs.Laws.{AnswersAreAnalyses}
 use Rattle.cut_right_laws.proofs.Places.{both_long}
 use Rattle.cut_search.proofs.TraceLaws.{traces_same}

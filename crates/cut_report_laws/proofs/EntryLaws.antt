@@ -5,7 +5,7 @@ use Rattle.std.specs.List.{list_any}
 use Rattle.smv_language.specs.ProgramTree.{Formula, ProgramTree}
 use Rattle.fault_instructions.specs.Instructions.{InstructionTree}
 use Rattle.fault_weave.specs.Faults.{Fault}
-use Rattle.fault_weave.specs.Extended.{Moment, IsExtended, Reaches}
+use Rattle.fault_weave.specs.ExtensionTraces.{Moment, IsExtended, Reaches}
 use Rattle.cut_right_laws.specs.Sets.{is_contained}
 use Rattle.cut_right_laws.specs.Right.{Shows, HasFailedAll}
 use Rattle.cert_laws.specs.ExtendedTraces.{IsRightExtended, HasFailedFault}

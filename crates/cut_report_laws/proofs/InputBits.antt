@@ -14,7 +14,7 @@ use Rattle.smv_flat_laws.specs.Rules.{too_many, a_visit, visit_sites, variables_
 use Rattle.smv_flat_laws.proofs.HistoryLaws.{length_bits}
 use Rattle.smv_flat_laws.proofs.Walkable.{accepted_walkable}
 use Rattle.smv_type_laws.specs.Intervals.{Interval}
-use Rattle.smv_type_laws.specs.Judged.{hull_of}
+use Rattle.smv_type_laws.specs.ExpressionKinds.{hull_of}
 use Rattle.smv_type_laws.specs.Costs.{digits_above, width_of, width_in, declared_width, number_kind, member_number}
 use Rattle.sat_encoding_laws.specs.Layout.{width_as_input, input_width, input_bits}
 use Rattle.sat_encoding_laws.proofs.SizeLists.{digits_most}

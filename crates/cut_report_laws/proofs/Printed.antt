@@ -5,8 +5,8 @@ use Rattle.smv_language.specs.ProgramTree.{Text}
 use Rattle.smv_language.specs.Values.{symbol}
 use Rattle.base_values.specs.declared.value.Value.{Value}
 use Rattle.base_values.specs.declared.value.Value.TheVariants.{Bool as ABool, Num, Sym}
-use Rattle.smv_language.specs.Told.{told_value, told_moment, told_trace}
-use Rattle.cut_report.specs.Analysed.{told_traces}
+use Rattle.smv_language.specs.NumberedValues.{told_value, told_moment, told_trace}
+use Rattle.cut_report.specs.AnalysisView.{told_traces}
 use Rattle.cut_search.specs.Values.{value_of, values_of, trace_of}
 use Rattle.cut_report_laws.specs.Laws.{AnswersArePrinted}
 use Rattle.smv_language.specs.Texts.{text_or_none}

@@ -11,7 +11,7 @@ use Rattle.smv_flat_laws.specs.History.{Mode}
 use Rattle.fault_instructions.specs.Instructions.{InstructionTree, slices_of}
 use Rattle.fault_instructions.specs.AddedNames.{mode_variable}
 use Rattle.fault_weave.specs.Faults.{Fault}
-use Rattle.fault_weave.specs.Woven.{mode_type, woven}
+use Rattle.fault_weave.specs.WovenProgram.{mode_type, woven}
 use Rattle.fault_instructions.specs.Weavable.{Among}
 use Rattle.fault_weave.proofs.Added.{among_contains}
 use Rattle.cut_text_laws.specs.Laws.{IsNamed}

@@ -6,10 +6,10 @@ use Rattle.smv_language.specs.Trace.{Each}
 use Rattle.smv_language.specs.Flat.{FlatModel}
 use Rattle.fault_instructions.specs.Instructions.{InstructionTree}
 use Rattle.fault_weave.specs.Faults.{Fault}
-use Rattle.fault_weave.specs.Extended.{Moment, IsExtended}
+use Rattle.fault_weave.specs.ExtensionTraces.{Moment, IsExtended}
 use Rattle.cut_right_laws.specs.Sets.{IsRising}
 pub use Rattle.cut_text_laws.specs.Analysis.{Ending, complete, bounded, Analysis}
-use Rattle.cut_search_laws.specs.Found.{AreInOrder}
+use Rattle.cut_search_laws.specs.FoundSets.{AreInOrder}
 use Rattle.cert_laws.specs.ExtendedTraces.{IsRightExtended, IsFlatCut}
 
 module _ (p : ProgramTree) (i : InstructionTree) where
@@ -20,10 +20,12 @@ module _ (p : ProgramTree) (i : InstructionTree) where
 
 -- The analysis is right for its size: its sets, in order and rising, are right for the traces that its ending speaks of, with
 -- the extended traces whose values are shown, and it tells whether there is a trace at all.
-pub record IsAnalysisOf (p : ProgramTree) (i : InstructionTree) (faults : List Fault) (flat : FlatModel) (top : Formula) (size : ℕ) (a : Analysis) : Type 0 where
+pub record IsAnalysisOf (p : ProgramTree) (i : InstructionTree) (faults : List Fault) (flat : FlatModel) (top : Formula) (size : ℕ)
+    (a : Analysis) : Type 0 where
   pub traces : List (List Moment)
   pub right : IsRightExtended p i faults top size (IsOfClass p i a.ending) a.sets traces
-  pub values : (k : ℕ) (values : List (List Value)) (trace : List Moment) → slice_get a.shown k ≡ Some values → slice_get traces k ≡ Some trace → IsFlatCut p i flat values trace
+  pub values : (k : ℕ) (values : List (List Value)) (trace : List Moment) → slice_get a.shown k ≡ Some values →
+      slice_get traces k ≡ Some trace → IsFlatCut p i flat values trace
   pub one_each : length a.shown ≡ length traces
   pub in_order : AreInOrder a.sets
   pub rising : Each IsRising a.sets

@@ -1,4 +1,4 @@
-pub mod Answered
+pub mod SearchAnswer
 pub mod Laws
 pub mod Searchable
 pub mod ExtendedTraces

@@ -4,7 +4,7 @@
 //! `specs/Tables.antt` what the entries of a table mean. What an analysis finds, its text and the texts of traces stand in
 //! `cut_text_laws`, tables and their text in `cut_tables`.
 //!
-//! The search of `cut_search` answers for a flat model. For the flat model of an extension `specs/Answered.antt` sees an answer as the
+//! The search of `cut_search` answers for a flat model. For the flat model of an extension `specs/SearchAnswer.antt` sees an answer as the
 //! analysis that a report tells, `specs/Laws.antt` says that it is right for extended traces, and `specs/Searchable.antt` that such a
 //! model can be searched. The contracts below carry these laws.
 //!

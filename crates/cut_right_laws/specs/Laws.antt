@@ -12,11 +12,13 @@ module _ (T : Type 0) (is_trace reaches : T → Type 0) (has_failed : T → ℕ 
   -- sets that are right for all traces are exactly the minimal cut sets of at most so many faults
   abbrev pub RightSetsAreMinimal : Type 0
   RightSetsAreMinimal =
-      (size : ℕ) (sets : List (List ℕ)) (traces : List T) → IsRight T is_trace reaches has_failed size is_trace sets traces → (set : List ℕ) →
+      (size : ℕ) (sets : List (List ℕ)) (traces : List T) → IsRight T is_trace reaches has_failed size is_trace sets traces →
+      (set : List ℕ) →
       (IsListed T is_trace reaches has_failed sets set ↔ (IsMinimalCutSet T is_trace reaches has_failed set × HasAtMost size set))
 
 -- Traces of two kinds that correspond.
-module _ (T U : Type 0) (is_trace reaches : T → Type 0) (has_failed : T → ℕ → Type 0) (is_other other_reaches : U → Type 0) (other_failed : U → ℕ → Type 0) where
+module _ (T U : Type 0) (is_trace reaches : T → Type 0) (has_failed : T → ℕ → Type 0) (is_other other_reaches : U →
+    Type 0) (other_failed : U → ℕ → Type 0) where
   -- what is a trace, reaches or has failed a fault of the one kind does so of the other
   pub record Correspond (R : T → U → Type 0) : Type 0 where
     pub traces : (t : T) (u : U) → R t u → is_trace t → is_other u

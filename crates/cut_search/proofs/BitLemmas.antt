@@ -7,7 +7,7 @@ use Rattle.smv_language.specs.ProgramTree.{Text}
 use Rattle.base_values.specs.declared.value.Value.{Value}
 use Rattle.base_values.specs.declared.value.Value.TheVariants as value
 use Rattle.sat_encoding_laws.specs.FlatTraces.{numbers_where}
-use Rattle.sat_encoding_laws.specs.Encoded.{is_true_at}
+use Rattle.sat_encoding_laws.specs.Encodings.{is_true_at}
 use Rattle.cut_search.specs.Values.{values_of}
 use Rattle.cut_search.specs.Bits.{is_set_at, bits_set}
 

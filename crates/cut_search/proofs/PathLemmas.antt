@@ -9,9 +9,9 @@ use Rattle.base_values.specs.declared.value.Value.{Value as AValue}
 use Rattle.smv_flat_laws.specs.History.{with_history, bit_variables}
 use Rattle.smv_flat_laws.specs.FlatTrace.{AreInDomains}
 use Rattle.sat_clauses.specs.Assignment.{Assignment}
-use Rattle.cut_search_laws.specs.Searched.{AreReadFrom, IsLawfulMoment}
-use Rattle.cut_search_laws.specs.Found.{Found}
-use Rattle.sat_encoding_laws.specs.Encoded.{is_true_at}
+use Rattle.cut_search_laws.specs.FlatSearch.{AreReadFrom, IsLawfulMoment}
+use Rattle.cut_search_laws.specs.FoundSets.{Found}
+use Rattle.sat_encoding_laws.specs.Encodings.{is_true_at}
 use Rattle.sat_encoding_laws.specs.FlatTraces.{numbers_where, last_of, history_of, failed_in}
 use Rattle.cut_search_laws.proofs.Paths.{place_of_each, each_by_place, last_place}
 use Rattle.cut_search_laws.proofs.Chains.{get_place}

@@ -9,21 +9,21 @@ use Rattle.sat_clauses.specs.Literal.{Literal}
 use Rattle.sat_clauses.specs.Assignment.{Assignment}
 use Rattle.sat_clauses.specs.declared.system.System.{System}
 use Rattle.cut_frames.specs.Path.{IsPath}
-use Rattle.cut_frames.specs.Looked.{IsCleared}
+use Rattle.cut_frames.specs.ClearLooks.{IsCleared}
 use Rattle.cut_frames.specs.Chain.{State, IsFirstState, HasChain}
 use Rattle.cut_frames.specs.FramesRecord.{FramesValue, frontier}
-use Rattle.cut_frames.specs.Framed.{AreStronger}
+use Rattle.cut_frames.specs.FrameLists.{AreStronger}
 use Rattle.cut_frames.proofs.Short.{chains_short}
-use Rattle.cut_frames.specs.Numbered.{AreNumbered}
+use Rattle.cut_frames.specs.FramesByNumber.{AreNumbered}
 use Rattle.cut_frames.specs.Advance.{IsAdvanced}
 use Rattle.cut_frames.specs.declared.advance.Advanced.TheVariants.{Further}
 use Rattle.cut_frames.specs.declared.advance.Advanced.{Advanced}
 use Rattle.cut_frames.specs.declared.clear.Cleared.{Cleared}
 use Rattle.cut_frames.specs.declared.clear.Cleared.TheVariants.{Path}
 use Rattle.cut_right_laws.specs.Sets.{IsRising, is_contained, stands_before}
-use Rattle.cut_search_laws.specs.Found.{AreInOrder, Found, sets_of, traces_of, without, placed, with_found, IsFound, IsNew, ContainOneOf}
+use Rattle.cut_search_laws.specs.FoundSets.{AreInOrder, Found, sets_of, traces_of, without, placed, with_found, IsFound, IsNew, ContainOneOf}
 use Rattle.sat_encoding_laws.specs.FlatTraces.{IsNumbered, ReachesTop, HasFailedNumber, IsRightFlat}
-use Rattle.cut_search_laws.specs.Searched.{FlatTrace, IsSearched, IsBadFor, IsClauseOf, AreFoundFlat, IsFoundFlat, IsLawfulMoment}
+use Rattle.cut_search_laws.specs.FlatSearch.{FlatTrace, IsSearched, IsBadFor, IsClauseOf, AreFoundFlat, IsFoundFlat, IsLawfulMoment}
 use Rattle.cut_search_laws.proofs.FoundLaws.{each_found, some_kept, found_with, still_contain, found_in_order, found_rising}
 use Rattle.sat_encoding_laws.proofs.SetLaws.{each_kept, contained_in_itself, contained_through}
 use Rattle.cut_search_laws.proofs.Paths.{path_is_lawful, path_is_found}
@@ -31,7 +31,7 @@ use Rattle.cut_search.specs.Values.{found_of, all_found}
 use Rattle.cut_search.specs.Progress.{CodeFound, AreListed, ListsOne, IsLooked, StillContain, Shown, AreKept, AreLooking, AreClear, IsBetween, AreProof, HasChainFor, HasGone}
 use Rattle.cut_search.specs.Answer.{IsEnd}
 use Rattle.cut_search.specs.declared.answer.End.TheVariants.{Complete, Bounded}
-use Rattle.cut_search_laws.specs.Uncovered.{uncovered}
+use Rattle.cut_search_laws.specs.UncoveredPatterns.{uncovered}
 use Rattle.cut_search_laws.proofs.Clauses.{with_clause}
 use Rattle.cut_search_laws.proofs.Chains.{no_chain, fewer_are_bad, chain_stays, chain_grows}
 use Rattle.cut_search_laws.proofs.Ends.{search_ends}

@@ -1,7 +1,7 @@
 -- The traces of what was found.
 use Rattle.std.proofs.Common.{◌≡◌, List, [], ◌∷◌, map, refl, ap}
 use Rattle.smv_language.specs.ProgramTree.{Text}
-use Rattle.cut_search_laws.specs.Found.{traces_of}
+use Rattle.cut_search_laws.specs.FoundSets.{traces_of}
 use Rattle.cut_search.specs.Values.{trace_of, all_found}
 use Rattle.cut_search.specs.Progress.{CodeFound}
 

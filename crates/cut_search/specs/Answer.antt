@@ -3,9 +3,9 @@ use Rattle.std.specs.Prelude.{◌≡◌, ◌↔◌, ℕ, true, List}
 use Rattle.smv_flat_laws.specs.FlatTrace.{IsFlatTrace}
 use Rattle.smv_language.specs.Trace.{Each}
 use Rattle.cut_right_laws.specs.Sets.{IsRising}
-use Rattle.cut_search_laws.specs.Found.{AreInOrder, sets_of, traces_of}
+use Rattle.cut_search_laws.specs.FoundSets.{AreInOrder, sets_of, traces_of}
 use Rattle.sat_encoding_laws.specs.FlatTraces.{IsShortTrace, IsRightFlat}
-use Rattle.cut_search_laws.specs.Searched.{FlatTrace}
+use Rattle.cut_search_laws.specs.FlatSearch.{FlatTrace}
 use Rattle.cut_search.specs.Values.{all_found}
 use Rattle.cut_search.specs.Progress.{CodeFound, AreListed, AreProof, HasChainFor}
 use Rattle.cut_search.specs.declared.answer.Analysis.{Analysis}

@@ -9,10 +9,11 @@ use Rattle.sat_clauses.specs.Assignment.{Assignment}
 use Rattle.cut_frames.specs.Chain.{HasChain}
 use Rattle.cut_frames.specs.FramesRecord.{FramesValue, frontier}
 use Rattle.cut_frames.specs.Path.{state_in, inputs_in}
-use Rattle.cut_frames.specs.Framed.{IsClear, AreStronger}
-use Rattle.cut_frames.specs.Numbered.{AreNumbered}
-use Rattle.cut_search_laws.specs.Found.{Found, sets_of, with_found, IsNew, ContainOneOf}
-use Rattle.cut_search_laws.specs.Searched.{FlatTrace, IsBadFor, AreFoundFlat, IsFoundFlat, AreInvariant, AreReadFrom, found_of as shown_by}
+use Rattle.cut_frames.specs.FrameLists.{IsClear, AreStronger}
+use Rattle.cut_frames.specs.FramesByNumber.{AreNumbered}
+use Rattle.cut_search_laws.specs.FoundSets.{Found, sets_of, with_found, IsNew, ContainOneOf}
+use Rattle.cut_search_laws.specs.FlatSearch.{FlatTrace, IsBadFor, AreFoundFlat, IsFoundFlat, AreInvariant, AreReadFrom}
+use Rattle.cut_search_laws.specs.FlatSearch.{found_of as shown_by}
 use Rattle.cut_search.specs.Values.{values_of, found_of, all_found}
 use Rattle.cut_search_laws.specs.Problem.{Problem}
 
@@ -107,6 +108,7 @@ module _ (problem : Problem) where
     pub short : k < 2 ^ system.state_bits + 2
 
   -- A frontier further: an invariant for the sets as they are, or the next frontier's frame is clear for those listed by then.
-  abbrev pub HasGone : ℕ → List CodeFound → List CodeFound → List (List (List Literal)) → FramesValue → Option (List (List Literal)) → Type 0
+  abbrev pub HasGone : ℕ → List CodeFound → List CodeFound → List (List (List Literal)) → FramesValue → Option (List (List Literal)) →
+      Type 0
   HasGone size before now old frames (Some clauses) = (now ≡ before) × AreProof size (sets_of now) clauses
   HasGone size before now old frames None = (length frames.frames ≡ length old + 1) × IsBetween size now frames

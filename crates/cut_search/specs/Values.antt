@@ -4,7 +4,7 @@ use Rattle.smv_language.specs.ProgramTree.{Text}
 use Rattle.smv_language.specs.Values.{Value as Told, truth, number, symbol}
 use Rattle.base_values.specs.declared.value.Value.{Value}
 use Rattle.base_values.specs.declared.value.Value.TheVariants.{Bool, Num, Sym}
-use Rattle.cut_search_laws.specs.Found.{Found}
+use Rattle.cut_search_laws.specs.FoundSets.{Found}
 
 -- a symbol by its number
 abbrev pub value_of : List Text → Value → Told

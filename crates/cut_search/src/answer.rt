@@ -1,11 +1,10 @@
 //! What an analysis answers: the sets with their traces, whether there is a first moment, and how the search ended.
 //!
 //! [`Analysis`] is the answer and [`answer`] makes it of what a search has found. `specs/Answer.antt` says when it is right.
-
 ghost use Rattle.std.specs.Prelude.{◌≡◌, IfOk};
-ghost use Rattle.cut_search_laws.specs.Found.{sets_of, traces_of};
+ghost use Rattle.cut_search_laws.specs.FoundSets.{sets_of, traces_of};
 
-use crate::sets::{Found, SetList, TraceList};
+use crate::sets::{SetList, TraceList, WitnessedSet};
 use base_values::OutOfMemory;
 use sat_clauses::clause::ClauseList;
 use std::alloc::Global;
@@ -36,7 +35,7 @@ pub struct Analysis {
 }
 
 /// The sets and the traces of what was found.
-fn parted(alloc: Global, found: Vec<Found>) -> Result<(SetList, TraceList), OutOfMemory>
+fn parted(alloc: Global, found: Vec<WitnessedSet>) -> Result<(SetList, TraceList), OutOfMemory>
     ensures sets { IfOk result (λ r. r.0 ≡ sets_of found.items) }
     ensures traces { IfOk result (λ r. r.1 ≡ traces_of found.items) }
 {
@@ -53,7 +52,7 @@ fn parted(alloc: Global, found: Vec<Found>) -> Result<(SetList, TraceList), OutO
 /// The answer of what was found, and how the search ended.
 pub fn answer(
     alloc: Global,
-    found: Vec<Found>,
+    found: Vec<WitnessedSet>,
     first: bool,
     end: End,
     size: u32,

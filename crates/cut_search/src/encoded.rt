@@ -1,11 +1,10 @@
 //! What a search needs of a model with history and its clause lists.
-
 ghost use Rattle.std.specs.Prelude.{◌≡◌, ◌<◌, ◌^◌, IfOk, All, length};
 ghost use Rattle.smv_language.specs.Trace.{Each};
 ghost use Rattle.cut_frames.specs.Condition.{IsFit, IsOverNow};
 ghost use Rattle.sat_encoding_laws.specs.FlatTraces.{IsNumbered};
 ghost use Rattle.cut_search_laws.specs.Problem.{Problem};
-ghost use Rattle.cut_search_laws.specs.Searched.{IsSearched, IsBadFor, AreHistory, IsClauseOf};
+ghost use Rattle.cut_search_laws.specs.FlatSearch.{IsSearched, IsBadFor, AreHistory, IsClauseOf};
 ghost use Rattle.cut_search.specs.Progress.{IsReadable, IsReadOf};
 
 use crate::sets::SetList;

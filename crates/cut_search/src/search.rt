@@ -1,17 +1,16 @@
 //! The search: looks at one frontier after the other, until an invariant is found or the depth is reached.
-
 ghost use Rattle.std.specs.Prelude.{◌≡◌, ◌↔◌, ◌≤◌, ◌<◌, ◌^◌, IfOk, true};
-ghost use Rattle.cut_search_laws.specs.Found.{sets_of};
-ghost use Rattle.cut_search_laws.specs.Searched.{IsSearched, IsBadFor};
+ghost use Rattle.cut_search_laws.specs.FoundSets.{sets_of};
+ghost use Rattle.cut_search_laws.specs.FlatSearch.{IsSearched, IsBadFor};
 ghost use Rattle.cut_frames.specs.Chain.{State, IsFirstState};
 ghost use Rattle.cut_frames.specs.FramesRecord.{frontier};
-ghost use Rattle.cut_frames.specs.Numbered.{AreNumbered};
+ghost use Rattle.cut_frames.specs.FramesByNumber.{AreNumbered};
 ghost use Rattle.cut_search.specs.Progress.{AreListed, IsLooked, AreClear, AreKept, AreLooking, IsBetween, HasGone};
 ghost use Rattle.cut_search.specs.Answer.{IsEnd, IsAnswer};
 
 use crate::answer::{Analysis, End, answer};
 use crate::encoded::Encoded;
-use crate::sets::{Found, SetList, list_found};
+use crate::sets::{SetList, WitnessedSet, list_found};
 use crate::show::show;
 use base_values::OutOfMemory;
 use cut_frames::{Advanced, Cleared, Frames};
@@ -28,7 +27,7 @@ fn tell_frontier(steps: usize, panel: &mut Panel)
 }
 
 /// Tells the panel of a set that was found, with a trace of so many steps.
-fn tell_found(found: &Found, steps: usize, panel: &mut Panel)
+fn tell_found(found: &WitnessedSet, steps: usize, panel: &mut Panel)
     requires { steps < 2 ^ 64 }
 {
     let news = News::Set {
@@ -52,9 +51,9 @@ fn look<E: Encoded>(
     model: &E,
     size: u32,
     frames: &mut Frames,
-    found: Vec<Found>,
+    found: Vec<WitnessedSet>,
     panel: &mut Panel,
-) -> Result<(Vec<Found>, bool), OutOfMemory>
+) -> Result<(Vec<WitnessedSet>, bool), OutOfMemory>
     requires able { E.searchable model.now }
     requires searched { IsSearched (E.problem model.now) }
     requires system { frames.old.system ≡ (E.problem model.now).system }
@@ -85,9 +84,9 @@ fn clear_all<E: Encoded>(
     model: &E,
     size: u32,
     frames: &mut Frames,
-    found: Vec<Found>,
+    found: Vec<WitnessedSet>,
     panel: &mut Panel,
-) -> Result<Vec<Found>, OutOfMemory>
+) -> Result<Vec<WitnessedSet>, OutOfMemory>
     requires able { E.searchable model.now }
     requires searched { IsSearched (E.problem model.now) }
     requires system { frames.old.system ≡ (E.problem model.now).system }
@@ -95,7 +94,8 @@ fn clear_all<E: Encoded>(
     requires listed { AreListed (E.problem model.now) size found.items }
     requires bad { IsBadFor (E.problem model.now) size (sets_of found.items) frames.old.bad }
     ensures system { frames.new.system ≡ frames.old.system }
-    ensures looking { IfOk result (λ list. AreLooking (E.problem model.now) size found.items list.items frames.old.frames frames.new.frames) }
+    ensures looking { IfOk result
+        (λ list. AreLooking (E.problem model.now) size found.items list.items frames.old.frames frames.new.frames) }
     ensures clear { IfOk result (λ list. AreClear (E.problem model.now) size list.items frames.new) }
 {
     let mut list = found;
@@ -114,9 +114,9 @@ fn further<E: Encoded>(
     model: &E,
     size: u32,
     frames: &mut Frames,
-    found: Vec<Found>,
+    found: Vec<WitnessedSet>,
     panel: &mut Panel,
-) -> Result<(Vec<Found>, Option<ClauseList>), OutOfMemory>
+) -> Result<(Vec<WitnessedSet>, Option<ClauseList>), OutOfMemory>
     requires able { E.searchable model.now }
     requires searched { IsSearched (E.problem model.now) }
     requires system { frames.old.system ≡ (E.problem model.now).system }
@@ -157,7 +157,7 @@ fn begin<E: Encoded>(
     size: u32,
     frames: &mut Frames,
     panel: &mut Panel,
-) -> Result<Vec<Found>, OutOfMemory>
+) -> Result<Vec<WitnessedSet>, OutOfMemory>
     requires able { E.searchable model.now }
     requires searched { IsSearched (E.problem model.now) }
     requires system { frames.old.system ≡ (E.problem model.now).system }
@@ -183,9 +183,9 @@ fn search<E: Encoded>(
     depth: u32,
     size: u32,
     frames: &mut Frames,
-    found: Vec<Found>,
+    found: Vec<WitnessedSet>,
     panel: &mut Panel,
-) -> Result<(Vec<Found>, End), OutOfMemory>
+) -> Result<(Vec<WitnessedSet>, End), OutOfMemory>
     requires able { E.searchable model.now }
     requires searched { IsSearched (E.problem model.now) }
     requires system { frames.old.system ≡ (E.problem model.now).system }

@@ -1,7 +1,6 @@
 //! Sets of faults, each a rising list of numbers from 1 on, and the list of those found so far.
-
 ghost use Rattle.std.specs.Prelude.{◌≡◌, ◌≤◌, ◌-◌, length, OnOk};
-ghost use Rattle.cut_search_laws.specs.Found.{without, placed, with_found};
+ghost use Rattle.cut_search_laws.specs.FoundSets.{without, placed, with_found};
 ghost use Rattle.cut_search.specs.Places.{place_of};
 
 use base_values::OutOfMemory;
@@ -11,28 +10,28 @@ use std::marker::Model;
 
 /// A set of faults, and a trace that has failed exactly it.
 #[derive(Drop)]
-pub struct Found {
+pub struct WitnessedSet {
     set: FaultSet,
     trace: MomentList,
 }
 
-impl Model for Found {
+impl Model for WitnessedSet {
     ghost use Rattle.std.specs.Prelude.{List};
     ghost use Rattle.base_values.specs.declared.value.Value.{Value as AValue};
-    ghost use Rattle.cut_search_laws.specs.Found.{Found as FoundSet};
+    ghost use Rattle.cut_search_laws.specs.FoundSets.{Found as FoundSet};
 
     ghost Value = { FoundSet (List (List AValue)) };
 
     ghost view = { λ f. record { set = f.set; trace = f.trace } };
 }
 
-impl Found {
+impl WitnessedSet {
     /// A set and its trace.
-    pub fn new(set: FaultSet, trace: MomentList) -> Found
+    pub fn new(set: FaultSet, trace: MomentList) -> WitnessedSet
         ensures set { result.set ≡ set }
         ensures trace { result.trace ≡ trace }
     {
-        Found { set, trace }
+        WitnessedSet { set, trace }
     }
 
     /// The set.
@@ -54,14 +53,14 @@ impl Found {
         ensures set { result.0 ≡ self.set }
         ensures trace { result.1 ≡ self.trace }
     {
-        let Found { set, trace } = self;
+        let WitnessedSet { set, trace } = self;
         (set, trace)
     }
 }
 
 /// Where a new set stands in a list of sets.
 #[tactic(auto, using(crate::proofs::SetLemmas::place_here, crate::proofs::SetLemmas::place_later, crate::proofs::SetLemmas::place_end, crate::proofs::SetLemmas::place_within))]
-fn place_in(found: &[Found], set: &[u32]) -> usize
+fn place_in(found: &[WitnessedSet], set: &[u32]) -> usize
     ensures place { result ≡ place_of set.now found.now }
     ensures within { result ≤ length found.now }
 {
@@ -74,7 +73,7 @@ fn place_in(found: &[Found], set: &[u32]) -> usize
 }
 
 /// Without the sets that contain this one.
-fn take_out(found: &mut Vec<Found>, set: &[u32])
+fn take_out(found: &mut Vec<WitnessedSet>, set: &[u32])
     ensures { found.new.items ≡ without set.now found.old.items }
 {
     found.retain(|f| !is_contained(set, f.set()));
@@ -82,7 +81,7 @@ fn take_out(found: &mut Vec<Found>, set: &[u32])
 
 /// Puts a new set at its place.
 #[tactic(auto, using(crate::proofs::SetLemmas::placed_at))]
-fn put_in(found: &mut Vec<Found>, new: Found) -> Result<(), OutOfMemory>
+fn put_in(found: &mut Vec<WitnessedSet>, new: WitnessedSet) -> Result<(), OutOfMemory>
     ensures { OnOk result (found.new.items ≡ placed new found.old.items) }
 {
     let at = place_in(found, new.set());
@@ -91,7 +90,7 @@ fn put_in(found: &mut Vec<Found>, new: Found) -> Result<(), OutOfMemory>
 }
 
 /// Takes out the sets that contain a new one, and puts it at its place.
-pub fn list_found(found: &mut Vec<Found>, new: Found) -> Result<(), OutOfMemory>
+pub fn list_found(found: &mut Vec<WitnessedSet>, new: WitnessedSet) -> Result<(), OutOfMemory>
     ensures { OnOk result (found.new.items ≡ with_found new found.old.items) }
 {
     take_out(found, new.set());

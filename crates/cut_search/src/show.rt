@@ -1,13 +1,13 @@
 //! From a path of the system to a set of faults and the trace that shows it.
-
-ghost use Rattle.std.specs.Prelude.{◌≡◌, All, ℕ, ◌≤◌, ◌<◌, ◌+◌, ◌^◌, [], ◌∷◌, ◌++◌, nat_eq, length, IfOk, OnOk, take, map, slice_index_or, if◌then◌else◌};
-ghost use Rattle.cut_search_laws.specs.Searched.{AreReadFrom, IsLawfulMoment};
+ghost use Rattle.std.specs.Prelude.{◌≡◌, All, ℕ, ◌≤◌, ◌<◌, ◌+◌, ◌^◌, [], ◌∷◌, ◌++◌, nat_eq, length, IfOk, OnOk, take, map, slice_index_or};
+ghost use Rattle.std.specs.Prelude.{if◌then◌else◌};
+ghost use Rattle.cut_search_laws.specs.FlatSearch.{AreReadFrom, IsLawfulMoment};
 ghost use Rattle.cut_search.specs.Values.{trace_of};
 ghost use Rattle.cut_search.specs.Bits.{is_set_at, bits_set};
 ghost use Rattle.cut_search.specs.Progress.{IsReadOf, Shown};
 
 use crate::encoded::Encoded;
-use crate::sets::{FaultSet, Found, MomentList};
+use crate::sets::{FaultSet, MomentList, WitnessedSet};
 use base_values::{OutOfMemory, Valuation, Value};
 use cut_frames::StepList;
 use std::alloc::Global;
@@ -108,7 +108,11 @@ fn read_path<E: Encoded>(
 }
 
 /// From a path of the system to the set of faults that it has failed, and its trace without history.
-pub fn show<E: Encoded>(alloc: Global, model: &E, path: &StepList) -> Result<Found, OutOfMemory>
+pub fn show<E: Encoded>(
+    alloc: Global,
+    model: &E,
+    path: &StepList,
+) -> Result<WitnessedSet, OutOfMemory>
     requires able { E.searchable model.now }
     requires some { 0 < length path.now }
     requires lawful { (i : ℕ) → i < length path.now → IsLawfulMoment (E.problem model.now) path.now i }
@@ -119,5 +123,5 @@ pub fn show<E: Encoded>(alloc: Global, model: &E, path: &StepList) -> Result<Fou
     let faults = model.faults();
     let set = bits_of(alloc, long.at(long.len() - 1), own, faults)?;
     let trace = cut_trace(alloc, &long, own)?;
-    Ok(Found::new(set, trace))
+    Ok(WitnessedSet::new(set, trace))
 }

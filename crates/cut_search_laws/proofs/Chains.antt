@@ -11,12 +11,12 @@ use Rattle.smv_flat_laws.proofs.Lists.{each_map, each_of_map}
 use Rattle.sat_clauses.specs.Literal.{Literal}
 use Rattle.sat_clauses.specs.declared.system.System.{System}
 use Rattle.cut_frames.specs.Chain.{State, IsBad, InFrame, IsFrame, HasChain, IsOverBits}
-use Rattle.cut_frames.specs.Framed.{frame_at, InNumber}
+use Rattle.cut_frames.specs.FrameLists.{frame_at, InNumber}
 use Rattle.cut_right_laws.specs.Sets.{is_contained}
-use Rattle.cut_search_laws.specs.Found.{Found, sets_of, IsFound}
+use Rattle.cut_search_laws.specs.FoundSets.{Found, sets_of, IsFound}
 use Rattle.sat_encoding_laws.specs.FlatTraces.{IsNumbered, ReachesTop, HasFailedNumber, history_of, failed_in}
-use Rattle.sat_encoding_laws.specs.Encoded.{bit_of, IsBadMoment}
-use Rattle.cut_search_laws.specs.Searched.{FlatTrace, FixedIsInvariant, FewerAreBad, ChainStays, ChainGrows}
+use Rattle.sat_encoding_laws.specs.Encodings.{bit_of, IsBadMoment}
+use Rattle.cut_search_laws.specs.FlatSearch.{FlatTrace, FixedIsInvariant, FewerAreBad, ChainStays, ChainGrows}
 use Rattle.sat_encoding_laws.proofs.SetLaws.{contained_through}
 use Rattle.cut_search_laws.proofs.FoundLaws.{each_found}
 use Rattle.sat_encoding_laws.proofs.HistoryFacts.{unlisted_means, unlisted_comes}

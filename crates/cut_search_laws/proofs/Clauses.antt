@@ -17,12 +17,12 @@ use Rattle.cut_frames.specs.Chain.{State, IsBad, Makes, state_values}
 use Rattle.cut_frames.proofs.LookLemmas.{clause_over}
 use Rattle.cut_right_laws.specs.Sets.{has_number, is_contained}
 use Rattle.cut_right_laws.proofs.Places.{get_within, place_read}
-use Rattle.sat_encoding_laws.specs.Encoded.{bit_of, IsBadMoment}
+use Rattle.sat_encoding_laws.specs.Encodings.{bit_of, IsBadMoment}
 use Rattle.sat_encoding_laws.specs.Lists.{literal_at, unlisted_clause}
 use Rattle.sat_encoding_laws.specs.FlatTraces.{IsNumbered, history_of}
 use Rattle.sat_encoding_laws.proofs.SetLaws.{either_of}
-use Rattle.cut_search_laws.specs.Found.{Found, sets_of, without, with_found}
-use Rattle.cut_search_laws.specs.Searched.{IsBadFor, AreHistory, IsClauseOf, OppositesAreClause, ClauseListsSet}
+use Rattle.cut_search_laws.specs.FoundSets.{Found, sets_of, without, with_found}
+use Rattle.cut_search_laws.specs.FlatSearch.{IsBadFor, AreHistory, IsClauseOf, OppositesAreClause, ClauseListsSet}
 use Rattle.cut_search_laws.specs.Problem.{Problem}
 use Rattle.cut_search_laws.proofs.FoundLaws.{each_filtered, each_placed, still_contain, new_is_listed}
 

@@ -7,10 +7,10 @@ use Rattle.smv_language.specs.Trace.{Each, AtSome}
 use Rattle.smv_flat_laws.specs.FlatTrace.{IsFlatTrace}
 use Rattle.cut_frames.proofs.Count.{Within, count_less}
 use Rattle.cut_right_laws.specs.Sets.{has_number, is_contained}
-use Rattle.cut_search_laws.specs.Found.{Found, sets_of, with_found, IsFound, AreFound, IsNew, ContainOneOf}
+use Rattle.cut_search_laws.specs.FoundSets.{Found, sets_of, with_found, IsFound, AreFound, IsNew, ContainOneOf}
 use Rattle.sat_encoding_laws.specs.FlatTraces.{IsNumbered, ReachesTop, HasFailedNumber}
-use Rattle.cut_search_laws.specs.Searched.{FlatTrace, SearchEnds}
-use Rattle.cut_search_laws.specs.Uncovered.{is_in_pattern, is_covered, uncovered}
+use Rattle.cut_search_laws.specs.FlatSearch.{FlatTrace, SearchEnds}
+use Rattle.cut_search_laws.specs.UncoveredPatterns.{is_in_pattern, is_covered, uncovered}
 use Rattle.sat_encoding_laws.proofs.SetLaws.{either_of, contained_has, contained_in_itself, has_first, has_later}
 use Rattle.cut_search_laws.proofs.FoundLaws.{some_kept, each_found, still_contain, new_is_listed}
 use Rattle.std.proofs.lemmas.Bool.{or_left, or_right, and_parts, and_from as and_both, false_from_ne_true as refuted, not_from_true, not_from_false}

@@ -14,14 +14,14 @@ use Rattle.sat_clauses.specs.Literal.{Literal}
 use Rattle.sat_clauses.specs.declared.system.System.{System}
 use Rattle.cut_frames.specs.Chain.{State, IsFirstState, IsStepOf, InFrame}
 use Rattle.cut_frames.specs.Path.{IsStepUnder}
-use Rattle.cut_frames.specs.Framed.{InNumber}
-use Rattle.cut_frames.specs.Numbered.{AreNumbered}
+use Rattle.cut_frames.specs.FrameLists.{InNumber}
+use Rattle.cut_frames.specs.FramesByNumber.{AreNumbered}
 use Rattle.cut_right_laws.specs.Right.{HasFailedAll}
 use Rattle.cut_right_laws.specs.Sets.{is_contained}
-use Rattle.cut_search_laws.specs.Found.{Found, sets_of, IsFound}
+use Rattle.cut_search_laws.specs.FoundSets.{Found, sets_of, IsFound}
 use Rattle.sat_encoding_laws.specs.FlatTraces.{IsNumbered, ReachesTop, HasFailedNumber, failed_set, last_of, history_of, failed_in}
-use Rattle.sat_encoding_laws.specs.Encoded.{is_true_at, bit_of, IsEncodingOf, IsBadMoment}
-use Rattle.cut_search_laws.specs.Searched.{FlatTrace, IsSearched, AreFoundFlat, ClearIsRight, InvariantIsRight, FirstStatesShow}
+use Rattle.sat_encoding_laws.specs.Encodings.{is_true_at, bit_of, IsEncodingOf, IsBadMoment}
+use Rattle.cut_search_laws.specs.FlatSearch.{FlatTrace, IsSearched, AreFoundFlat, ClearIsRight, InvariantIsRight, FirstStatesShow}
 use Rattle.sat_encoding_laws.proofs.SetLaws.{contained_has, true_or_false, contains_has, has_contains}
 use Rattle.cut_search_laws.proofs.FoundLaws.{each_found, found_is_right}
 use Rattle.sat_encoding_laws.proofs.Numbers.{count_where}

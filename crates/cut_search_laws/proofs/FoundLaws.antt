@@ -6,7 +6,7 @@ use Rattle.std.specs.Prelude.{slice_get, Contains, IsTrue, cond, if◌then◌els
 use Rattle.smv_language.specs.Trace.{Each, AtSome}
 use Rattle.cut_right_laws.specs.Right.{IsContained, HasFailedAll, HasFailedAtMost, Shows, IsRight}
 use Rattle.cut_right_laws.specs.Sets.{IsRising, is_contained, stands_before}
-use Rattle.cut_search_laws.specs.Found.{AreInOrder, Found, sets_of, traces_of, without, placed, with_found, AreApart, IsNew, IsFound, AreFound, ContainOneOf}
+use Rattle.cut_search_laws.specs.FoundSets.{AreInOrder, Found, sets_of, traces_of, without, placed, with_found, AreApart, IsNew, IsFound, AreFound, ContainOneOf}
 use Rattle.sat_encoding_laws.proofs.SetLaws.{each_kept, has_contains, contains_has, contained_from, contained_in_itself, before_through, before_either}
 use Rattle.smv_language.proofs.ListLaws.{get_mapped}
 use Rattle.smv_flat_laws.proofs.Conditions.{each_at}

@@ -20,7 +20,7 @@ use Rattle.sat_encoding_laws.specs.Bits.{value_number, value_bits, bits_of, stat
 use Rattle.sat_encoding_laws.specs.Inputs.{is_input}
 use Rattle.sat_encoding_laws.specs.Layout.{state_width, literals_from}
 use Rattle.sat_encoding_laws.specs.Lists.{system_of}
-use Rattle.sat_encoding_laws.specs.Encoded.{is_true_in, is_true_at, bit_of}
+use Rattle.sat_encoding_laws.specs.Encodings.{is_true_in, is_true_at, bit_of}
 use Rattle.sat_encoding_laws.specs.FlatTraces.{history_of}
 use Rattle.sat_encoding_laws.proofs.TypeBits.{length-number}
 use Rattle.sat_encoding_laws.proofs.HistoryPlaces.{history_last}

@@ -4,9 +4,9 @@ use Rattle.smv_language.specs.ProgramTree.{Text, DeclaredTree, boolean, range, m
 use Rattle.smv_language.specs.Trace.{Each}
 use Rattle.smv_language.specs.Values.{opposite}
 use Rattle.smv_language.specs.Flat.{FlatVariable}
-use Rattle.smv_type_laws.specs.Declared.{judged_declared}
+use Rattle.smv_type_laws.specs.DeclaredKinds.{judged_declared}
 use Rattle.smv_type_laws.specs.Intervals.{Interval}
-use Rattle.smv_type_laws.specs.Least.{HasValues, least_values}
+use Rattle.smv_type_laws.specs.LeastValues.{HasValues, least_values}
 use Rattle.smv_type_laws.proofs.LeastLaws.{least_values_lie, least_inputs_serve}
 use Rattle.sat_encoding_laws.specs.Bits.{state_of, inputs_of}
 use Rattle.sat_encoding_laws.specs.Encodable.{IsListedType}

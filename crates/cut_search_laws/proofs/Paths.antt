@@ -15,10 +15,10 @@ use Rattle.sat_clauses.specs.Assignment.{Assignment}
 use Rattle.cut_frames.specs.Path.{state_in, inputs_in, IsPath}
 use Rattle.cut_right_laws.specs.Right.{Shows}
 use Rattle.cut_right_laws.specs.Sets.{is_contained}
-use Rattle.cut_search_laws.specs.Found.{sets_of, IsFound, IsNew}
+use Rattle.cut_search_laws.specs.FoundSets.{sets_of, IsFound, IsNew}
 use Rattle.sat_encoding_laws.specs.FlatTraces.{IsNumbered, ReachesTop, HasFailedNumber, failed_set, last_of, history_of, failed_in}
-use Rattle.sat_encoding_laws.specs.Encoded.{is_true_at, bit_of, IsFlatFirst, IsBadMoment}
-use Rattle.cut_search_laws.specs.Searched.{FlatTrace, AreReadFrom, IsSearched, IsBadFor, IsFoundFlat, found_of, PathIsFound, IsLawfulMoment, PathIsLawful}
+use Rattle.sat_encoding_laws.specs.Encodings.{is_true_at, bit_of, IsFlatFirst, IsBadMoment}
+use Rattle.cut_search_laws.specs.FlatSearch.{FlatTrace, AreReadFrom, IsSearched, IsBadFor, IsFoundFlat, found_of, PathIsFound, IsLawfulMoment, PathIsLawful}
 use Rattle.cut_search_laws.proofs.FoundLaws.{each_found}
 use Rattle.sat_encoding_laws.proofs.SetLaws.{each_kept}
 use Rattle.sat_encoding_laws.proofs.Numbers.{count_where, where_within, where_rising}

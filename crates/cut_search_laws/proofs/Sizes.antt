@@ -8,7 +8,7 @@ use Rattle.smv_language.specs.Tree.{Tree}
 use Rattle.smv_language.specs.Values.{Value}
 use Rattle.smv_language.specs.Flat.{FlatLeaf, FlatModel}
 use Rattle.smv_flat_laws.specs.History.{Mode, with_history}
-use Rattle.sat_encoding_laws.specs.Encoded.{is_true_at, IsBadMoment}
+use Rattle.sat_encoding_laws.specs.Encodings.{is_true_at, IsBadMoment}
 use Rattle.sat_encoding_laws.specs.FlatTraces.{history_of}
 use Rattle.cut_search_laws.specs.Searchable.{LargerSizesServe}
 

@@ -10,7 +10,7 @@ use Rattle.sat_encoding_laws.specs.EncodedLaws.{AreOwn}
 use Rattle.sat_encoding_laws.specs.Lists.{history_literals, bad_list}
 use Rattle.sat_encoding_laws.specs.Encodable.{IsEncodable, IsFitTop}
 use Rattle.cut_search_laws.specs.Problem.{Problem, problem_of}
-use Rattle.cut_search_laws.specs.Searched.{IsSearched, IsBadFor, AreHistory, AreInvariant}
+use Rattle.cut_search_laws.specs.FlatSearch.{IsSearched, IsBadFor, AreHistory, AreInvariant}
 
 -- A search stands on the lists of the model with history, and on its list of bad states for any sets and size.
 abbrev pub ListsServe : Type 0
@@ -23,7 +23,8 @@ ListsServe =
 -- The literals of the history bits are what a search takes them for.
 abbrev pub HistoryServes : Type 0
 HistoryServes =
-    (m : FlatModel) (fs : List Mode) (top : Tree FlatLeaf) → AreHistory (problem_of m fs top) (history_literals (with_history m fs) (history_of m fs))
+    (m : FlatModel) (fs : List Mode) (top : Tree FlatLeaf) →
+    AreHistory (problem_of m fs top) (history_literals (with_history m fs) (history_of m fs))
 
 -- An invariant that a search ends with is one that a certificate takes.
 abbrev pub InvariantsServe : Type 0

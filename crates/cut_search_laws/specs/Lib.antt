@@ -1,7 +1,7 @@
-pub mod Found
-pub mod Uncovered
+pub mod FoundSets
+pub mod UncoveredPatterns
 pub mod Problem
-pub mod Searched
+pub mod FlatSearch
 pub mod Laws
 pub mod EncodedSearchLaws
 pub mod Searchable

@@ -8,7 +8,7 @@ use Rattle.smv_flat_laws.specs.FlatTrace.{AreInDomains}
 use Rattle.smv_type_laws.specs.Costs.{cost_of}
 use Rattle.sat_clauses.specs.Literal.{Literal}
 use Rattle.cut_frames.specs.Condition.{IsFit, IsOverNow}
-use Rattle.smv_type_laws.specs.Least.{least_values, with_inputs}
+use Rattle.smv_type_laws.specs.LeastValues.{least_values, with_inputs}
 use Rattle.sat_encoding_laws.specs.FlatTraces.{history_of}
 use Rattle.sat_encoding_laws.specs.EncodedLaws.{AreOwn}
 use Rattle.sat_encoding_laws.specs.Bits.{state_of, inputs_of}
@@ -16,7 +16,7 @@ use Rattle.sat_encoding_laws.specs.Layout.{input_bits}
 use Rattle.sat_encoding_laws.specs.Lists.{system_of, bad_list}
 use Rattle.sat_encoding_laws.specs.Encodable.{IsEncodable, IsFitTop}
 use Rattle.cut_search_laws.specs.Problem.{Problem}
-use Rattle.cut_search_laws.specs.Searched.{IsBadFor}
+use Rattle.cut_search_laws.specs.FlatSearch.{IsBadFor}
 
 -- The model with history is encodable, its faults are modes of it, the top event fits it, and inputs and event are small.
 pub record IsSearchable (m : FlatModel) (fs : List Mode) (top : Tree FlatLeaf) : Type 0 where
@@ -31,7 +31,8 @@ abbrev pub ListsFitFrames : Type 0
 ListsFitFrames =
     (m : FlatModel) (fs : List Mode) (top : Tree FlatLeaf) → IsSearchable m fs top →
     IsFit (system_of (with_history m fs))
-    × ((sets : List (List ℕ)) (size : ℕ) → size ≤ length fs → All (All (IsOverNow (system_of (with_history m fs)))) (bad_list (with_history m fs) top (history_of m fs) sets size))
+    × ((sets : List (List ℕ)) (size : ℕ) → size ≤ length fs →
+    All (All (IsOverNow (system_of (with_history m fs)))) (bad_list (with_history m fs) top (history_of m fs) sets size))
 
 -- a list of bad states with at most as many faults as there are is one for every larger size
 abbrev pub LargerSizesServe : Type 0

@@ -1,12 +1,12 @@
 //! What a search for cut sets means: the sets found so far, and the laws that make them an answer.
 //!
 //! A set of faults is a rising list of numbers (`cut_right_laws`). A search keeps a list of sets, each with a trace
-//! that shows it (`specs/Found.antt`): a new set is put at its place in the order, and the sets that contain it are
-//! taken out. How many patterns of faults contain no listed set falls with each (`specs/Uncovered.antt`).
+//! that shows it (`specs/FoundSets.antt`): a new set is put at its place in the order, and the sets that contain it are
+//! taken out. How many patterns of faults contain no listed set falls with each (`specs/UncoveredPatterns.antt`).
 //! What a search is about is one record, `specs/Problem.antt`: a model, its faults and a top event, with the clause lists and the bits
 //! of the model with history. What clause lists say of a model is the record of `sat_encoding_laws`, the only thing that is known of the
 //! encoding; there are also the traces of a flat model that reach a top event, and the faults that they have failed.
-//! `specs/Searched.antt` has the laws, of all problems (`Always` of `specs/Laws.antt`), which the contracts below carry.
+//! `specs/FlatSearch.antt` has the laws, of all problems (`Always` of `specs/Laws.antt`), which the contracts below carry.
 //!
 //! The encoding proves that record of its exact lists, and `specs/EncodedSearchLaws.antt` joins the two: the lists of a model
 //! with history are those that a search for cut sets stands on. `specs/Searchable.antt` says what a model, its faults and a top
@@ -20,10 +20,12 @@
 
 ghost use Rattle.std.specs.Prelude.{◌≡◌, ℕ, true, [], ◌∷◌};
 ghost use Rattle.cut_right_laws.specs.Sets.{stands_before};
-ghost use Rattle.cut_search_laws.specs.Found.{Found, sets_of, with_found};
-ghost use Rattle.cut_search_laws.specs.Uncovered.{uncovered};
+ghost use Rattle.cut_search_laws.specs.FoundSets.{Found, sets_of, with_found};
+ghost use Rattle.cut_search_laws.specs.UncoveredPatterns.{uncovered};
 ghost use Rattle.cut_search_laws.specs.Laws.{Always};
-ghost use Rattle.cut_search_laws.specs.Searched.{ClearIsRight, InvariantIsRight, FirstStatesShow, PathIsLawful, PathIsFound, OppositesAreClause, ClauseListsSet, FixedIsInvariant, FewerAreBad, ChainStays, ChainGrows, SearchEnds};
+ghost use Rattle.cut_search_laws.specs.FlatSearch.{ClearIsRight, InvariantIsRight, FirstStatesShow, PathIsLawful, PathIsFound};
+ghost use Rattle.cut_search_laws.specs.FlatSearch.{OppositesAreClause, ClauseListsSet, FixedIsInvariant, FewerAreBad, ChainStays};
+ghost use Rattle.cut_search_laws.specs.FlatSearch.{ChainGrows, SearchEnds};
 ghost use Rattle.cut_search_laws.specs.EncodedSearchLaws.{ListsServe, HistoryServes, InvariantsServe};
 ghost use Rattle.cut_search_laws.specs.Searchable.{ListsFitFrames, LargerSizesServe, LeastValuesShow};
 

@@ -3,9 +3,9 @@
 //! [`is_contained`], [`is_rising`] and [`stands_before`] are the main functions: which set contains which, whether
 //! a slice is in order and without repetition, and the order in which sets are listed. Each answers exactly what
 //! its definition computes.
-
 ghost use Rattle.std.specs.Prelude.{◌≡◌, ◌↔◌, IsTrue};
-ghost use Rattle.cut_right_laws.specs.Sets.{IsRising, has_number as has, is_contained as contained, is_before_in_order, stands_before as before};
+ghost use Rattle.cut_right_laws.specs.Sets.{IsRising, has_number as has, is_contained as contained, is_before_in_order};
+ghost use Rattle.cut_right_laws.specs.Sets.{stands_before as before};
 ghost use Rattle.cut_sets.specs.Tests.{is_rising as rising, are_apart as apart};
 
 /// Whether the number is one of the set's.

@@ -10,7 +10,7 @@ use Rattle.cut_tables.specs.Tables.{entry_of, rows_of, entries_text, column_line
 use Rattle.cut_tables.specs.Columns.{told_entry, IsTableOf, ending_lines, entry_lines, line_at, printed_table}
 use Rattle.cut_text_laws.specs.Analysis.{told_ending}
 use Rattle.cut_tables.specs.declared.columns.FmeaTable.{FmeaTable}
-use Rattle.cut_tables.specs.declared.columns.Entry.{Entry as Entered}
+use Rattle.cut_tables.specs.declared.columns.TableEntry.{TableEntry as Entered}
 
 pub ruleset text_rules = (append_assoc, append-nil, length-map)
 

@@ -5,8 +5,8 @@ use Rattle.smv_language.specs.ProgramTree.{Text}
 use Rattle.cut_text_laws.specs.Analysis.{Ending, Analysis, told_ending}
 use Rattle.cut_text_laws.specs.AnalysisText.{numbers_text, ending_text}
 use Rattle.cut_tables.specs.Tables.{Entry, yes, no, unknown, entry_of, rows_of, entries_text}
-use Rattle.cut_tables.specs.declared.columns.Entry.{Entry as Entered}
-use Rattle.cut_tables.specs.declared.columns.Entry.TheVariants as entered
+use Rattle.cut_tables.specs.declared.columns.TableEntry.{TableEntry as Entered}
+use Rattle.cut_tables.specs.declared.columns.TableEntry.TheVariants as entered
 use Rattle.cut_tables.specs.declared.columns.Column.{Column}
 use Rattle.cut_tables.specs.declared.columns.FmeaTable.{FmeaTable}
 
@@ -26,7 +26,8 @@ NamesFaults faults c = All (All (λ i. (0 < i) × (i ≤ faults))) c.sets
 
 -- the analyses have the sets and endings of the columns
 abbrev pub AreTold : List Analysis → List Column → Type 0
-AreTold found columns = (map (λ a. a.sets) found ≡ map (λ c. c.sets) columns) × (map (λ a. a.ending) found ≡ map (λ c. told_ending c.ending) columns)
+AreTold found columns = (map (λ a. a.sets) found ≡ map (λ c. c.sets) columns)
+    × (map (λ a. a.ending) found ≡ map (λ c. told_ending c.ending) columns)
 
 -- The table of these analyses: rows of at most so many faults, an entry for each of them and each column, and the endings.
 pub record IsTableOf (faults size : ℕ) (columns : List Analysis) (t : FmeaTable) : Type 0 where
@@ -65,4 +66,6 @@ line_at row entries i = line_of row (slice_get entries i)
 -- the text of a table
 abbrev pub printed_table : Text → ℕ → FmeaTable → Text
 printed_table fault_lines bits t =
-    fault_lines ++ (codes "tops " ++ (decimal (length t.endings) ++ (codes "\n" ++ (ending_lines bits 1 (map told_ending t.endings) ++ entry_lines t.rows (map (map told_entry) t.entries)))))
+    fault_lines ++ (codes "tops "
+    ++ (decimal (length t.endings)
+    ++ (codes "\n" ++ (ending_lines bits 1 (map told_ending t.endings) ++ entry_lines t.rows (map (map told_entry) t.entries)))))

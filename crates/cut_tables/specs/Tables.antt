@@ -51,14 +51,18 @@ entries_text (e ∷ es) = entry_text e ++ entries_text es
 -- how each column ends, numbered from this one on
 abbrev pub column_lines : ℕ → ℕ → List Analysis → Text
 column_lines bits n [] = []
-column_lines bits n (a ∷ as') = codes "top " ++ (decimal n ++ (codes " " ++ (ending_text a.ending bits ++ (codes "\n" ++ column_lines bits (suc n) as'))))
+column_lines bits n (a ∷ as') =
+    codes "top " ++ (decimal n ++ (codes " " ++ (ending_text a.ending bits ++ (codes "\n" ++ column_lines bits (suc n) as'))))
 
 -- a line for each row
 abbrev pub row_lines : List (List ℕ) → List Analysis → Text
 row_lines [] columns = []
-row_lines (row ∷ rows) columns = codes "row" ++ (numbers_text row ++ (codes " :" ++ (entries_text (map (entry_of row) columns) ++ (codes "\n" ++ row_lines rows columns))))
+row_lines (row ∷ rows) columns =
+    codes "row" ++ (numbers_text row
+    ++ (codes " :" ++ (entries_text (map (entry_of row) columns) ++ (codes "\n" ++ row_lines rows columns))))
 
 -- the table after the lines of the faults, of which there are so many
 abbrev pub table_text : Text → ℕ → ℕ → ℕ → List Analysis → Text
 table_text fault_lines bits faults size columns =
-    fault_lines ++ (codes "tops " ++ (decimal (length columns) ++ (codes "\n" ++ (column_lines bits 1 columns ++ row_lines (rows_of size faults) columns))))
+    fault_lines ++ (codes "tops "
+    ++ (decimal (length columns) ++ (codes "\n" ++ (column_lines bits 1 columns ++ row_lines (rows_of size faults) columns))))

@@ -1,7 +1,6 @@
 //! Columns, which are answers of analyses, and the table that is made of them.
 //!
 //! [`Column`] is what a table takes, and [`FmeaTable`] what it is; both have copies of their own.
-
 ghost use Rattle.std.specs.Prelude.{◌≡◌, IfOk};
 
 use base_values::{Ending, Items, OutOfMemory, SetList};
@@ -16,7 +15,7 @@ pub struct Column {
 
 /// What a table says of a row and a column.
 #[derive(Clone, Copy)]
-pub enum Entry {
+pub enum TableEntry {
     Yes,
     No,
     Unknown,
@@ -29,7 +28,7 @@ pub type ColumnList = Items<Column>;
 pub type EndingList = Items<Ending>;
 
 /// The entries of a row, one for each column.
-pub type EntryList = Items<Entry>;
+pub type EntryList = Items<TableEntry>;
 
 /// The entries of rows.
 pub type EntryRows = Items<EntryList>;

@@ -1,7 +1,6 @@
 //! The table of columns: an entry for each row and column.
 //!
 //! The main function is [`table`]. An entry is `yes` where a listed set lies within its row; else the ending of the column decides.
-
 ghost use Rattle.std.specs.Prelude.{◌≡◌, ◌≤◌, List, All, map, IfOk};
 ghost use Rattle.std.specs.List.{list_any};
 ghost use Rattle.cut_right_laws.specs.Sets.{has_number, is_contained as contained};
@@ -10,7 +9,7 @@ ghost use Rattle.cut_tables.specs.Tables.{entry_of, absent_entry};
 ghost use Rattle.cut_tables.specs.Columns.{told_entry, told_column, AreTold, NamesFaults, IsTableOf};
 ghost use Rattle.cut_text_laws.specs.Analysis.{told_ending};
 
-use crate::columns::{Column, ColumnList, EndingList, Entry, EntryList, EntryRows, FmeaTable};
+use crate::columns::{Column, ColumnList, EndingList, EntryList, EntryRows, FmeaTable, TableEntry};
 use crate::rows::rows_of;
 use base_values::{Ending, FaultSet, OutOfMemory, SetList};
 use std::alloc::Global;
@@ -57,7 +56,8 @@ fn entries_of_rows(
     rows: &SetList,
     columns: &ColumnList,
 ) -> Result<EntryRows, OutOfMemory>
-    ensures { IfOk result (λ entries. map (map told_entry) entries ≡ map (λ row. map (entry_of row) (map told_column columns.now)) rows.now) }
+    ensures { IfOk result (λ entries. map (map told_entry) entries
+        ≡ map (λ row. map (entry_of row) (map told_column columns.now)) rows.now) }
 {
     let mut entries = EntryRows::new(alloc);
     for row in rows.as_slice() {
@@ -80,11 +80,11 @@ fn entries_of(alloc: Global, row: &[u32], columns: &[Column]) -> Result<EntryLis
 }
 
 /// What a column says of a row.
-fn entry_at(row: &[u32], column: &Column) -> Entry
+fn entry_at(row: &[u32], column: &Column) -> TableEntry
     ensures { told_entry result ≡ entry_of row.now (told_column column.now) }
 {
     if some_lies_within(column.sets.as_slice(), row) {
-        Entry::Yes
+        TableEntry::Yes
     } else {
         absent(column.ending)
     }
@@ -98,12 +98,12 @@ fn some_lies_within(sets: &[FaultSet], row: &[u32]) -> bool
 }
 
 /// What a column says of a row within which no listed set lies.
-fn absent(ending: Ending) -> Entry
+fn absent(ending: Ending) -> TableEntry
     ensures { told_entry result ≡ absent_entry (told_ending ending) }
 {
     match ending {
-        Ending::Complete => Entry::No,
-        Ending::Bounded(_) => Entry::Unknown,
+        Ending::Complete => TableEntry::No,
+        Ending::Bounded(_) => TableEntry::Unknown,
     }
 }
 

@@ -1,16 +1,16 @@
 //! The text of a table. All text goes to the end of one buffer, so the work is linear in the text.
 //!
 //! The main function is [`print_table`].
-
 ghost use Rattle.std.specs.Prelude.{◌≡◌, ◌+◌, ◌++◌, ℕ, List, codes, map, length, IfOk, OnOk};
 ghost use Rattle.std.specs.Fmt.{decimal};
 ghost use Rattle.cut_text_laws.specs.Analysis.{Analysis};
 ghost use Rattle.cut_text_laws.specs.AnalysisText.{numbers_text, ending_text as text_of_ending};
 ghost use Rattle.cut_tables.specs.Tables.{entry_text as text_of_entry, entries_text, table_text};
-ghost use Rattle.cut_tables.specs.Columns.{told_entry, IsTableOf, ending_line, ending_lines, entry_line, entry_lines, line_at, printed_table};
+ghost use Rattle.cut_tables.specs.Columns.{told_entry, IsTableOf, ending_line, ending_lines, entry_line, entry_lines, line_at};
+ghost use Rattle.cut_tables.specs.Columns.{printed_table};
 ghost use Rattle.cut_text_laws.specs.Analysis.{told_ending};
 
-use crate::columns::{Entry, EntryList, FmeaTable};
+use crate::columns::{EntryList, FmeaTable, TableEntry};
 use base_values::{ByteList, Ending, FaultSet, OutOfMemory};
 use std::alloc::Global;
 
@@ -55,7 +55,8 @@ fn append_table(
     t: &FmeaTable,
 ) -> Result<(), OutOfMemory>
     ensures { OnOk result (text.new ≡ text.old ++ (codes "tops " ++ (decimal (length t.now.endings)
-        ++ (codes "\n" ++ (ending_lines bits 1 (map told_ending t.now.endings) ++ entry_lines t.now.rows (map (map told_entry) t.now.entries)))))) }
+        ++ (codes "\n" ++ (ending_lines bits 1 (map told_ending t.now.endings)
+        ++ entry_lines t.now.rows (map (map told_entry) t.now.entries)))))) }
 {
     text.append(b"tops ")?;
     text.append_number(alloc, t.endings.len() as u64)?;
@@ -157,7 +158,7 @@ fn append_row(
     alloc: Global,
     text: &mut ByteList,
     row: &[u32],
-    entries: &[Entry],
+    entries: &[TableEntry],
 ) -> Result<(), OutOfMemory>
     ensures { OnOk result (text.new ≡ text.old ++ entry_line row.now (map told_entry entries.now)) }
 {
@@ -182,7 +183,7 @@ fn append_numbers(alloc: Global, text: &mut ByteList, numbers: &[u32]) -> Result
 
 /// Appends each entry after a space.
 #[tactic(auto, using(crate::proofs::TextLaws::text_rules))]
-fn append_entries(text: &mut ByteList, entries: &[Entry]) -> Result<(), OutOfMemory>
+fn append_entries(text: &mut ByteList, entries: &[TableEntry]) -> Result<(), OutOfMemory>
     ensures { OnOk result (text.new ≡ text.old ++ entries_text (map told_entry entries.now)) }
 {
     for entry in entries {
@@ -192,12 +193,12 @@ fn append_entries(text: &mut ByteList, entries: &[Entry]) -> Result<(), OutOfMem
 }
 
 /// The text of an entry, after a space.
-fn entry_text(entry: Entry) -> &'static [u8]
+fn entry_text(entry: TableEntry) -> &'static [u8]
     ensures { result.now ≡ text_of_entry (told_entry entry) }
 {
     match entry {
-        Entry::Yes => b" yes",
-        Entry::No => b" no",
-        Entry::Unknown => b" unknown",
+        TableEntry::Yes => b" yes",
+        TableEntry::No => b" no",
+        TableEntry::Unknown => b" unknown",
     }
 }

@@ -1,7 +1,6 @@
 //! The rows of a table, made by counting: the empty set, each fault, and each pair.
 //!
 //! The main function is [`rows_of`].
-
 ghost use Rattle.std.specs.Prelude.{◌≡◌, ◌≤◌, ◌-◌, [], ◌∷◌, ◌++◌, map, IfOk, OnOk};
 ghost use Rattle.std.specs.List.{range_with_len};
 ghost use Rattle.cut_tables.specs.Tables.{rows_of as rows_within, pairs_after, pairs_from};

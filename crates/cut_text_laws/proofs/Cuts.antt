@@ -1,7 +1,7 @@
 -- Bytes cut into lines.
 use Rattle.std.proofs.Common.{◌≡◌, ◌⊎◌, inl, inr, ℕ, suc, ◌+◌, ◌<◌, ◌≤◌, Bool, true, false, nat_eq, List, [], ◌∷◌, ◌++◌, length, refl, sym, ◌∙◌, ap, arith, append_assoc, length-append, eq-eqb, eqb-true}
 use Rattle.std.specs.List.{AllByRecursion}
-use Rattle.base_values.specs.Cuts.{IsLineThen}
+use Rattle.base_values.specs.Separators.{IsLineThen}
 use Rattle.cut_text_laws.specs.Lines.{Line, fed, IsLine}
 pub use Rattle.cut_text_laws.proofs.Separators.{grouped}
 use Rattle.cut_text_laws.proofs.Separators.{no_separator, comparable, fed_end}

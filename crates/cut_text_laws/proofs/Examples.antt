@@ -10,9 +10,9 @@ use Rattle.smv_language.specs.Flat.{FlatVariable, FlatModel}
 use Rattle.cut_text_laws.specs.TraceText.{variable_text, trace_text}
 use Rattle.smv_language.specs.WritableProgram.{IsWritableType}
 use Rattle.cut_text_laws.proofs.Words.{free_by_test}
-use Rattle.cut_text_laws.specs.Given.{IsLineWord, IsPrintable}
+use Rattle.cut_text_laws.specs.TraceOfText.{IsLineWord, IsPrintable}
 use Rattle.cut_text_laws.proofs.OneTrace.{no_items}
-use Rattle.cut_text_laws.specs.Wrong.{moments_after}
+use Rattle.cut_text_laws.specs.TraceFaults.{moments_after}
 use Rattle.std.proofs.lemmas.Option.{same_Some as some_same, none-some as never}
 
 -- `n` of the instance `a.b`, and `x` of `main`

@@ -4,7 +4,7 @@ use Rattle.std.proofs.Common.{◌≡◌, ℕ, zero, suc, ◌+◌, pos, List, [],
 use Rattle.std.specs.Prelude.{slice_get, flat_map, map}
 use mathlib.Core.List.{reverse_aux}
 use Rattle.smv_language.specs.ProgramTree.{Text, Path, DeclaredTree, boolean, range, members, instance, DeclTree, SectionTree, var, ivar, frozen, define, constants, assign, init, invar, trans, ModuleTree, ProgramTree}
-use Rattle.smv_language.specs.Printed.{IsName, AreNames}
+use Rattle.smv_language.specs.PrintedTokens.{IsName, AreNames}
 use Rattle.smv_language.specs.Scope.{Place, Role, state, input, frozen_role}
 use Rattle.smv_language.specs.Trace.{Each, IsInstance, IsVariable}
 use Rattle.smv_language.specs.Values.{Value, number}

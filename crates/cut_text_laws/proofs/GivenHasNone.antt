@@ -10,8 +10,8 @@ use Rattle.smv_flat_laws.specs.FlatTrace.{AreInDomains}
 use Rattle.cut_text_laws.specs.Lines.{Line}
 use Rattle.cut_text_laws.proofs.Cuts.{same_fed}
 use Rattle.cut_text_laws.specs.TraceText.{variable_text, moment_line, equation, value_line}
-use Rattle.cut_text_laws.specs.Given.{IsLineWord, IsPrintable, SaysOf, StandsOnce, GivesMoment, GivesMoments, GivesTrace}
-use Rattle.cut_text_laws.specs.Wrong.{LineFault, bad_line, unknown_name, outside, twice, moments_after, IsEquation, WasSaid, Breaks, AreSound, Lacks, wrong_line, missing_value}
+use Rattle.cut_text_laws.specs.TraceOfText.{IsLineWord, IsPrintable, SaysOf, StandsOnce, GivesMoment, GivesMoments, GivesTrace}
+use Rattle.cut_text_laws.specs.TraceFaults.{LineFault, bad_line, unknown_name, outside, twice, moments_after, IsEquation, WasSaid, Breaks, AreSound, Lacks, wrong_line, missing_value}
 use Rattle.cut_text_laws.specs.Laws.{GivenHasNone}
 use Rattle.cut_text_laws.proofs.Plain.{value_word}
 use Rattle.cut_text_laws.proofs.OneTrace.{HasNoMoment, no_items, some_moment, no_moment, same_equation, equation_some, in_domain_at, plain_at, own_lines}

@@ -4,8 +4,8 @@ use Rattle.std.specs.List.{AllByRecursion}
 use Rattle.smv_language.specs.Flat.{FlatModel}
 use Rattle.cut_text_laws.specs.Lines.{Line, fed, IsLine}
 use Rattle.cut_text_laws.proofs.Cuts.{Cut, cut, fed_joined}
-use Rattle.cut_text_laws.specs.Given.{IsPrintable}
-use Rattle.cut_text_laws.specs.Wrong.{LineFault, bad_line, AreSound, IsLeast, IsWrongLine}
+use Rattle.cut_text_laws.specs.TraceOfText.{IsPrintable}
+use Rattle.cut_text_laws.specs.TraceFaults.{LineFault, bad_line, AreSound, IsLeast, IsWrongLine}
 use Rattle.cut_text_laws.specs.Laws.{LinesAreJudged}
 use Rattle.cut_text_laws.proofs.OneTrace.{no_items}
 use Rattle.cut_text_laws.proofs.GivenHasNone.{SoundFrom, no_lines, one_more}

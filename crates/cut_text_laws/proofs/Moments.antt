@@ -4,7 +4,7 @@ use Rattle.std.specs.Prelude.{if◌then◌else◌}
 use Rattle.smv_language.specs.Texts.{same_text}
 use Rattle.cut_text_laws.specs.Lines.{Line}
 use Rattle.cut_text_laws.specs.TraceText.{moment_line}
-use Rattle.cut_text_laws.specs.Wrong.{moments_after}
+use Rattle.cut_text_laws.specs.TraceFaults.{moments_after}
 use Rattle.cut_text_laws.proofs.OneTrace.{HasNoMoment}
 use Rattle.cut_text_laws.proofs.Plain.{same_text_then}
 use Rattle.smv_language.proofs.ValueLaws.{same_text_refl as same_text_itself}

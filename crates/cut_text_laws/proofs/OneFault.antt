@@ -6,7 +6,7 @@ use Rattle.smv_language.specs.Flat.{FlatModel}
 use Rattle.cut_text_laws.specs.Lines.{Line, fed, IsLine}
 use Rattle.cut_text_laws.proofs.Separators.{same_front, comparable, all_at, grouped}
 use Rattle.cut_text_laws.proofs.Cuts.{no_feed, same_fed}
-use Rattle.cut_text_laws.specs.Wrong.{LineFault, bad_line, unknown_name, outside, twice, number_of, moments_after, Breaks, AreSound, IsLeast, IsWrongLine, IsBlank, Lacks, Misses, wrong_line, missing_value}
+use Rattle.cut_text_laws.specs.TraceFaults.{LineFault, bad_line, unknown_name, outside, twice, number_of, moments_after, Breaks, AreSound, IsLeast, IsWrongLine, IsBlank, Lacks, Misses, wrong_line, missing_value}
 use Rattle.cut_text_laws.specs.Laws.{OneFault}
 use Rattle.cut_text_laws.proofs.OneTrace.{equation_some}
 use Rattle.std.proofs.lemmas.List.{append-nil as append_none}

@@ -13,7 +13,7 @@ use Rattle.cut_text_laws.proofs.Separators.{IsFree, same_front, no_separator, al
 use Rattle.cut_text_laws.proofs.Words.{free_by_test}
 use Rattle.cut_text_laws.proofs.Cuts.{same_fed}
 use Rattle.cut_text_laws.specs.TraceText.{variable_text, moment_line, equation, value_line}
-use Rattle.cut_text_laws.specs.Given.{IsLineWord, IsPrintable, SaysOf, StandsOnce, GivesMoment, GivesMoments, GivesTrace}
+use Rattle.cut_text_laws.specs.TraceOfText.{IsLineWord, IsPrintable, SaysOf, StandsOnce, GivesMoment, GivesMoments, GivesTrace}
 use Rattle.cut_text_laws.specs.Laws.{OneTrace}
 use Rattle.cut_text_laws.proofs.Plain.{IsPlain, same_value_text, domain_plain, decimal_free}
 use Rattle.std.proofs.lemmas.Option.{same_Some as some_same, none-some as never}

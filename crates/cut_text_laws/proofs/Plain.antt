@@ -14,14 +14,14 @@ use Rattle.smv_language.specs.declared.program.Member.{Member}
 use Rattle.smv_language.specs.declared.program.Member.TheVariants as member
 use Rattle.smv_language.specs.ProgramTree.{Text, DeclaredTree, boolean, range, members, instance}
 use Rattle.smv_language.specs.Values.{Value, truth, number, symbol, at_most, same_int, is_between, value_text}
-use Rattle.smv_language.specs.Printed.{IsName, IsEnd}
+use Rattle.smv_language.specs.PrintedTokens.{IsName, IsEnd}
 use Rattle.smv_language.specs.Trace.{Each, in_domain, is_member}
 use Rattle.smv_language.specs.WritableProgram.{IsWritableType, IsWritableMember}
 use Rattle.smv_language.specs.Lexemes.{is_reserved}
 use Rattle.smv_language.specs.Texts.{same_text}
 use Rattle.cut_text_laws.proofs.Separators.{IsFree}
 use Rattle.cut_text_laws.proofs.Words.{free_by_test}
-use Rattle.cut_text_laws.specs.Given.{IsLineWord}
+use Rattle.cut_text_laws.specs.TraceOfText.{IsLineWord}
 use Rattle.smv_language.proofs.ValueLaws.{same_int_equal as same_int_then, not_less}
 use Rattle.smv_language.proofs.BoolLaws.{or_cases, left_true, right_true}
 use Rattle.smv_language.proofs.TokenTexts.{Begins}

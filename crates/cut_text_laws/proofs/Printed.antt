@@ -10,7 +10,7 @@ use Rattle.smv_flat_laws.specs.FlatTrace.{AreInDomains}
 use Rattle.cut_text_laws.specs.Lines.{Line, IsLine}
 use Rattle.cut_text_laws.proofs.Words.{free_by_test, spaced_line}
 use Rattle.cut_text_laws.specs.TraceText.{variable_text, moment_line, value_line, value_lines, trace_lines, trace_text}
-use Rattle.cut_text_laws.specs.Given.{IsLineWord, IsPrintable, SaysOf, StandsOnce, GivesMoment, GivesMoments, GivesTrace, BytesGive}
+use Rattle.cut_text_laws.specs.TraceOfText.{IsLineWord, IsPrintable, SaysOf, StandsOnce, GivesMoment, GivesMoments, GivesTrace, BytesGive}
 use Rattle.cut_text_laws.specs.Laws.{PrintedGivesAlone}
 use Rattle.cut_text_laws.proofs.Plain.{value_word, decimal_free}
 use Rattle.cut_text_laws.proofs.OneTrace.{same_equation, plain_at, one_trace}

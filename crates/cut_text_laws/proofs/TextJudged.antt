@@ -9,8 +9,8 @@ use Rattle.smv_language.specs.Flat.{FlatVariable, FlatModel}
 use Rattle.smv_flat_laws.specs.FlatTrace.{AreInDomains}
 use Rattle.cut_text_laws.specs.Lines.{Line, fed, IsLine}
 use Rattle.cut_text_laws.specs.TraceText.{variable_text, moment_line, equation, value_line}
-use Rattle.cut_text_laws.specs.Given.{IsLineWord, IsPrintable, SaysOf, StandsOnce, GivesMoment, GivesMoments, BytesGive}
-use Rattle.cut_text_laws.specs.Wrong.{LineFault, bad_line, moments_after, WasSaid, IsWrongLine, Lacks, TraceFault, wrong_line, missing_value, IsFirstFault}
+use Rattle.cut_text_laws.specs.TraceOfText.{IsLineWord, IsPrintable, SaysOf, StandsOnce, GivesMoment, GivesMoments, BytesGive}
+use Rattle.cut_text_laws.specs.TraceFaults.{LineFault, bad_line, moments_after, WasSaid, IsWrongLine, Lacks, TraceFault, wrong_line, missing_value, IsFirstFault}
 use Rattle.cut_text_laws.specs.Laws.{EachTextIsJudged}
 use Rattle.cut_text_laws.proofs.OneTrace.{HasNoMoment, no_items, some_moment, no_moment, same_equation, equation_some}
 use Rattle.cut_text_laws.proofs.Moments.{next_begins, after_both, none_begins, no_fewer, front_fewer}

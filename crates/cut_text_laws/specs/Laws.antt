@@ -2,7 +2,7 @@
 use Rattle.std.specs.Prelude.{◌≡◌, ◌≢◌, ◌⊎◌, ℕ, List, [], ◌∷◌, reverse, Some, slice_get}
 use Rattle.smv_language.specs.Values.{Value}
 use Rattle.smv_language.specs.Trace.{Each}
-use Rattle.smv_language.specs.Printed.{AreNames}
+use Rattle.smv_language.specs.PrintedTokens.{AreNames}
 use Rattle.smv_language.specs.ProgramTree.{ProgramTree}
 use Rattle.smv_language.specs.WritableProgram.{IsWritableType, IsWritableProgram}
 use Rattle.smv_language.specs.Flat.{FlatVariable, FlatModel}
@@ -12,8 +12,8 @@ use Rattle.smv_flat_laws.specs.Rules.{IsAccepted}
 use Rattle.cut_text_laws.specs.Lines.{Line, fed, IsLine}
 use Rattle.std.specs.List.{AllByRecursion}
 use Rattle.cut_text_laws.specs.TraceText.{trace_lines, trace_text}
-use Rattle.cut_text_laws.specs.Given.{IsPrintable, HasItsSymbols, GivesTrace, BytesGive}
-use Rattle.cut_text_laws.specs.Wrong.{LineFault, AreSound, IsWrongLine, TraceFault, IsFirstFault}
+use Rattle.cut_text_laws.specs.TraceOfText.{IsPrintable, HasItsSymbols, GivesTrace, BytesGive}
+use Rattle.cut_text_laws.specs.TraceFaults.{LineFault, AreSound, IsWrongLine, TraceFault, IsFirstFault}
 
 -- a text gives at most one trace
 abbrev pub OneTrace : Type 0
@@ -37,22 +37,26 @@ OneFault = (m : FlatModel) (bytes : List ℕ) (f g : TraceFault) → IsFirstFaul
 
 -- and none where the text gives a trace
 abbrev pub GivenHasNone : Type 0
-GivenHasNone = (m : FlatModel) → IsPrintable m → (bytes : List ℕ) (trace : List (List Value)) (f : TraceFault) → BytesGive m bytes trace → IsFirstFault m bytes f → ⊥
+GivenHasNone = (m : FlatModel) → IsPrintable m → (bytes : List ℕ) (trace : List (List Value)) (f : TraceFault) → BytesGive m bytes trace →
+    IsFirstFault m bytes f → ⊥
 
 -- a text gives a trace, or something is wrong first with it
 abbrev pub EachTextIsJudged : Type 0
-EachTextIsJudged = (m : FlatModel) → IsPrintable m → (bytes : List ℕ) → ((trace : List (List Value)) × BytesGive m bytes trace) ⊎ ((f : TraceFault) × IsFirstFault m bytes f)
+EachTextIsJudged = (m : FlatModel) → IsPrintable m → (bytes : List ℕ) →
+    ((trace : List (List Value)) × BytesGive m bytes trace) ⊎ ((f : TraceFault) × IsFirstFault m bytes f)
 
 -- nothing is wrong with any line of a text, or one is the first with which something is
 abbrev pub LinesAreJudged : Type 0
 LinesAreJudged =
     (m : FlatModel) → IsPrintable m → (bytes : List ℕ) →
-    ((lines : List Line) × (bytes ≡ fed lines) × AllByRecursion IsLine lines × AreSound m lines) ⊎ ((f : LineFault) × (n : ℕ) × IsWrongLine m bytes f n)
+    ((lines : List Line) × (bytes ≡ fed lines) × AllByRecursion IsLine lines × AreSound m lines)
+    ⊎ ((f : LineFault) × (n : ℕ) × IsWrongLine m bytes f n)
 
 -- Each variable's names can be printed, and so can its type; no two variables have one place and name.
 pub record IsNamed (m : FlatModel) : Type 0 where
   pub names : (i : ℕ) (x : FlatVariable) → slice_get m.variables i ≡ Some x → AreNames (reverse (x.name ∷ x.place))
-  pub apart : (i j : ℕ) (x y : FlatVariable) → slice_get m.variables i ≡ Some x → slice_get m.variables j ≡ Some y → x.place ≡ y.place → x.name ≡ y.name → i ≡ j
+  pub apart : (i j : ℕ) (x y : FlatVariable) → slice_get m.variables i ≡ Some x → slice_get m.variables j ≡ Some y → x.place ≡ y.place →
+      x.name ≡ y.name → i ≡ j
   pub types : (i : ℕ) (x : FlatVariable) → slice_get m.variables i ≡ Some x → IsWritableType x.declared
 
 -- then the variables are printed as different words

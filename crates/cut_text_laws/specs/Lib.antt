@@ -1,6 +1,6 @@
 pub mod TraceText
-pub mod Given
-pub mod Wrong
+pub mod TraceOfText
+pub mod TraceFaults
 pub mod Laws
 pub mod Lines
 pub mod Analysis

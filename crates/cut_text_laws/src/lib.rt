@@ -29,7 +29,8 @@
 //! ```
 #![tactic(auto)]
 
-ghost use Rattle.cut_text_laws.specs.Laws.{OneTrace, PrintedGivesAlone, OneFault, GivenHasNone, LinesAreJudged, EachTextIsJudged, NamedIsPrintable, FlatModelsAreNamed, FlatModelsHaveSymbols};
+ghost use Rattle.cut_text_laws.specs.Laws.{OneTrace, PrintedGivesAlone, OneFault, GivenHasNone, LinesAreJudged, EachTextIsJudged};
+ghost use Rattle.cut_text_laws.specs.Laws.{NamedIsPrintable, FlatModelsAreNamed, FlatModelsHaveSymbols};
 ghost use Rattle.std.specs.Prelude.{◌≡◌, [], ◌∷◌, codes};
 ghost use Rattle.cut_text_laws.specs.Analysis.{bounded};
 ghost use Rattle.cut_text_laws.specs.AnalysisText.{set_lines, ending_text, size_line};

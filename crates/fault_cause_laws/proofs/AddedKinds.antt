@@ -7,14 +7,14 @@ use Rattle.smv_language.specs.Trace.{Each}
 use Rattle.smv_language.specs.Flat.{FlatLeaf, flat_variable, flat_symbol, flat_definition, FlatVariable, FlatFormula, FlatModel}
 use Rattle.smv_flat_laws.proofs.Lists.{each_more}
 use Rattle.smv_flat_laws.proofs.Conditions.{each_join}
-use Rattle.smv_type_laws.specs.Declared.{judged_declared}
+use Rattle.smv_type_laws.specs.DeclaredKinds.{judged_declared}
 use Rattle.smv_type_laws.specs.Models.{leaf_kind, judged_variables, judged_definitions, kind_of_leaf, judged_in, broken_condition, breaches_at, condition_breaches, breaches}
 use Rattle.smv_type_laws.specs.Laws.{IsKnown, AreInOrder, ReadsOwn, ReadOwn, IsClosed}
 use Rattle.smv_type_laws.proofs.ModelLaws.{IsRight, judge_agrees, all_leaves_more}
 use Rattle.sat_encoding_laws.proofs.HistoryTyped.{same_kind as same_kind_in, same_definitions, conditions_joined}
 use Rattle.fault_woven_laws.proofs.Rightly.{none_joined}
 use Rattle.fault_woven_laws.proofs.Items.{parts_of, none_broken}
-use Rattle.fault_cause_laws.specs.Added.{Addition, with_addition}
+use Rattle.fault_cause_laws.specs.Additions.{Addition, with_addition}
 use Rattle.base_values.proofs.ListLaws.{get_left}
 
 -- more variables and symbols

@@ -5,10 +5,10 @@ use Rattle.smv_language.specs.Trace.{Each}
 use Rattle.smv_language.specs.Flat.{FlatLeaf, flat_variable, flat_symbol, flat_definition, FlatFormula, FlatModel}
 use Rattle.smv_flat_laws.specs.History.{Mode, with_history, bits_at_first, bits_at_step}
 use Rattle.smv_flat_laws.specs.FlatTrace.{IsOwnName, IsOwnFormula, NamesOwn, IsModeOf}
-use Rattle.smv_flat_laws.specs.Resolved.{leaves_in}
+use Rattle.smv_flat_laws.specs.NameResolution.{leaves_in}
 use Rattle.smv_flat_laws.proofs.Lists.{each_more}
 use Rattle.smv_flat_laws.proofs.Conditions.{each_join}
-use Rattle.fault_cause_laws.specs.Added.{Addition, with_addition, IsKnownName, IsKnownFormula, KnowsNames}
+use Rattle.fault_cause_laws.specs.Additions.{Addition, with_addition, IsKnownName, IsKnownFormula, KnowsNames}
 use Rattle.std.proofs.lemmas.Option.{slice_get_within as within_of}
 use Rattle.smv_flat_laws.proofs.HistoryLaws.{all_variables as history_variables}
 

@@ -10,13 +10,13 @@ use Rattle.smv_language.specs.ProgramTree.{range}
 use Rattle.smv_language.specs.Flat.{FlatModel, one_of, Holds}
 use Rattle.smv_flat_laws.specs.FlatTrace.{AreInDomains}
 use Rattle.smv_flat_laws.proofs.Conditions.{MayBe}
-use Rattle.fault_cause_laws.specs.Added.{Addition, with_addition, beside, AreAdded}
+use Rattle.fault_cause_laws.specs.Additions.{Addition, with_addition, beside, AreAdded}
 use Rattle.fault_cause_laws.specs.Columns.{with_values, with_value}
 use Rattle.fault_cause_laws.proofs.AddedReadings.{within_any, get_last}
 use Rattle.fault_cause_laws.proofs.Columns.{EachFrom, one_added, IsForcedNext, Fits, forced_from, one_alone}
 use Rattle.fault_cause_laws.specs.Causes.{CommonCause}
-use Rattle.fault_cause_laws.specs.Staged.{age_name, added_variable, age_at_first, age_at_step}
-use Rattle.fault_cause_laws.specs.Told.{age_at, age_value}
+use Rattle.fault_cause_laws.specs.StagedModel.{age_name, added_variable, age_at_first, age_at_step}
+use Rattle.fault_cause_laws.specs.StagedValues.{age_at, age_value}
 use Rattle.fault_cause_laws.proofs.Formulas.{only_one, with_only}
 use Rattle.fault_cause_laws.proofs.Ages.{IsMomentOf, next_age, age_next, age_before, age_at_moment, age_positive, age_small, decides_at_most}
 

@@ -6,7 +6,7 @@ use Rattle.std.proofs.lemmas.Bool.{cases_lt}
 use Rattle.std.proofs.lemmas.Bool.Decides.{same_from_decides, Decides-and, Decides-like, nat_tests, leb_tells, eqb_tells}
 use Rattle.smv_language.specs.Values.{at_most}
 use Rattle.fault_cause_laws.specs.Causes.{CommonCause}
-use Rattle.fault_cause_laws.specs.Told.{age_at, is_in_window, some_up_to, is_hit}
+use Rattle.fault_cause_laws.specs.StagedValues.{age_at, is_in_window, some_up_to, is_hit}
 
 -- a moment of the trace, or none
 abbrev pub IsMomentOf : ℕ → Option ℕ → Type 0

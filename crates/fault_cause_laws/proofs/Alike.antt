@@ -3,7 +3,7 @@ use Rattle.std.proofs.Common.{ℕ, ◌<◌, ◌≤◌, List, [], ◌∷◌, Opti
 use Rattle.std.specs.Prelude.{◌↔◌}
 use Rattle.smv_language.specs.Trace.{Each}
 use Rattle.fault_cause_laws.specs.Causes.{CommonCause, IsCauseOf}
-use Rattle.fault_cause_laws.specs.Caused.{IsStruck, Occurs, AreCaused, BeginsFreely, HasHappened}
+use Rattle.fault_cause_laws.specs.CausedEvents.{IsStruck, Occurs, AreCaused, BeginsFreely, HasHappened}
 
 -- they stand alike, each fault by its number
 abbrev pub AreAlike : ℕ → (ℕ → ℕ → Type 0) → (ℕ → ℕ → Type 0) → Type 0

@@ -7,8 +7,8 @@ use Rattle.smv_language.specs.Trace.{Each}
 use Rattle.smv_language.specs.Flat.{FlatLeaf, FlatModel}
 use Rattle.smv_flat_laws.specs.History.{Mode}
 use Rattle.smv_flat_laws.specs.FlatTrace.{IsFlatTrace}
-use Rattle.smv_flat_laws.specs.Resolved.{leaves_in}
-use Rattle.fault_cause_laws.specs.Added.{IsKnownName}
+use Rattle.smv_flat_laws.specs.NameResolution.{leaves_in}
+use Rattle.fault_cause_laws.specs.Additions.{IsKnownName}
 use Rattle.fault_cause_laws.specs.Columns.{with_value}
 use Rattle.fault_cause_laws.proofs.Grown.{HasGrown, not_grown, grown_by, IsLonger, not_longer, longer_by, reaches_longer}
 use Rattle.cut_right_laws.specs.Right.{IsWithin}
@@ -16,8 +16,8 @@ use Rattle.cut_right_laws.specs.Laws.{AreBoth, Correspond}
 use Rattle.cut_right_laws.proofs.Carried.{right_carried}
 use Rattle.sat_encoding_laws.specs.FlatTraces.{ReachesTop, HasFailedNumber, IsRightFlat}
 use Rattle.fault_cause_laws.specs.Causes.{CommonCause}
-use Rattle.fault_cause_laws.specs.Staged.{with_hit, with_hits, with_age, with_event, with_cause, with_each_cause, with_own, with_owns, with_causes, events_of, age_numbers}
-use Rattle.fault_cause_laws.specs.Told.{age_value, event_value, hit_value, own_value, hits_told, cause_told, causes_told, owns_told, caused_told, stands_at}
+use Rattle.fault_cause_laws.specs.StagedModel.{with_hit, with_hits, with_age, with_event, with_cause, with_each_cause, with_own, with_owns, with_causes, events_of, age_numbers}
+use Rattle.fault_cause_laws.specs.StagedValues.{age_value, event_value, hit_value, own_value, hits_told, cause_told, causes_told, owns_told, caused_told, stands_at}
 use Rattle.fault_cause_laws.specs.Laws.{AreStaged}
 use Rattle.fault_cause_laws.proofs.StagedTraces.{wanted, told_is_trace}
 use Rattle.fault_cause_laws.proofs.EachCause.{causes_length}

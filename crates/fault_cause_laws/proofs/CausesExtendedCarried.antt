@@ -11,7 +11,7 @@ use Rattle.smv_flat_laws.specs.History.{Mode}
 use Rattle.smv_flat_laws.specs.FlatTrace.{IsFlatTrace, stands}
 use Rattle.smv_type_laws.specs.Laws.{values_by_number}
 use Rattle.fault_instructions.specs.Instructions.{InstructionTree}
-use Rattle.fault_weave.specs.Extended.{Moment, IsExtended, Reaches}
+use Rattle.fault_weave.specs.ExtensionTraces.{Moment, IsExtended, Reaches}
 use Rattle.fault_weave.specs.Conservative.{IsCutMoment, IsCut}
 use Rattle.fault_weave.specs.Faults.{Fault}
 use Rattle.cut_right_laws.specs.Laws.{Correspond}
@@ -21,9 +21,9 @@ use Rattle.cert_laws.specs.ExtendedTraces.{IsExtensionModel, IsModeOfFault, IsFl
 use Rattle.cert_laws.proofs.Modes.{stands_iff}
 use Rattle.cert_laws.proofs.Carried.{fault_of_slice, cut_long, correspond, uncut}
 use Rattle.fault_cause_laws.specs.Causes.{CommonCause, IsCauseOf}
-use Rattle.fault_cause_laws.specs.Caused.{AreCaused, HasHappened}
-use Rattle.fault_cause_laws.specs.Staged.{mode_of}
-use Rattle.fault_cause_laws.specs.Told.{stands_there}
+use Rattle.fault_cause_laws.specs.CausedEvents.{AreCaused, HasHappened}
+use Rattle.fault_cause_laws.specs.StagedModel.{mode_of}
+use Rattle.fault_cause_laws.specs.StagedValues.{stands_there}
 use Rattle.fault_cause_laws.specs.Laws.{StandsAt}
 use Rattle.fault_cause_laws.proofs.StagedTraces.{mode_there}
 use Rattle.fault_cause_laws.specs.CausesRightLaws.{Caused, IsCaused, IsShortCaused, CausedReaches, EventHappened}

@@ -6,7 +6,7 @@ use Rattle.smv_language.specs.Values.{Value}
 use Rattle.smv_language.specs.Trace.{Each, EachPair, AtFirst, in_domain}
 use Rattle.smv_language.specs.Flat.{FlatVariable, FlatFormula, FlatModel, Holds}
 use Rattle.smv_flat_laws.specs.FlatTrace.{AreInDomains, IsFlatTrace}
-use Rattle.fault_cause_laws.specs.Added.{Addition, with_addition, KnowsNames, beside, AreAdded}
+use Rattle.fault_cause_laws.specs.Additions.{Addition, with_addition, KnowsNames, beside, AreAdded}
 use Rattle.fault_cause_laws.specs.Columns.{with_values, with_value}
 use Rattle.fault_cause_laws.proofs.Traces.{put_together}
 

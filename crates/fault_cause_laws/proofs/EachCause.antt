@@ -9,9 +9,9 @@ use Rattle.smv_flat_laws.specs.FlatTrace.{IsFlatTrace}
 use Rattle.smv_flat_laws.specs.History.{Mode}
 use Rattle.fault_cause_laws.proofs.Columns.{EachFrom, each_from_more}
 use Rattle.fault_cause_laws.specs.Causes.{CommonCause, IsCauseOf}
-use Rattle.fault_cause_laws.specs.Caused.{Occurs, AreCaused}
-use Rattle.fault_cause_laws.specs.Staged.{with_cause, with_each_cause, age_numbers}
-use Rattle.fault_cause_laws.specs.Told.{cause_told, causes_told}
+use Rattle.fault_cause_laws.specs.CausedEvents.{Occurs, AreCaused}
+use Rattle.fault_cause_laws.specs.StagedModel.{with_cause, with_each_cause, age_numbers}
+use Rattle.fault_cause_laws.specs.StagedValues.{cause_told, causes_told}
 use Rattle.fault_cause_laws.proofs.Known.{IsReady, Lasting, Knows}
 use Rattle.fault_cause_laws.proofs.OwnColumn.{AgesAt, ages_longer}
 use Rattle.fault_cause_laws.proofs.OneCause.{WithAge, with_age_lasts, cause_ready, cause_count, cause_known, cause_length, cause_backward, CauseTold, cause_forward}

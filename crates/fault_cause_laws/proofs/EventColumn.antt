@@ -10,12 +10,12 @@ use Rattle.smv_language.specs.Evaluate.{gives_choice, gives_applied, gives_eithe
 use Rattle.smv_language.specs.Trace.{in_domain}
 use Rattle.smv_language.specs.Flat.{FlatModel, FlatVariable, one_of, symbol_of, Holds}
 use Rattle.smv_flat_laws.proofs.Conditions.{MayBe, same_text_same}
-use Rattle.fault_cause_laws.specs.Added.{Addition, with_addition}
+use Rattle.fault_cause_laws.specs.Additions.{Addition, with_addition}
 use Rattle.fault_cause_laws.proofs.AddedReadings.{within_any, get_last}
 use Rattle.fault_cause_laws.proofs.Columns.{one_added, IsForced, Fits}
 use Rattle.fault_cause_laws.specs.Causes.{CommonCause}
-use Rattle.fault_cause_laws.specs.Staged.{event_name, quiet_name, now_name, added_variable, event_at_each}
-use Rattle.fault_cause_laws.specs.Told.{age_at, age_value, event_value}
+use Rattle.fault_cause_laws.specs.StagedModel.{event_name, quiet_name, now_name, added_variable, event_at_each}
+use Rattle.fault_cause_laws.specs.StagedValues.{age_at, age_value, event_value}
 use Rattle.fault_cause_laws.proofs.Formulas.{only_one, with_only, get_two}
 use Rattle.base_values.proofs.ListLaws.{get_left}
 

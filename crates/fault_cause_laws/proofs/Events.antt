@@ -11,9 +11,9 @@ use Rattle.sat_encoding_laws.specs.FlatTraces.{HasFailedNumber}
 use Rattle.cut_right_laws.specs.Sets.{has_number}
 use Rattle.fault_cause_laws.proofs.Columns.{EachFrom, each_from_more}
 use Rattle.fault_cause_laws.specs.Causes.{CommonCause}
-use Rattle.fault_cause_laws.specs.Caused.{IsInWindow, IsFree, Occurs, AreCaused, BeginsFreely, HasHappened}
-use Rattle.fault_cause_laws.specs.Staged.{quiet_name, now_name, none_name, self_name, with_each_cause, with_causes, age_numbers, own_events, cause_events, events_of}
-use Rattle.fault_cause_laws.specs.Told.{age_at, event_value, own_value, is_in_window, is_covered, begins, stands_at, causes_told, caused_told}
+use Rattle.fault_cause_laws.specs.CausedEvents.{IsInWindow, IsFree, Occurs, AreCaused, BeginsFreely, HasHappened}
+use Rattle.fault_cause_laws.specs.StagedModel.{quiet_name, now_name, none_name, self_name, with_each_cause, with_causes, age_numbers, own_events, cause_events, events_of}
+use Rattle.fault_cause_laws.specs.StagedValues.{age_at, event_value, own_value, is_in_window, is_covered, begins, stands_at, causes_told, caused_told}
 use Rattle.fault_cause_laws.specs.Laws.{AreStaged, StandsAt, IsCausedTrace}
 use Rattle.fault_cause_laws.proofs.Ages.{decides_window, age_at_moment}
 use Rattle.fault_cause_laws.proofs.Known.{Knows}

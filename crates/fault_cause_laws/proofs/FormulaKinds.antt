@@ -8,13 +8,13 @@ use Rattle.smv_language.specs.ProgramTree.{range}
 use Rattle.smv_language.specs.Flat.{FlatLeaf, flat_symbol, FlatModel}
 use Rattle.cut_right_laws.specs.Sets.{has_number}
 use Rattle.smv_type_laws.specs.Intervals.{Interval, just, sum_of, fits_number}
-use Rattle.smv_type_laws.specs.Judged.{truth_class, number_class, symbol_class, Kind, empty_range, too_wide, rule_if, wide, one_value, Judged, judged_number}
-use Rattle.smv_type_laws.specs.Declared.{judged_declared}
+use Rattle.smv_type_laws.specs.ExpressionKinds.{truth_class, number_class, symbol_class, Kind, empty_range, too_wide, rule_if, wide, one_value, Judged, judged_number}
+use Rattle.smv_type_laws.specs.DeclaredKinds.{judged_declared}
 use Rattle.smv_type_laws.specs.Models.{judged_in}
 use Rattle.fault_woven_laws.proofs.Rightly.{Rightly, choice_alone}
 use Rattle.fault_woven_laws.proofs.Numbers.{numbers_in, numbers_right, sum_judged, both_fit}
 use Rattle.fault_cause_laws.specs.Causes.{CommonCause}
-use Rattle.fault_cause_laws.specs.Staged.{value_of, whole, only, zero_or_one, in_window, age_at_first, age_at_step, event_at_each, windows_on, joined_after, joined, own_at_first, own_at_step}
+use Rattle.fault_cause_laws.specs.StagedModel.{value_of, whole, only, zero_or_one, in_window, age_at_first, age_at_step, event_at_each, windows_on, joined_after, joined, own_at_first, own_at_step}
 use Rattle.fault_cause_laws.proofs.AddedKinds.{IsRightFormula}
 use Rattle.fault_cause_laws.proofs.RightTrees.{fits_small, HasType, IsRightTree, as_formula, variable_kind, variable_right, symbol_right, literal, number_right, not_tree, next_tree, and_tree, or_tree, least_tree, most_tree, equal_tree, within_tree, choice_tree, only_tree, two_numbers_tree}
 

@@ -13,8 +13,8 @@ use Rattle.cut_right_laws.specs.Sets.{has_number}
 use Rattle.smv_flat_laws.proofs.Conditions.{MayBe, may_one}
 use Rattle.fault_cause_laws.proofs.AddedReadings.{gives_and}
 use Rattle.fault_cause_laws.specs.Causes.{CommonCause}
-use Rattle.fault_cause_laws.specs.Staged.{in_window, stands_of, mode_of, windows_on, joined_after, joined}
-use Rattle.fault_cause_laws.specs.Told.{age_at, age_value, is_in_window, is_covered}
+use Rattle.fault_cause_laws.specs.StagedModel.{in_window, stands_of, mode_of, windows_on, joined_after, joined}
+use Rattle.fault_cause_laws.specs.StagedValues.{age_at, age_value, is_in_window, is_covered}
 use Rattle.fault_cause_laws.proofs.Ages.{window_by_age}
 use Rattle.smv_flat_laws.proofs.HistoryTraces.{applied_or as gives_or}
 use Rattle.smv_language.proofs.BoolLaws.{or_false, or_assoc}

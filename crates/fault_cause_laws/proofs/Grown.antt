@@ -10,9 +10,9 @@ use Rattle.smv_language.specs.Trace.{Each, AtLast}
 use Rattle.smv_language.specs.Flat.{FlatLeaf, FlatFormula, FlatModel, FlatMay, flat_leaves, table_after, leaves_at}
 use Rattle.smv_flat_laws.specs.History.{Mode, added, with_history}
 use Rattle.smv_flat_laws.specs.FlatTrace.{IsFlatMoment, bits_after, told_from}
-use Rattle.smv_flat_laws.specs.Resolved.{leaves_in}
+use Rattle.smv_flat_laws.specs.NameResolution.{leaves_in}
 use Rattle.smv_flat_laws.proofs.Conditions.{MayBe}
-use Rattle.fault_cause_laws.specs.Added.{Addition, with_addition, KnowsNames, IsKnownName, beside}
+use Rattle.fault_cause_laws.specs.Additions.{Addition, with_addition, KnowsNames, IsKnownName, beside}
 use Rattle.fault_cause_laws.specs.Columns.{with_values, with_value}
 use Rattle.fault_cause_laws.proofs.Longer.{hold_longer, same_longer}
 use Rattle.smv_flat_laws.proofs.HistoryTraces.{domains_length, joined}

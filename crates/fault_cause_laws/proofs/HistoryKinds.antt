@@ -10,12 +10,12 @@ use Rattle.smv_language.specs.Flat.{flat_symbol, FlatVariable, FlatModel}
 use Rattle.smv_flat_laws.specs.History.{Mode, stands_now, stands_next, bit_variables, bits_at_first, bits_at_step, with_history}
 use Rattle.smv_flat_laws.specs.FlatTrace.{IsModeOf}
 use Rattle.smv_flat_laws.proofs.Lists.{each_more}
-use Rattle.smv_type_laws.specs.Judged.{truth_class, symbol_class}
-use Rattle.smv_type_laws.specs.Declared.{judged_declared}
+use Rattle.smv_type_laws.specs.ExpressionKinds.{truth_class, symbol_class}
+use Rattle.smv_type_laws.specs.DeclaredKinds.{judged_declared}
 use Rattle.sat_encoding_laws.proofs.HistoryPlaces.{is_bit}
 use Rattle.fault_woven_laws.specs.Modes.{HasSymbols}
-use Rattle.fault_cause_laws.specs.Added.{Addition, with_addition}
-use Rattle.fault_cause_laws.specs.Staged.{value_of}
+use Rattle.fault_cause_laws.specs.Additions.{Addition, with_addition}
+use Rattle.fault_cause_laws.specs.StagedModel.{value_of}
 use Rattle.fault_cause_laws.specs.KindLaws.{AreOfKinds}
 use Rattle.fault_cause_laws.proofs.AddedKinds.{IsRightFormula, IsRightModel, right_added, Grows, grows_added}
 use Rattle.fault_cause_laws.proofs.RightTrees.{HasType, HasMode, mode_grown, as_formula, variable_right, mode_right, symbol_right, next_tree, or_tree, equal_tree, within_tree, stands_tree}

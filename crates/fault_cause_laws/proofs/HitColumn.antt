@@ -10,13 +10,13 @@ use Rattle.smv_language.specs.Trace.{Each}
 use Rattle.smv_language.specs.Flat.{FlatModel, FlatVariable, one_of, symbol_of, leaves_at, Holds}
 use Rattle.smv_flat_laws.specs.History.{Mode}
 use Rattle.smv_flat_laws.proofs.Conditions.{MayBe, may_one}
-use Rattle.fault_cause_laws.specs.Added.{Addition, with_addition}
+use Rattle.fault_cause_laws.specs.Additions.{Addition, with_addition}
 use Rattle.fault_cause_laws.specs.Columns.{with_values}
 use Rattle.fault_cause_laws.proofs.AddedReadings.{gives_and, get_last, truth_same}
 use Rattle.fault_cause_laws.proofs.Columns.{EachFrom, one_added, IsForced, Fits}
 use Rattle.fault_cause_laws.specs.Causes.{CommonCause}
-use Rattle.fault_cause_laws.specs.Staged.{hit_name, added_variable, hit_at_first, landed_at_each, hit_at_step, in_window, stands_of, mode_of}
-use Rattle.fault_cause_laws.specs.Told.{age_at, age_value, hit_value, is_in_window, is_hit}
+use Rattle.fault_cause_laws.specs.StagedModel.{hit_name, added_variable, hit_at_first, landed_at_each, hit_at_step, in_window, stands_of, mode_of}
+use Rattle.fault_cause_laws.specs.StagedValues.{age_at, age_value, hit_value, is_in_window, is_hit}
 use Rattle.fault_cause_laws.proofs.Ages.{hit_first, hit_next}
 use Rattle.fault_cause_laws.proofs.Formulas.{window_gives, stands_gives}
 use Rattle.smv_flat_laws.proofs.HistoryTraces.{within_one, applied_or as gives_or}

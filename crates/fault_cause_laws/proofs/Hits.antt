@@ -8,13 +8,13 @@ use Rattle.smv_language.specs.Trace.{Each}
 use Rattle.smv_language.specs.Flat.{FlatModel, Holds}
 use Rattle.smv_flat_laws.specs.FlatTrace.{IsFlatTrace}
 use Rattle.smv_flat_laws.specs.History.{Mode}
-use Rattle.fault_cause_laws.specs.Added.{Addition, beside, AreAdded}
+use Rattle.fault_cause_laws.specs.Additions.{Addition, beside, AreAdded}
 use Rattle.fault_cause_laws.specs.Columns.{with_value}
 use Rattle.fault_cause_laws.proofs.Traces.{taken_apart}
 use Rattle.fault_cause_laws.proofs.Columns.{EachFrom, one_added, forced, fitting, with_values_length}
 use Rattle.fault_cause_laws.specs.Causes.{CommonCause}
-use Rattle.fault_cause_laws.specs.Staged.{hit_name, added_variable, hit_at_first, landed_at_each, hit_at_step, with_hit, with_hits, mode_of}
-use Rattle.fault_cause_laws.specs.Told.{age_at, is_hit, age_value, hit_value, hits_told}
+use Rattle.fault_cause_laws.specs.StagedModel.{hit_name, added_variable, hit_at_first, landed_at_each, hit_at_step, with_hit, with_hits, mode_of}
+use Rattle.fault_cause_laws.specs.StagedValues.{age_at, is_hit, age_value, hit_value, hits_told}
 use Rattle.fault_cause_laws.proofs.Known.{IsReady, ready_added, Lasting, Knows, known_value, at_number}
 use Rattle.fault_cause_laws.proofs.HitColumn.{is_landed, hit_forced, hit_fits, landed_all}
 use Rattle.smv_language.specs.ProgramTree.{boolean}

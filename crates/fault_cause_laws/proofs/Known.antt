@@ -6,11 +6,11 @@ use Rattle.smv_language.specs.ProgramTree.{Text}
 use Rattle.smv_language.specs.Values.{Value, symbol}
 use Rattle.smv_language.specs.Flat.{FlatModel}
 use Rattle.smv_flat_laws.specs.History.{Mode}
-use Rattle.fault_cause_laws.specs.Added.{Addition, with_addition, KnowsNames}
+use Rattle.fault_cause_laws.specs.Additions.{Addition, with_addition, KnowsNames}
 use Rattle.fault_cause_laws.specs.Columns.{with_value}
 use Rattle.fault_cause_laws.proofs.Columns.{EachFrom, grown}
 use Rattle.fault_cause_laws.proofs.AddedKnown.{AddsKnown, knows_added}
-use Rattle.fault_cause_laws.specs.Staged.{mode_of}
+use Rattle.fault_cause_laws.specs.StagedModel.{mode_of}
 use Rattle.fault_cause_laws.proofs.HitColumn.{ReadsMode}
 use Rattle.base_values.proofs.ListLaws.{get_left}
 

@@ -7,11 +7,11 @@ use Rattle.smv_language.specs.Evaluate.{evaluate}
 use Rattle.smv_language.specs.Trace.{Each}
 use Rattle.smv_language.specs.Flat.{FlatLeaf, flat_variable, flat_symbol, flat_definition, FlatVariable, FlatFormula, FlatModel, one_of, symbol_of, flat_leaves, definition_gives, table_after, leaves_at, Holds}
 use Rattle.smv_flat_laws.specs.FlatTrace.{AreInDomains}
-use Rattle.smv_flat_laws.specs.Resolved.{leaves_in}
+use Rattle.smv_flat_laws.specs.NameResolution.{leaves_in}
 use Rattle.smv_flat_laws.proofs.Lists.{each_more}
 use Rattle.smv_flat_laws.proofs.Conditions.{MayBe}
 use Rattle.smv_flat_laws.proofs.Now.{BothSame, same_on}
-use Rattle.fault_cause_laws.specs.Added.{Addition, with_addition, IsKnownName, IsKnownFormula, ReadsKnown, KnowsNames}
+use Rattle.fault_cause_laws.specs.Additions.{Addition, with_addition, IsKnownName, IsKnownFormula, ReadsKnown, KnowsNames}
 use Rattle.smv_flat_laws.proofs.HistoryTraces.{get_before}
 
 module _ (symbols others : List Text) where

@@ -5,8 +5,8 @@ use Rattle.std.proofs.lemmas.Bool.Decides.{eqb_tells}
 use Rattle.smv_language.specs.Values.{opposite}
 use Rattle.smv_language.specs.Trace.{Each}
 use Rattle.fault_cause_laws.specs.Causes.{CommonCause}
-use Rattle.fault_cause_laws.specs.Caused.{IsStruck, Occurs}
-use Rattle.fault_cause_laws.specs.Told.{age_at, is_in_window, some_up_to, is_hit}
+use Rattle.fault_cause_laws.specs.CausedEvents.{IsStruck, Occurs}
+use Rattle.fault_cause_laws.specs.StagedValues.{age_at, is_in_window, some_up_to, is_hit}
 use Rattle.fault_cause_laws.proofs.Ages.{IsMomentOf, age_lands, decides_window, some_means, some_from}
 use Rattle.fault_cause_laws.proofs.Hits.{Landed}
 use Rattle.std.proofs.lemmas.Bool.{and_from as and_both}

@@ -9,15 +9,15 @@ use Rattle.smv_language.specs.Trace.{Each}
 use Rattle.smv_language.specs.Flat.{FlatModel, FlatVariable}
 use Rattle.smv_flat_laws.specs.FlatTrace.{IsFlatTrace}
 use Rattle.smv_flat_laws.specs.History.{Mode}
-use Rattle.fault_cause_laws.specs.Added.{Addition, beside, AreAdded}
+use Rattle.fault_cause_laws.specs.Additions.{Addition, beside, AreAdded}
 use Rattle.fault_cause_laws.specs.Columns.{with_value}
 use Rattle.fault_cause_laws.proofs.Traces.{taken_apart}
 use Rattle.fault_cause_laws.proofs.AddedReadings.{get_last}
 use Rattle.fault_cause_laws.proofs.Columns.{EachFrom, each_from_more, grown, one_added, forced, fitting, with_values_length}
 use Rattle.fault_cause_laws.specs.Causes.{CommonCause, IsCauseOf}
-use Rattle.fault_cause_laws.specs.Caused.{Occurs}
-use Rattle.fault_cause_laws.specs.Staged.{age_name, event_name, quiet_name, now_name, added_variable, age_at_first, age_at_step, event_at_each, with_age, with_event, with_cause}
-use Rattle.fault_cause_laws.specs.Told.{age_value, event_value, hits_told, cause_told}
+use Rattle.fault_cause_laws.specs.CausedEvents.{Occurs}
+use Rattle.fault_cause_laws.specs.StagedModel.{age_name, event_name, quiet_name, now_name, added_variable, age_at_first, age_at_step, event_at_each, with_age, with_event, with_cause}
+use Rattle.fault_cause_laws.specs.StagedValues.{age_value, event_value, hits_told, cause_told}
 use Rattle.fault_cause_laws.proofs.Ages.{IsMomentOf}
 use Rattle.fault_cause_laws.proofs.AgeColumn.{Sized, age_added, age_tells, age_fits}
 use Rattle.fault_cause_laws.proofs.EventColumn.{event_forced, event_fits}

@@ -7,8 +7,8 @@ use Rattle.smv_language.specs.Flat.{FlatModel}
 use Rattle.smv_flat_laws.specs.History.{Mode}
 use Rattle.fault_cause_laws.specs.Columns.{with_values, with_value}
 use Rattle.fault_cause_laws.specs.Causes.{CommonCause, IsCauseOf}
-use Rattle.fault_cause_laws.specs.Caused.{Occurs, AreCaused}
-use Rattle.fault_cause_laws.specs.Told.{age_at, age_value, event_value, hit_value, own_value, hits_told, cause_told, causes_told, owns_told, stands_at, caused_told}
+use Rattle.fault_cause_laws.specs.CausedEvents.{Occurs, AreCaused}
+use Rattle.fault_cause_laws.specs.StagedValues.{age_at, age_value, event_value, hit_value, own_value, hits_told, cause_told, causes_told, owns_told, stands_at, caused_told}
 use Rattle.fault_cause_laws.specs.Laws.{AreStaged, StandsAt, IsCausedTrace}
 use Rattle.fault_cause_laws.proofs.Ages.{age_at_moment}
 use Rattle.fault_cause_laws.proofs.EachCause.{causes_length}

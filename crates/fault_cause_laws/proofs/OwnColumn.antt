@@ -12,12 +12,12 @@ use Rattle.smv_language.specs.Trace.{in_domain}
 use Rattle.smv_language.specs.Flat.{FlatLeaf, FlatModel, FlatVariable, one_of, symbol_of, leaves_at, Holds}
 use Rattle.smv_flat_laws.specs.History.{Mode}
 use Rattle.smv_flat_laws.proofs.Conditions.{MayBe, same_text_same}
-use Rattle.fault_cause_laws.specs.Added.{Addition, with_addition}
+use Rattle.fault_cause_laws.specs.Additions.{Addition, with_addition}
 use Rattle.fault_cause_laws.proofs.AddedReadings.{within_any, gives_and, gives_opposite, get_last}
 use Rattle.fault_cause_laws.proofs.Columns.{one_added, IsForced, Fits}
 use Rattle.fault_cause_laws.specs.Causes.{CommonCause}
-use Rattle.fault_cause_laws.specs.Staged.{own_name, none_name, self_name, added_variable, own_at_first, own_at_step, stands_of, mode_of, windows_on, joined}
-use Rattle.fault_cause_laws.specs.Told.{age_value, own_value, begins, is_covered}
+use Rattle.fault_cause_laws.specs.StagedModel.{own_name, none_name, self_name, added_variable, own_at_first, own_at_step, stands_of, mode_of, windows_on, joined}
+use Rattle.fault_cause_laws.specs.StagedValues.{age_value, own_value, begins, is_covered}
 use Rattle.fault_cause_laws.proofs.Formulas.{AgesRead, covered_gives, stands_gives, only_one, with_only, get_two}
 use Rattle.fault_cause_laws.proofs.HitColumn.{ReadsMode}
 use Rattle.base_values.proofs.ListLaws.{get_left}

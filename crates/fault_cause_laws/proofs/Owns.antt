@@ -10,16 +10,16 @@ use Rattle.smv_language.specs.Trace.{Each}
 use Rattle.smv_language.specs.Flat.{FlatLeaf, flat_symbol, FlatModel, FlatVariable}
 use Rattle.smv_flat_laws.specs.FlatTrace.{IsFlatTrace}
 use Rattle.smv_flat_laws.specs.History.{Mode}
-use Rattle.smv_flat_laws.specs.Resolved.{leaves_in}
+use Rattle.smv_flat_laws.specs.NameResolution.{leaves_in}
 use Rattle.smv_flat_laws.proofs.Conditions.{each_join}
 use Rattle.cut_right_laws.specs.Sets.{has_number}
-use Rattle.fault_cause_laws.specs.Added.{Addition, IsKnownName, beside, AreAdded}
+use Rattle.fault_cause_laws.specs.Additions.{Addition, IsKnownName, beside, AreAdded}
 use Rattle.fault_cause_laws.specs.Columns.{with_value}
 use Rattle.fault_cause_laws.proofs.Traces.{taken_apart}
 use Rattle.fault_cause_laws.proofs.Columns.{EachFrom, one_added, forced, fitting}
 use Rattle.fault_cause_laws.specs.Causes.{CommonCause}
-use Rattle.fault_cause_laws.specs.Staged.{own_name, none_name, self_name, added_variable, own_at_first, own_at_step, in_window, stands_of, mode_of, windows_on, joined_after, joined, with_own, with_owns}
-use Rattle.fault_cause_laws.specs.Told.{own_value, owns_told}
+use Rattle.fault_cause_laws.specs.StagedModel.{own_name, none_name, self_name, added_variable, own_at_first, own_at_step, in_window, stands_of, mode_of, windows_on, joined_after, joined, with_own, with_owns}
+use Rattle.fault_cause_laws.specs.StagedValues.{own_value, owns_told}
 use Rattle.fault_cause_laws.proofs.Known.{IsReady, ready_added, Lasting, Knows, known_value}
 use Rattle.fault_cause_laws.proofs.OwnColumn.{own_forced, own_fits}
 use Rattle.fault_cause_laws.proofs.EachCause.{WithAges, with_ages_lasts}

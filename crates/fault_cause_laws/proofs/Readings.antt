@@ -11,9 +11,9 @@ use Rattle.fault_cause_laws.specs.Columns.{with_value}
 use Rattle.fault_cause_laws.proofs.AddedReadings.{get_last}
 use Rattle.fault_cause_laws.proofs.Columns.{EachFrom, grown, with_values_length}
 use Rattle.fault_cause_laws.specs.Causes.{CommonCause, IsCauseOf}
-use Rattle.fault_cause_laws.specs.Caused.{AreCaused}
-use Rattle.fault_cause_laws.specs.Staged.{quiet_name, now_name, none_name, self_name, with_hit, with_hits, with_age, with_event, with_cause, with_each_cause, with_own, with_owns, own_events, cause_events}
-use Rattle.fault_cause_laws.specs.Told.{age_value, event_value, hit_value, own_value, hits_told, cause_told, causes_told, owns_told}
+use Rattle.fault_cause_laws.specs.CausedEvents.{AreCaused}
+use Rattle.fault_cause_laws.specs.StagedModel.{quiet_name, now_name, none_name, self_name, with_hit, with_hits, with_age, with_event, with_cause, with_each_cause, with_own, with_owns, own_events, cause_events}
+use Rattle.fault_cause_laws.specs.StagedValues.{age_value, event_value, hit_value, own_value, hits_told, cause_told, causes_told, owns_told}
 use Rattle.fault_cause_laws.proofs.Formulas.{get_two}
 use Rattle.fault_cause_laws.proofs.OneCause.{cause_symbols}
 use Rattle.base_values.proofs.ListLaws.{get_left}

@@ -10,15 +10,15 @@ use Rattle.smv_language.specs.Texts.{same_text}
 use Rattle.smv_language.specs.Flat.{FlatLeaf, flat_variable, flat_symbol, FlatVariable, FlatModel}
 use Rattle.smv_flat_laws.specs.History.{Mode, added, stands_now}
 use Rattle.smv_type_laws.specs.Intervals.{just, fits_number}
-use Rattle.smv_type_laws.specs.Judged.{Class, truth_class, number_class, symbol_class, Kind, too_wide, mixed_enum, double_member, rule_if, wide, one_value, unlike_first, hull_of, Judged}
-use Rattle.smv_type_laws.specs.Declared.{member_kind, judged_declared}
+use Rattle.smv_type_laws.specs.ExpressionKinds.{Class, truth_class, number_class, symbol_class, Kind, too_wide, mixed_enum, double_member, rule_if, wide, one_value, unlike_first, hull_of, Judged}
+use Rattle.smv_type_laws.specs.DeclaredKinds.{member_kind, judged_declared}
 use Rattle.smv_type_laws.specs.Models.{kind_at, kind_of_leaf, judged_in}
 use Rattle.smv_type_laws.specs.Laws.{ReadsOwn}
 use Rattle.sat_encoding_laws.proofs.HistoryTyped.{got_judged}
 use Rattle.fault_woven_laws.specs.Modes.{HasSymbols}
 use Rattle.fault_woven_laws.proofs.Rightly.{Rightly, condition_right, not_right, connective_right, order_right, same_right, choice_right, set_right}
 use Rattle.fault_woven_laws.proofs.Numbers.{numbers_in, both_fit}
-use Rattle.fault_cause_laws.specs.Staged.{value_of, whole, only, zero_or_one}
+use Rattle.fault_cause_laws.specs.StagedModel.{value_of, whole, only, zero_or_one}
 use Rattle.fault_cause_laws.proofs.AddedKinds.{IsRightFormula, Grows}
 
 -- ---- types

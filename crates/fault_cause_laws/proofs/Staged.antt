@@ -4,14 +4,14 @@ use Rattle.smv_language.specs.Tree.{Tree}
 use Rattle.smv_language.specs.Laws.{AllLeaves}
 use Rattle.smv_language.specs.Trace.{Each}
 use Rattle.smv_language.specs.Flat.{FlatLeaf, flat_variable, flat_symbol, flat_definition, FlatFormula, FlatModel}
-use Rattle.smv_flat_laws.specs.Resolved.{leaves_in, Resolver, IsSound, IsResolved}
+use Rattle.smv_flat_laws.specs.NameResolution.{leaves_in, Resolver, IsSound, IsResolved}
 use Rattle.smv_flat_laws.proofs.Lists.{each_more}
 use Rattle.smv_type_laws.specs.Laws.{IsKnown, AreInOrder, IsClosed}
 use Rattle.smv_type_laws.proofs.ClosedLaws.{own_by, models_closed}
-use Rattle.fault_weave.specs.Woven.{woven}
+use Rattle.fault_weave.specs.WovenProgram.{woven}
 use Rattle.sat_encoding_laws.specs.EncodedLaws.{AreOwn}
 use Rattle.cert_laws.proofs.Own.{each_leaf, models_own}
-use Rattle.fault_cause_laws.specs.Added.{IsKnownName, IsKnownFormula, KnowsNames}
+use Rattle.fault_cause_laws.specs.Additions.{IsKnownName, IsKnownFormula, KnowsNames}
 use Rattle.fault_cause_laws.specs.CausesExtendedLaws.{ExtensionsAreStaged}
 
 known_name : (v s d : ℕ) (l : FlatLeaf) → IsKnown v s d l → IsKnownName v s l

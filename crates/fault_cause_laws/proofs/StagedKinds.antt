@@ -11,15 +11,15 @@ use Rattle.smv_language.specs.Flat.{FlatVariable, FlatModel}
 use Rattle.smv_flat_laws.specs.History.{Mode, with_history}
 use Rattle.smv_flat_laws.proofs.Lists.{get_end, length_end, each_more}
 use Rattle.smv_flat_laws.proofs.Conditions.{each_join, each_at}
-use Rattle.smv_type_laws.specs.Judged.{truth_class, symbol_class, Judged}
-use Rattle.smv_type_laws.specs.Declared.{judged_declared}
+use Rattle.smv_type_laws.specs.ExpressionKinds.{truth_class, symbol_class, Judged}
+use Rattle.smv_type_laws.specs.DeclaredKinds.{judged_declared}
 use Rattle.smv_type_laws.specs.Models.{breaches}
 use Rattle.fault_woven_laws.specs.Modes.{HasSymbols}
 use Rattle.fault_woven_laws.proofs.History.{history_kept}
 use Rattle.fault_woven_laws.proofs.WovenLaws.{size_alone}
-use Rattle.fault_cause_laws.specs.Added.{Addition, with_addition}
+use Rattle.fault_cause_laws.specs.Additions.{Addition, with_addition}
 use Rattle.fault_cause_laws.specs.Causes.{CommonCause}
-use Rattle.fault_cause_laws.specs.Staged.{age_name, event_name, quiet_name, now_name, hit_name, own_name, none_name, self_name, added_variable, value_of, whole, mode_of, stands_of, in_window, age_at_first, age_at_step, with_age, event_at_each, with_event, hit_at_first, landed_at_each, hit_at_step, with_hit, with_hits, with_cause, with_each_cause, age_numbers, windows_on, joined, own_at_first, own_at_step, with_own, with_owns, with_causes, own_events, cause_events, events_of}
+use Rattle.fault_cause_laws.specs.StagedModel.{age_name, event_name, quiet_name, now_name, hit_name, own_name, none_name, self_name, added_variable, value_of, whole, mode_of, stands_of, in_window, age_at_first, age_at_step, with_age, event_at_each, with_event, hit_at_first, landed_at_each, hit_at_step, with_hit, with_hits, with_cause, with_each_cause, age_numbers, windows_on, joined, own_at_first, own_at_step, with_own, with_owns, with_causes, own_events, cause_events, events_of}
 use Rattle.fault_cause_laws.specs.KindLaws.{AreOfKinds, IsShortCause, StagedBreaksNone, StagedBreaksSizeAlone}
 use Rattle.fault_cause_laws.proofs.AddedKinds.{IsRightModel, IsRightAddition, right_added, Grows, grows_same, grows_on, grows_added}
 use Rattle.fault_cause_laws.proofs.RightTrees.{two_symbols_right, HasType, HasMode, symbols_grown, mode_grown, type_grown, IsRightTree, as_formula, variable_right, next_tree, and_tree, or_tree, implies_tree, within_tree, stands_tree}

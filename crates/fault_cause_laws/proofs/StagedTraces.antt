@@ -9,12 +9,12 @@ use Rattle.smv_language.specs.Flat.{FlatModel}
 use Rattle.smv_flat_laws.specs.FlatTrace.{AreInDomains, IsFlatMoment, IsFlatTrace, IsModeOf, is_symbol_value}
 use Rattle.smv_flat_laws.specs.History.{Mode}
 use Rattle.smv_flat_laws.proofs.Conditions.{each_at}
-use Rattle.fault_cause_laws.specs.Added.{KnowsNames}
+use Rattle.fault_cause_laws.specs.Additions.{KnowsNames}
 use Rattle.fault_cause_laws.proofs.Columns.{EachFrom}
 use Rattle.fault_cause_laws.specs.Causes.{CommonCause, IsCauseOf}
-use Rattle.fault_cause_laws.specs.Caused.{AreCaused}
-use Rattle.fault_cause_laws.specs.Staged.{mode_of, with_cause, with_each_cause, with_causes, age_numbers}
-use Rattle.fault_cause_laws.specs.Told.{stands_there, stands_at, causes_told, owns_told, caused_told}
+use Rattle.fault_cause_laws.specs.CausedEvents.{AreCaused}
+use Rattle.fault_cause_laws.specs.StagedModel.{mode_of, with_cause, with_each_cause, with_causes, age_numbers}
+use Rattle.fault_cause_laws.specs.StagedValues.{stands_there, stands_at, causes_told, owns_told, caused_told}
 use Rattle.fault_cause_laws.specs.Laws.{AreStaged, IsCausedTrace}
 use Rattle.fault_cause_laws.proofs.HitColumn.{ReadsMode}
 use Rattle.fault_cause_laws.proofs.Known.{IsReady, Knows, from_each}

@@ -8,9 +8,9 @@ use Rattle.smv_flat_laws.specs.FlatTrace.{IsFlatTrace, stands, stands_in_some}
 use Rattle.sat_encoding_laws.specs.FlatTraces.{HasFailedNumber}
 use Rattle.fault_cause_laws.proofs.Columns.{EachFrom}
 use Rattle.fault_cause_laws.specs.Causes.{CommonCause}
-use Rattle.fault_cause_laws.specs.Caused.{IsFree, AreCaused, BeginsFreely, HasHappened}
-use Rattle.fault_cause_laws.specs.Staged.{mode_of}
-use Rattle.fault_cause_laws.specs.Told.{stands_there}
+use Rattle.fault_cause_laws.specs.CausedEvents.{IsFree, AreCaused, BeginsFreely, HasHappened}
+use Rattle.fault_cause_laws.specs.StagedModel.{mode_of}
+use Rattle.fault_cause_laws.specs.StagedValues.{stands_there}
 use Rattle.fault_cause_laws.specs.Laws.{AreStaged, StandsAt, IsCausedTrace}
 use Rattle.fault_cause_laws.proofs.StagedTraces.{mode_there}
 use Rattle.std.proofs.lemmas.Bool.{or_left, or_right}

@@ -7,7 +7,7 @@ use Rattle.smv_language.specs.Flat.{FlatModel, Holds}
 use Rattle.smv_flat_laws.specs.FlatTrace.{AreInDomains, IsFlatMoment, IsFlatStep, IsFlatTrace}
 use Rattle.smv_flat_laws.proofs.Reaches.{each_left, each_right}
 use Rattle.smv_flat_laws.proofs.Conditions.{each_join}
-use Rattle.fault_cause_laws.specs.Added.{Addition, with_addition, KnowsNames, beside, AreAdded}
+use Rattle.fault_cause_laws.specs.Additions.{Addition, with_addition, KnowsNames, beside, AreAdded}
 use Rattle.fault_cause_laws.proofs.Longer.{hold_longer, Parts, parts, whole}
 use Rattle.smv_flat_laws.proofs.HistoryTraces.{domains_length}
 

@@ -7,11 +7,11 @@ use Rattle.smv_language.specs.Trace.{AtSome}
 use Rattle.smv_language.proofs.ValueLaws.{same_text_equal}
 use Rattle.smv_flat_laws.proofs.Conditions.{same_text_same}
 use Rattle.fault_instructions.specs.AddedNames.{ModeState}
-use Rattle.fault_weave.specs.Extended.{Moment}
+use Rattle.fault_weave.specs.ExtensionTraces.{Moment}
 use Rattle.fault_weave.specs.Faults.{Fault}
 use Rattle.cert_laws.specs.ExtendedTraces.{HasFailedFault}
 use Rattle.fault_cause_laws.specs.Causes.{CommonCause}
-use Rattle.fault_cause_laws.specs.Caused.{BeginsFreely, HasHappened}
+use Rattle.fault_cause_laws.specs.CausedEvents.{BeginsFreely, HasHappened}
 use Rattle.fault_cause_laws.specs.CausedTraces.{FaultStandsAt}
 use Rattle.fault_cause_laws.specs.CausesExtendedLaws.{UncausedAreExtended}
 use Rattle.fault_cause_laws.proofs.Stood.{no_times, none_occur, all_free}

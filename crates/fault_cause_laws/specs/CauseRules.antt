@@ -1,5 +1,6 @@
 -- The rules of causes, over the faults of an extension and the names of the woven program.
-use Rattle.std.specs.Prelude.{◌≡◌, ℕ, zero, suc, ◌+◌, ◌-◌, ◌<◌, nat_lt, Bool, true, false, ◌||◌, ◌&&◌, not, List, [], ◌∷◌, ◌++◌, Option, Some, None, length, map, flat_map, reverse, slice_get, if◌then◌else◌}
+use Rattle.std.specs.Prelude.{◌≡◌, ℕ, zero, suc, ◌+◌, ◌-◌, ◌<◌, nat_lt, Bool, true, false, ◌||◌, ◌&&◌, not, List, [], ◌∷◌, ◌++◌, Option}
+use Rattle.std.specs.Prelude.{Some, None, length, map, flat_map, reverse, slice_get, if◌then◌else◌}
 use Rattle.std.specs.List.{list_any}
 use Rattle.smv_language.specs.ProgramTree.{Text, Path, ProgramTree}
 use Rattle.smv_language.specs.Texts.{same_text, is_among}
@@ -7,7 +8,7 @@ use Rattle.fault_weave.specs.Faults.{Fault}
 use Rattle.fault_rules.specs.Rules.{is_program_name}
 use Rattle.fault_cause_laws.specs.Causes.{CommonCause}
 use Rattle.fault_cause_laws.specs.CausesText.{WrittenCause}
-use Rattle.fault_cause_laws.specs.Staged.{age_name, event_name, quiet_name, now_name, hit_name, own_name, none_name, self_name}
+use Rattle.fault_cause_laws.specs.StagedModel.{age_name, event_name, quiet_name, now_name, hit_name, own_name, none_name, self_name}
 use Rattle.smv_language.specs.Trace.{EachBoth}
 
 -- the name of a fault: the instances from `main` on, the slice, and the mode

@@ -5,11 +5,11 @@ use Rattle.smv_language.specs.ProgramTree.{Formula, ProgramTree}
 use Rattle.smv_language.specs.Trace.{Each}
 use Rattle.smv_language.specs.Flat.{FlatLeaf, FlatModel}
 use Rattle.smv_flat_laws.specs.History.{Mode}
-use Rattle.smv_flat_laws.specs.Resolved.{leaves_in}
+use Rattle.smv_flat_laws.specs.NameResolution.{leaves_in}
 use Rattle.fault_instructions.specs.Instructions.{InstructionTree}
-use Rattle.fault_weave.specs.Extended.{Moment, IsExtended}
+use Rattle.fault_weave.specs.ExtensionTraces.{Moment, IsExtended}
 use Rattle.fault_weave.specs.Faults.{Fault}
-use Rattle.fault_cause_laws.specs.Added.{IsKnownName}
+use Rattle.fault_cause_laws.specs.Additions.{IsKnownName}
 use Rattle.cut_right_laws.specs.Laws.{AreBoth}
 use Rattle.cert_laws.specs.ExtendedTraces.{IsExtensionModel, IsFlatCut, HasFailedFault}
 use Rattle.fault_cause_laws.specs.Causes.{CommonCause, IsCauseOf}
@@ -20,8 +20,10 @@ use Rattle.fault_cause_laws.specs.CausedTraces.{CausedTrace, IsCausedExtended, I
 -- an extension's model, with causes that strike its faults, meets what the staged model asks, and its top event is an expression of it
 abbrev pub ExtensionsAreStaged : Type 0
 ExtensionsAreStaged =
-    (p : ProgramTree) (i : InstructionTree) (faults : List Fault) (top : Formula) (m : FlatModel) (fs : List Mode) (flat_top : Tree FlatLeaf) → IsExtensionModel p i faults top m fs flat_top →
-    (cs : List CommonCause) → Each (IsCauseOf (length fs)) cs → AreStaged m fs cs × Each (IsKnownName (length m.variables) (length m.symbols)) (leaves_in flat_top)
+    (p : ProgramTree) (i : InstructionTree) (faults : List Fault) (top : Formula) (m : FlatModel) (fs : List Mode)
+    (flat_top : Tree FlatLeaf) → IsExtensionModel p i faults top m fs flat_top →
+    (cs : List CommonCause) → Each (IsCauseOf (length fs)) cs →
+    AreStaged m fs cs × Each (IsKnownName (length m.variables) (length m.symbols)) (leaves_in flat_top)
 
 -- the caused traces in which no cause has a moment are the extended traces, with the faults that they have failed as events
 abbrev pub UncausedAreExtended : Type 0
@@ -37,13 +39,19 @@ IsCausedCut p i m flat c = IsFlatCut p i m flat.0 c.0 × (flat.1 ≡ c.1)
 -- sets that are right for all flat caused traces are right for all caused traces
 abbrev pub AllRightIsCausedExtended : Type 0
 AllRightIsCausedExtended =
-    (p : ProgramTree) (i : InstructionTree) (faults : List Fault) (top : Formula) (m : FlatModel) (fs : List Mode) (flat_top : Tree FlatLeaf) → IsExtensionModel p i faults top m fs flat_top →
-    (cs : List CommonCause) → Each (IsCauseOf (length fs)) cs → (size : ℕ) (sets : List (List ℕ)) (flats : List Caused) (traces : List CausedTrace) → AreBoth (IsCausedCut p i m) flats traces →
-    IsRightCaused m fs cs flat_top size (IsCaused m fs cs) sets flats → IsRightCausedExtended p i faults cs top size (IsCausedExtended p i faults cs) sets traces
+    (p : ProgramTree) (i : InstructionTree) (faults : List Fault) (top : Formula) (m : FlatModel) (fs : List Mode)
+    (flat_top : Tree FlatLeaf) → IsExtensionModel p i faults top m fs flat_top →
+    (cs : List CommonCause) → Each (IsCauseOf (length fs)) cs →
+    (size : ℕ) (sets : List (List ℕ)) (flats : List Caused) (traces : List CausedTrace) → AreBoth (IsCausedCut p i m) flats traces →
+    IsRightCaused m fs cs flat_top size (IsCaused m fs cs) sets flats →
+    IsRightCausedExtended p i faults cs top size (IsCausedExtended p i faults cs) sets traces
 
 -- and those that are right for flat ones of at most k steps are right for caused traces of at most k steps
 abbrev pub ShortRightIsCausedExtended : Type 0
 ShortRightIsCausedExtended =
-    (p : ProgramTree) (i : InstructionTree) (faults : List Fault) (top : Formula) (m : FlatModel) (fs : List Mode) (flat_top : Tree FlatLeaf) → IsExtensionModel p i faults top m fs flat_top →
-    (cs : List CommonCause) → Each (IsCauseOf (length fs)) cs → (k size : ℕ) (sets : List (List ℕ)) (flats : List Caused) (traces : List CausedTrace) → AreBoth (IsCausedCut p i m) flats traces →
-    IsRightCaused m fs cs flat_top size (IsShortCaused m fs cs k) sets flats → IsRightCausedExtended p i faults cs top size (IsShortCausedExtended p i faults cs k) sets traces
+    (p : ProgramTree) (i : InstructionTree) (faults : List Fault) (top : Formula) (m : FlatModel) (fs : List Mode)
+    (flat_top : Tree FlatLeaf) → IsExtensionModel p i faults top m fs flat_top →
+    (cs : List CommonCause) → Each (IsCauseOf (length fs)) cs →
+    (k size : ℕ) (sets : List (List ℕ)) (flats : List Caused) (traces : List CausedTrace) → AreBoth (IsCausedCut p i m) flats traces →
+    IsRightCaused m fs cs flat_top size (IsShortCaused m fs cs k) sets flats →
+    IsRightCausedExtended p i faults cs top size (IsShortCausedExtended p i faults cs k) sets traces

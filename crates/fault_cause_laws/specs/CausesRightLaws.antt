@@ -6,15 +6,15 @@ use Rattle.smv_language.specs.Trace.{Each}
 use Rattle.smv_language.specs.Flat.{FlatLeaf, FlatModel}
 use Rattle.smv_flat_laws.specs.History.{Mode}
 use Rattle.smv_flat_laws.specs.FlatTrace.{IsFlatTrace}
-use Rattle.smv_flat_laws.specs.Resolved.{leaves_in}
-use Rattle.fault_cause_laws.specs.Added.{IsKnownName}
+use Rattle.smv_flat_laws.specs.NameResolution.{leaves_in}
+use Rattle.fault_cause_laws.specs.Additions.{IsKnownName}
 use Rattle.cut_right_laws.specs.Right.{IsRight, IsWithin}
 use Rattle.cut_right_laws.specs.Laws.{AreBoth}
 use Rattle.sat_encoding_laws.specs.FlatTraces.{ReachesTop, IsRightFlat}
 use Rattle.fault_cause_laws.specs.Causes.{CommonCause}
-use Rattle.fault_cause_laws.specs.Caused.{HasHappened}
-use Rattle.fault_cause_laws.specs.Staged.{with_causes, events_of}
-use Rattle.fault_cause_laws.specs.Told.{caused_told}
+use Rattle.fault_cause_laws.specs.CausedEvents.{HasHappened}
+use Rattle.fault_cause_laws.specs.StagedModel.{with_causes, events_of}
+use Rattle.fault_cause_laws.specs.StagedValues.{caused_told}
 use Rattle.fault_cause_laws.specs.Laws.{AreStaged, StandsAt, IsCausedTrace}
 
 -- a trace with the moments of its causes
@@ -46,13 +46,17 @@ module _ (m : FlatModel) (fs : List Mode) (cs : List CommonCause) where
 -- sets that are right for all staged traces are right for all caused traces
 abbrev pub AllRightIsCaused : Type 0
 AllRightIsCaused =
-    (m : FlatModel) (fs : List Mode) (cs : List CommonCause) → AreStaged m fs cs → (top : Tree FlatLeaf) → Each (IsKnownName (length m.variables) (length m.symbols)) (leaves_in top) →
+    (m : FlatModel) (fs : List Mode) (cs : List CommonCause) → AreStaged m fs cs → (top : Tree FlatLeaf) →
+    Each (IsKnownName (length m.variables) (length m.symbols)) (leaves_in top) →
     (size : ℕ) (sets : List (List ℕ)) (staged : List (List (List Value))) (traces : List Caused) → AreBoth (Tells m fs cs) staged traces →
-    IsRightFlat (with_causes m fs cs) (events_of m fs cs) top size (IsFlatTrace (with_causes m fs cs)) sets staged → IsRightCaused m fs cs top size (IsCaused m fs cs) sets traces
+    IsRightFlat (with_causes m fs cs) (events_of m fs cs) top size (IsFlatTrace (with_causes m fs cs)) sets staged →
+    IsRightCaused m fs cs top size (IsCaused m fs cs) sets traces
 
 -- and those that are right for staged traces of at most k steps are right for caused traces of at most k steps
 abbrev pub ShortRightIsCaused : Type 0
 ShortRightIsCaused =
-    (m : FlatModel) (fs : List Mode) (cs : List CommonCause) → AreStaged m fs cs → (top : Tree FlatLeaf) → Each (IsKnownName (length m.variables) (length m.symbols)) (leaves_in top) →
+    (m : FlatModel) (fs : List Mode) (cs : List CommonCause) → AreStaged m fs cs → (top : Tree FlatLeaf) →
+    Each (IsKnownName (length m.variables) (length m.symbols)) (leaves_in top) →
     (k size : ℕ) (sets : List (List ℕ)) (staged : List (List (List Value))) (traces : List Caused) → AreBoth (Tells m fs cs) staged traces →
-    IsRightFlat (with_causes m fs cs) (events_of m fs cs) top size (IsWithin (IsFlatTrace (with_causes m fs cs)) k) sets staged → IsRightCaused m fs cs top size (IsShortCaused m fs cs k) sets traces
+    IsRightFlat (with_causes m fs cs) (events_of m fs cs) top size (IsWithin (IsFlatTrace (with_causes m fs cs)) k) sets staged →
+    IsRightCaused m fs cs top size (IsShortCaused m fs cs k) sets traces

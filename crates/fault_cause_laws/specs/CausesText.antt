@@ -17,8 +17,10 @@ pub record WrittenCause : Type 0 where
 
 -- cause = "CAUSE" name "WITHIN" number ".." number "STRIKES" dotted { "," dotted } ";"
 pub data SpellsCause : List Lexeme → WrittenCause → Type 0 where
-  a_cause : {x a b : Text} {from to : ℕ} {ts : List Lexeme} {strikes : List Path} → is_reserved x ≡ false → SpellsCommas SpellsDotted ts strikes →
-      SpellsCause (word (codes "CAUSE") ∷ word x ∷ word (codes "WITHIN") ∷ num from a ∷ sign k.Dots ∷ num to b ∷ word (codes "STRIKES") ∷ (ts ++ sign k.Semicolon ∷ []))
+  a_cause : {x a b : Text} {from to : ℕ} {ts : List Lexeme} {strikes : List Path} → is_reserved x ≡ false →
+      SpellsCommas SpellsDotted ts strikes →
+      SpellsCause (word (codes "CAUSE") ∷ word x ∷ word (codes "WITHIN") ∷ num from a ∷ sign k.Dots ∷ num to b ∷ word (codes "STRIKES")
+      ∷ (ts ++ sign k.Semicolon ∷ []))
       (record { name = x; from = from; to = to; strikes = strikes })
 
 -- causes = { cause }

@@ -33,16 +33,19 @@ NamesTellFaults = (f g : Fault) → fault_path f ≡ fault_path g → f ≡ g
 -- a name is that of one number alone
 abbrev pub NamesMeanOne : Type 0
 NamesMeanOne =
-    (p : ProgramTree) (i : InstructionTree) (faults : List Fault) → AreFaultsOf p i faults → (w : ProgramTree) (x : Path) (j k : ℕ) → IsStrikeOf faults w x j → IsStrikeOf faults w x k → j ≡ k
+    (p : ProgramTree) (i : InstructionTree) (faults : List Fault) → AreFaultsOf p i faults → (w : ProgramTree) (x : Path) (j k : ℕ) →
+    IsStrikeOf faults w x j → IsStrikeOf faults w x k → j ≡ k
 
 -- so causes that are written with names are the same causes for whoever reads them: no name leaves a choice of faults
 abbrev pub CausesReadAsOne : Type 0
 CausesReadAsOne =
-    (p : ProgramTree) (i : InstructionTree) (faults : List Fault) → AreFaultsOf p i faults → (w : ProgramTree) (written : List WrittenCause) (cs ds : List CommonCause) →
+    (p : ProgramTree) (i : InstructionTree) (faults : List Fault) → AreFaultsOf p i faults →
+    (w : ProgramTree) (written : List WrittenCause) (cs ds : List CommonCause) →
     AreReadAs faults w written cs → AreReadAs faults w written ds → cs ≡ ds
 
 -- and no two events have one name, where those of causes have one part, and those of faults more
 abbrev pub EventNamesDiffer : Type 0
 EventNamesDiffer =
-    (p : ProgramTree) (i : InstructionTree) (faults : List Fault) → AreFaultsOf p i faults → (w : ProgramTree) (written : List WrittenCause) (cs : List CommonCause) →
+    (p : ProgramTree) (i : InstructionTree) (faults : List Fault) → AreFaultsOf p i faults →
+    (w : ProgramTree) (written : List WrittenCause) (cs : List CommonCause) →
     AreLawful faults w written → AreReadAs faults w written cs → StandOnce (map fault_path faults ++ map (λ c. c.name ∷ []) cs)

@@ -4,12 +4,12 @@ use Rattle.smv_language.specs.Trace.{Each}
 use Rattle.smv_language.specs.Flat.{FlatModel}
 use Rattle.smv_flat_laws.specs.FlatTrace.{IsModeOf}
 use Rattle.smv_flat_laws.specs.History.{Mode, with_history}
-use Rattle.smv_type_laws.specs.Judged.{KindRule, too_large}
+use Rattle.smv_type_laws.specs.ExpressionKinds.{KindRule, too_large}
 use Rattle.smv_type_laws.specs.Laws.{IsClosed}
 use Rattle.smv_type_laws.specs.Models.{breaches, IsFault}
 use Rattle.fault_woven_laws.specs.Modes.{HasSymbols}
 use Rattle.fault_cause_laws.specs.Causes.{CommonCause, IsCauseOf}
-use Rattle.fault_cause_laws.specs.Staged.{with_causes, events_of}
+use Rattle.fault_cause_laws.specs.StagedModel.{with_causes, events_of}
 
 -- a model that breaks no rule of kinds but, it may be, that of its size, with its faults: modes of it whose variables have symbols
 pub record AreOfKinds (m : FlatModel) (fs : List Mode) : Type 0 where
@@ -32,6 +32,7 @@ StagedBreaksNone =
 -- so the one fault of kinds that it may have is that of its size
 abbrev pub StagedBreaksSizeAlone : Type 0
 StagedBreaksSizeAlone =
-    (m : FlatModel) (fs : List Mode) (cs : List CommonCause) → AreOfKinds m fs → Each (IsShortCause (length fs)) cs → (rule : KindRule) (item : ℕ) →
+    (m : FlatModel) (fs : List Mode) (cs : List CommonCause) → AreOfKinds m fs → Each (IsShortCause (length fs)) cs →
+    (rule : KindRule) (item : ℕ) →
     (IsFault (with_causes m fs cs) rule item → (rule ≡ too_large) × (item ≡ 0))
     × (IsFault (with_history (with_causes m fs cs) (events_of m fs cs)) rule item → (rule ≡ too_large) × (item ≡ 0))

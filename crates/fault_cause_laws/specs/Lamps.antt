@@ -18,7 +18,8 @@ abbrev pub main_module : ModuleTree
 main_module = record {
   name = codes "main";
   formals = [];
-  sections = var (record { name = codes "a"; what = instance (codes "Lamp") [] } ∷ record { name = codes "b"; what = instance (codes "Lamp") [] } ∷ []) ∷ [];
+  sections = var (record { name = codes "a"; what = instance (codes "Lamp") [] }
+      ∷ record { name = codes "b"; what = instance (codes "Lamp") [] } ∷ []) ∷ [];
 }
 
 -- the program of both modules

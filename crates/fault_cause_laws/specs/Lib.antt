@@ -1,11 +1,11 @@
 pub mod Causes
-pub mod Caused
+pub mod CausedEvents
 pub mod CausesText
 pub mod CauseRules
-pub mod Staged
-pub mod Told
+pub mod StagedModel
+pub mod StagedValues
 pub mod Laws
-pub mod Added
+pub mod Additions
 pub mod Columns
 pub mod AddedLaws
 pub mod CausesRightLaws

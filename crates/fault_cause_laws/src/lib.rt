@@ -1,6 +1,6 @@
 //! Common causes: events that bring several faults about within a window of steps. Definitions and laws, with no code.
 //!
-//! `specs/Caused.antt` says when a trace with moments of causes is a caused trace, and what its events are. `CausesText` and
+//! `specs/CausedEvents.antt` says when a trace with moments of causes is a caused trace, and what its events are. `CausesText` and
 //! `CauseRules` have the grammar and the rules of a causes file. `Staged` is the model whose traces are the caused traces,
 //! and `Told` what its variables tell of one. `Laws` has the theorems, which the contracts below carry.
 //!
@@ -10,7 +10,7 @@
 //! ```
 //!
 //! The staged model is a flat model with further variables after its own. Such an addition is variables, symbols and formulas
-//! (`specs/Added.antt`). The traces of the model with it are the model's own, each with values of the added variables that meet
+//! (`specs/Additions.antt`). The traces of the model with it are the model's own, each with values of the added variables that meet
 //! the added formulas (`AddedLaws`): so whoever adds variables speaks of the added formulas alone.
 //!
 //! By `KindLaws` the staged model breaks no rule of kinds at an item where the model breaks none. `AddedKinds` has this of any addition,
@@ -43,7 +43,8 @@
 ghost use Rattle.fault_cause_laws.specs.Laws.{StagedTracesAreCaused, OneTraceEach, StagedEventsAreEvents, UncausedAreTraces};
 ghost use Rattle.fault_cause_laws.specs.AddedLaws.{AdditionsAreExact};
 ghost use Rattle.fault_cause_laws.specs.CausesRightLaws.{AllRightIsCaused, ShortRightIsCaused};
-ghost use Rattle.fault_cause_laws.specs.CausesExtendedLaws.{ExtensionsAreStaged, UncausedAreExtended, AllRightIsCausedExtended, ShortRightIsCausedExtended};
+ghost use Rattle.fault_cause_laws.specs.CausesExtendedLaws.{ExtensionsAreStaged, UncausedAreExtended, AllRightIsCausedExtended};
+ghost use Rattle.fault_cause_laws.specs.CausesExtendedLaws.{ShortRightIsCausedExtended};
 ghost use Rattle.fault_cause_laws.specs.KindLaws.{StagedBreaksNone, StagedBreaksSizeAlone};
 ghost use Rattle.fault_cause_laws.specs.FaultNamesLaws.{NamesDiffer, NamesTellFaults, NamesMeanOne, CausesReadAsOne, EventNamesDiffer};
 ghost use Rattle.fault_cause_laws.specs.Lamps.{LampsHaveTwoNames};

@@ -9,7 +9,7 @@ use Rattle.smv_language.specs.Spells.{SpellsDotted, one_name, more_names}
 use Rattle.smv_language.specs.SpellsProgram.{SpellsCommas, last_one, one_comma, no_more, one_more}
 use Rattle.smv_expression_reader.proofs.Marks.{mark_of_name}
 use Rattle.fault_cause_laws.specs.CausesText.{WrittenCause, SpellsCause, a_cause, SpellsCauses}
-use Rattle.fault_causes_reader.specs.CausesRead.{start, named, within, part, after, ReadSoFar, so_far, name_read, part_read, cause_read, read_more, run}
+use Rattle.fault_causes_reader.specs.CauseStages.{start, named, within, part, after, ReadSoFar, so_far, name_read, part_read, cause_read, read_more, run}
 
 -- reading, one list after another
 pub run_append : (o : Option ReadSoFar) (xs ys : List Lexeme) → run o (xs ++ ys) ≡ run (run o xs) ys

@@ -7,12 +7,12 @@ use Rattle.smv_language.specs.ProgramTree.{Text, Path}
 use Rattle.smv_language.specs.Lexemes.{Lexeme, word, num, sign, is_reserved}
 use Rattle.smv_language.specs.Spells.{SpellsDotted, one_name, more_names}
 use Rattle.smv_language.specs.SpellsProgram.{SpellsCommas, last_one, one_comma, no_more, one_more}
-use Rattle.smv_expression_reader.specs.Build.{name_in, number_in}
+use Rattle.smv_expression_reader.specs.TreeBuilder.{name_in, number_in}
 use Rattle.smv_expression_reader.specs.Places.{is_word}
 use Rattle.smv_expression_reader.specs.Marks.{Mark, a_name, a_number, s_dots, s_dot, s_comma, s_semicolon, mark_of}
 use Rattle.smv_expression_reader.proofs.Marks.{Marked, marked, word_there}
 use Rattle.fault_cause_laws.specs.CausesText.{WrittenCause, SpellsCause, a_cause, SpellsCauses}
-use Rattle.fault_causes_reader.specs.CausesRead.{Stage, start, named, within, first, dots, last, strikes, part, after, ReadSoFar, so_far, where_so, name_read, first_read, is_dots, last_read, part_read, cause_read, after_read, stepped, run}
+use Rattle.fault_causes_reader.specs.CauseStages.{Stage, start, named, within, first, dots, last, strikes, part, after, ReadSoFar, so_far, where_so, name_read, first_read, is_dots, last_read, part_read, cause_read, after_read, stepped, run}
 use Rattle.fault_causes_reader.proofs.CausesReads.{run_none}
 use Rattle.std.proofs.lemmas.Option.{same_Some as some_same}
 

@@ -9,13 +9,13 @@ use Rattle.smv_lexer.specs.declared.token.Token.{Token}
 use Rattle.smv_lexer.specs.Tokens.{HasTokens}
 use Rattle.smv_language.specs.Lexemes.{Lexeme, word, num, sign, lexemes_of}
 use Rattle.smv_expression_reader.specs.declared.fault.ParseFault.{ParseFault}
-use Rattle.smv_expression_reader.specs.declared.reading.Reading.{Reading}
+use Rattle.smv_expression_reader.specs.declared.reading.ReadExtent.{ReadExtent}
 use Rattle.smv_expression_reader.specs.Places.{lexeme_at}
 use Rattle.smv_expression_reader.specs.Stops.{IsFrontOf, Unfinished, FaultMeans, is_left_out, stop_fault}
 use Rattle.smv_expression_reader.proofs.ExpressionLaws.{none_within}
 use Rattle.fault_cause_laws.specs.CausesText.{WrittenCause, SpellsCauses, BytesSpellCauses}
-use Rattle.fault_causes_reader.specs.CausesRead.{Stage, start, named, within, first, dots, last, strikes, part, after, ReadSoFar, so_far, read_more, run, read_of, IsCauses}
-use Rattle.fault_causes_reader.specs.ReadView.{Goes, is_start, reading_at, ReadsTo}
+use Rattle.fault_causes_reader.specs.CauseStages.{Stage, start, named, within, first, dots, last, strikes, part, after, ReadSoFar, so_far, read_more, run, read_of, IsCauses}
+use Rattle.fault_causes_reader.specs.StageView.{Goes, is_start, reading_at, ReadsTo}
 use Rattle.fault_causes_reader.proofs.CausesReads.{run_append, run_none, causes_are_read}
 use Rattle.fault_causes_reader.proofs.CausesSpelled.{spelled_of}
 
@@ -160,7 +160,7 @@ only_spelled bytes tokens ts cs only same reads ds spelled =
     ap (λ z. z.causes) (some_same (so_far start cs) (so_far start ds) both)
 
 -- where the lexemes end, reading is whole at the start of a cause only
-pub ended : (ts : List Lexeme) (cs : List WrittenCause) (s : Stage) (i : ℕ) (r : Reading) → length ts ≤ i → read_of (take i ts) ≡ Some (so_far s cs) → r ≡ reading_at (is_start s) → ReadsTo ts cs r
+pub ended : (ts : List Lexeme) (cs : List WrittenCause) (s : Stage) (i : ℕ) (r : ReadExtent) → length ts ≤ i → read_of (take i ts) ≡ Some (so_far s cs) → r ≡ reading_at (is_start s) → ReadsTo ts cs r
 ended ts cs s i r past reads is = subst (ReadsTo ts cs) (sym is) (at s (ap read_of (sym (take_all i ts past)) ∙ reads))
   where
     at : (s : Stage) → read_of ts ≡ Some (so_far s cs) → ReadsTo ts cs (reading_at (is_start s))

@@ -12,8 +12,8 @@ use Rattle.fault_weave.specs.Faults.{Fault}
 use Rattle.fault_cause_laws.specs.Causes.{CommonCause}
 use Rattle.fault_cause_laws.specs.CausesText.{WrittenCause, SpellsCauses, BytesSpellCauses}
 use Rattle.fault_cause_laws.specs.CauseRules.{fault_path, same_path, is_path_among, CauseRule, broken_at, AllKept, IsBrokenAt, AreOwnsTaken, AreLawful, IsReadAs, AreReadAs}
-use Rattle.fault_causes_reader.specs.CausesRead.{start, so_far}
-use Rattle.fault_causes_reader.specs.Read.{IsNumberOf, AreStrikes, AreRead, BreakRule}
+use Rattle.fault_causes_reader.specs.CauseStages.{start, so_far}
+use Rattle.fault_causes_reader.specs.CausesFile.{IsNumberOf, AreStrikes, AreRead, BreakRule}
 use Rattle.fault_causes_reader.proofs.CausesReads.{causes_are_read}
 use Rattle.std.proofs.lemmas.Option.{same_Some as some_same}
 use Rattle.smv_language.specs.Trace.{EachBoth}

@@ -4,7 +4,7 @@ use Rattle.std.specs.Prelude.{flat_map}
 use Rattle.std.proofs.lemmas.List.{length-map}
 use Rattle.smv_language.specs.ProgramTree.{Text, Path, ProgramTree}
 use Rattle.fault_weave.specs.Faults.{Fault as WovenFault}
-use Rattle.fault_rules.specs.Keyed.{with_texts}
+use Rattle.fault_rules.specs.KeyedLists.{with_texts}
 use Rattle.smv_language.specs.declared.model.Fault.{Fault}
 use Rattle.fault_cause_laws.specs.Causes.{CommonCause}
 use Rattle.fault_cause_laws.specs.CausesText.{WrittenCause, BytesSpellCauses}
@@ -12,8 +12,8 @@ use Rattle.fault_cause_laws.specs.CauseRules.{fault_path, names_of_cause}
 use Rattle.fault_causes_reader.specs.declared.fault.CauseFault.{CauseFault}
 use Rattle.fault_causes_reader.specs.declared.fault.CauseFault.TheVariants as f
 use Rattle.fault_causes_reader.specs.FaultPaths.{paths_of}
-use Rattle.fault_causes_reader.specs.Broken.{rule_of, first_broken, are_owns_among, TellsFirst, taken_in}
-use Rattle.fault_causes_reader.specs.Read.{AreNamed, AreStrikes, FaultSays, IsReadIn, IsReading, IsRefusal}
+use Rattle.fault_causes_reader.specs.BrokenRules.{rule_of, first_broken, are_owns_among, TellsFirst, taken_in}
+use Rattle.fault_causes_reader.specs.CausesFile.{AreNamed, AreStrikes, FaultSays, IsReadIn, IsReading, IsRefusal}
 use Rattle.fault_causes_reader.proofs.RuleLaws.{all_kept, is_broken, owns_same, owns_taken, read_as}
 use Rattle.smv_language.specs.Trace.{EachBoth}
 use Rattle.smv_language.specs.ModelTree.{name_of_fault}

@@ -8,13 +8,13 @@ use Rattle.std.proofs.lemmas.Option.{slice_get-map, same_Some as some_same}
 use Rattle.smv_language.specs.ProgramTree.{Text, Path, ProgramTree}
 use Rattle.smv_language.specs.Texts.{same_text, is_among}
 use Rattle.fault_weave.specs.Faults.{Fault}
-use Rattle.fault_rules.specs.Keyed.{with_texts}
+use Rattle.fault_rules.specs.KeyedLists.{with_texts}
 use Rattle.fault_rules.specs.Rules.{is_program_name}
 use Rattle.fault_cause_laws.specs.Causes.{CommonCause}
 use Rattle.fault_cause_laws.specs.CausesText.{WrittenCause}
 use Rattle.fault_cause_laws.specs.CauseRules.{fault_path, is_path_among, has_double, names_of_cause, own_names, is_any_taken, CauseRule, no_such_fault, double_cause, double_strike, empty_window, too_wide, too_many, name_taken, first_of, broken_at, AllKept, are_owns_taken, IsBrokenAt, AreOwnsTaken, IsStrikeOf, AreReadAs}
-use Rattle.fault_causes_reader.specs.Broken.{is_any_among, broken_by, told_at, first_broken, are_owns_among, owns_told, taken_in}
-use Rattle.fault_causes_reader.specs.Read.{IsNumberOf, IsReadIn}
+use Rattle.fault_causes_reader.specs.BrokenRules.{is_any_among, broken_by, told_at, first_broken, are_owns_among, owns_told, taken_in}
+use Rattle.fault_causes_reader.specs.CausesFile.{IsNumberOf, IsReadIn}
 use Rattle.fault_rules.proofs.KeyedLaws.{among_texts}
 use Rattle.fault_rules.proofs.LocalLaws.{program_has}
 use Rattle.smv_language.proofs.BoolLaws.{or_assoc}

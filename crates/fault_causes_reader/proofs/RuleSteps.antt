@@ -6,12 +6,12 @@ use Rattle.std.proofs.lemmas.List.{drop_more, take_more, append-nil, append_asso
 use Rattle.smv_language.specs.ProgramTree.{Text, Path}
 use Rattle.smv_language.specs.Texts.{same_text, is_among}
 use Rattle.smv_language.proofs.ValueLaws.{same_text_equal}
-use Rattle.fault_rules.specs.Keyed.{with_texts}
+use Rattle.fault_rules.specs.KeyedLists.{with_texts}
 use Rattle.fault_cause_laws.specs.CausesText.{WrittenCause}
 use Rattle.fault_cause_laws.specs.CauseRules.{CauseRule, hit_names, names_of_cause, own_names, same_path, is_path_among}
-use Rattle.fault_cause_laws.specs.Staged.{hit_name, own_name, none_name, self_name}
-use Rattle.fault_causes_reader.specs.Read.{IsNumberOf}
-use Rattle.fault_causes_reader.specs.Broken.{is_any_among, broken_by, told_at, first_broken}
+use Rattle.fault_cause_laws.specs.StagedModel.{hit_name, own_name, none_name, self_name}
+use Rattle.fault_causes_reader.specs.CausesFile.{IsNumberOf}
+use Rattle.fault_causes_reader.specs.BrokenRules.{is_any_among, broken_by, told_at, first_broken}
 use Rattle.std.proofs.lemmas.Bool.{and_parts as both, or_parts as neither}
 use Rattle.fault_rules.proofs.KeyedLaws.{map_push as map_end, texts_more}
 use Rattle.smv_flat_laws.proofs.BothLaws.{both_push}

@@ -1,5 +1,5 @@
-pub mod CausesRead
-pub mod ReadView
+pub mod CauseStages
+pub mod StageView
 pub mod FaultPaths
-pub mod Broken
-pub mod Read
+pub mod BrokenRules
+pub mod CausesFile

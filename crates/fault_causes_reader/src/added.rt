@@ -1,17 +1,16 @@
 //! The names that causes add, and whether they are taken.
 //!
 //! [`cause_names`] are the names that one cause adds, and [`own_names`] those that are added for a fault after all causes.
-
 ghost use Rattle.std.specs.Prelude.{◌≡◌, IfOk, OnOk};
 ghost use Rattle.std.specs.List.{list_any};
 ghost use Rattle.smv_language.specs.Texts.{is_among};
-ghost use Rattle.fault_rules.specs.Keyed.{with_texts};
+ghost use Rattle.fault_rules.specs.KeyedLists.{with_texts};
 ghost use Rattle.fault_cause_laws.specs.CauseRules.{names_of_cause, own_names as names_of_own};
-ghost use Rattle.fault_causes_reader.specs.ReadView.{written_tree};
+ghost use Rattle.fault_causes_reader.specs.StageView.{written_tree};
 
 use crate::written::Written;
 use base_values::{NameList, OutOfMemory};
-use fault_rules::Texts;
+use fault_rules::TextSet;
 use fault_staging::names::{joined, numbered};
 use std::alloc::Global;
 
@@ -43,14 +42,14 @@ pub(crate) fn own_names(alloc: Global, number: usize) -> Result<NameList, OutOfM
 }
 
 /// Whether some name is among the texts.
-pub(crate) fn is_any_taken(taken: &Texts, names: &NameList) -> bool
+pub(crate) fn is_any_taken(taken: &TextSet, names: &NameList) -> bool
     ensures { result ≡ list_any (λ x. is_among taken.now x) names.now }
 {
     names.as_slice().iter().any(|name| taken.has(name.text()))
 }
 
 /// Adds names to the texts.
-pub(crate) fn add_names(taken: &mut Texts, names: &NameList) -> Result<(), OutOfMemory>
+pub(crate) fn add_names(taken: &mut TextSet, names: &NameList) -> Result<(), OutOfMemory>
     ensures { OnOk result (taken.new ≡ with_texts taken.old names.now) }
 {
     let names = names.as_slice();

@@ -1,7 +1,6 @@
 //! Why bytes are no causes of an extension.
 //!
 //! [`CauseRule`] has the rules in the order in which they are tried at a cause, and [`CauseFault`] what is told of the first broken one.
-
 ghost use Rattle.std.specs.Prelude.{◌≡◌};
 ghost use Rattle.fault_causes_reader.specs.declared.fault.CauseFault.TheVariants as fault;
 

@@ -2,7 +2,6 @@
 //!
 //! A path is compared part by part, by the texts of its parts. [`is_fault_name`], [`has_double`] and [`names_no_fault`] are what the
 //! rules of causes ask.
-
 ghost use Rattle.std.specs.Prelude.{◌≡◌, not};
 ghost use Rattle.std.specs.List.{list_any};
 ghost use Rattle.smv_language.specs.Texts.{same_text};

@@ -1,7 +1,6 @@
 //! The call: tokens, then the causes that they spell, then the rules.
 //!
 //! The main function is [`read_causes`].
-
 ghost use Rattle.std.specs.Prelude.{◌≡◌, ◌<◌, ◌^◌, List, [], length, map, IfOk, IfErr};
 ghost use Rattle.smv_lexer.specs.declared.token.Token.{Token};
 ghost use Rattle.smv_lexer.specs.Tokens.{HasTokens};
@@ -10,19 +9,19 @@ ghost use Rattle.smv_language.specs.ProgramTree.{program_tree};
 ghost use Rattle.smv_expression_reader.specs.Stops.{FaultMeans};
 ghost use Rattle.fault_cause_laws.specs.CausesText.{WrittenCause, BytesSpellCauses};
 ghost use Rattle.fault_staging.specs.CauseOf.{cause_of};
-ghost use Rattle.fault_causes_reader.specs.CausesRead.{IsCauses};
-ghost use Rattle.fault_causes_reader.specs.ReadView.{stage_of, is_start, reading_at, written_trees, ReadsTo};
-ghost use Rattle.fault_causes_reader.specs.Read.{IsReading, IsRefusal};
+ghost use Rattle.fault_causes_reader.specs.CauseStages.{IsCauses};
+ghost use Rattle.fault_causes_reader.specs.StageView.{stage_of, is_start, reading_at, written_trees, ReadsTo};
+ghost use Rattle.fault_causes_reader.specs.CausesFile.{IsReading, IsRefusal};
 
 use crate::fault::CauseFault;
 use crate::rules::lawful;
-use crate::step::{State, step};
+use crate::step::{CauseState, step};
 use crate::written::WrittenList;
 use base_values::OutOfMemory;
 use fault_staging::CauseList;
 use smv_expression_reader::ParseFault;
 use smv_expression_reader::reader::{split, stop_at};
-use smv_expression_reader::reading::Reading;
+use smv_expression_reader::reading::ReadExtent;
 use smv_expression_reader::token::{TokenText, token_texts};
 use smv_language::Program;
 use smv_language::model::FaultList;
@@ -34,27 +33,27 @@ fn read_through(
     alloc: Global,
     tokens: &[TokenText],
     causes: &mut WrittenList,
-) -> Result<Reading, OutOfMemory>
+) -> Result<ReadExtent, OutOfMemory>
     requires { causes.old ≡ [] }
     ensures { IfOk result (ReadsTo tokens.now (written_trees causes.new)) }
 {
-    let mut state = State::Start;
+    let mut state = CauseState::Start;
     for (i, token) in tokens.iter().enumerate() {
         match step(alloc, state, causes, token)? {
             Some(next) => state = next,
-            None => return Ok(Reading::Stopped(i)),
+            None => return Ok(ReadExtent::Stopped(i)),
         }
     }
     Ok(ending(state))
 }
 
 /// How reading ends where the tokens do.
-fn ending(state: State) -> Reading
+fn ending(state: CauseState) -> ReadExtent
     ensures { result ≡ reading_at (is_start (stage_of state)) }
 {
     match state {
-        State::Start => Reading::Whole,
-        _ => Reading::Unfinished,
+        CauseState::Start => ReadExtent::Whole,
+        _ => ReadExtent::Unfinished,
     }
 }
 
@@ -75,9 +74,9 @@ fn written_of(
 {
     let mut causes = WrittenList::new(alloc);
     match read_through(alloc, texts, &mut causes)? {
-        Reading::Whole => Ok(causes),
-        Reading::Unfinished => Err(ParseFault::End(bytes.len() as u32)),
-        Reading::Stopped(i) => Err(stop_at(tokens, texts, i)),
+        ReadExtent::Whole => Ok(causes),
+        ReadExtent::Unfinished => Err(ParseFault::End(bytes.len() as u32)),
+        ReadExtent::Stopped(i) => Err(stop_at(tokens, texts, i)),
     }
 }
 

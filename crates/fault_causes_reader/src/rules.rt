@@ -2,19 +2,19 @@
 //!
 //! The main function is [`lawful`]: it judges the causes in the order of their file, and then gives each the faults that it strikes by
 //! their numbers.
-
 ghost use Rattle.std.specs.Prelude.{◌≡◌, ◌^◌, ◌<◌, None, [], true, false, length, map, flat_map, option_map, IfOk, IfErr, IsOk, OnOk};
 ghost use Rattle.std.specs.List.{list_any};
 ghost use Rattle.smv_language.specs.Texts.{same_text};
 ghost use Rattle.smv_language.specs.ProgramTree.{program_tree};
-ghost use Rattle.fault_rules.specs.Keyed.{with_texts};
+ghost use Rattle.fault_rules.specs.KeyedLists.{with_texts};
 ghost use Rattle.fault_cause_laws.specs.CauseRules.{names_of_cause, is_path_among};
 ghost use Rattle.fault_staging.specs.CauseOf.{cause_of};
 ghost use Rattle.fault_causes_reader.specs.FaultPaths.{paths_of};
 ghost use Rattle.fault_causes_reader.specs.declared.written.Written.{Written};
-ghost use Rattle.fault_causes_reader.specs.ReadView.{written_tree, written_trees};
-ghost use Rattle.fault_causes_reader.specs.Broken.{rule_of, bound_broken, broken_by, first_broken, are_owns_among, owns_told, Tells, TellsFirst, taken_in};
-ghost use Rattle.fault_causes_reader.specs.Read.{IsNumberOf, IsReadIn};
+ghost use Rattle.fault_causes_reader.specs.StageView.{written_tree, written_trees};
+ghost use Rattle.fault_causes_reader.specs.BrokenRules.{rule_of, bound_broken, broken_by, first_broken, are_owns_among, owns_told, Tells};
+ghost use Rattle.fault_causes_reader.specs.BrokenRules.{TellsFirst, taken_in};
+ghost use Rattle.fault_causes_reader.specs.CausesFile.{IsNumberOf, IsReadIn};
 ghost use Rattle.smv_language.specs.Trace.{EachBoth};
 
 use crate::added::{add_names, cause_names, is_any_taken, own_names};
@@ -22,7 +22,7 @@ use crate::fault::{CauseFault, CauseRule};
 use crate::paths::{has_double, has_text, is_same_path, names_no_fault};
 use crate::written::{Written, WrittenList};
 use base_values::{FaultSet, Name, NameList, OutOfMemory};
-use fault_rules::{Texts, program_names};
+use fault_rules::{TextSet, program_names};
 use fault_staging::{Cause, CauseList};
 use smv_language::Program;
 use smv_language::model::{Fault, FaultList};
@@ -42,11 +42,14 @@ pub(crate) fn lawful(
     written: &WrittenList,
 ) -> Result<CauseList, CauseFault>
     ensures kept { OnOk result (first_broken (paths_of faults.now) (taken_in (program_tree w.now)) [] (written_trees written.now) ≡ None) }
-    ensures free { OnOk result (are_owns_among (with_texts (taken_in (program_tree w.now)) (flat_map names_of_cause (written_trees written.now)))
+    ensures free { OnOk result
+        (are_owns_among (with_texts (taken_in (program_tree w.now)) (flat_map names_of_cause (written_trees written.now)))
         (length faults.now) ≡ false) }
     ensures read { IfOk result (λ causes. EachBoth (IsReadIn (paths_of faults.now)) (written_trees written.now) (map cause_of causes)) }
-    ensures told { IfErr result (λ fault. TellsFirst fault (first_broken (paths_of faults.now) (taken_in (program_tree w.now)) [] (written_trees written.now))
-        (are_owns_among (with_texts (taken_in (program_tree w.now)) (flat_map names_of_cause (written_trees written.now))) (length faults.now))) }
+    ensures told { IfErr result
+        (λ fault. TellsFirst fault (first_broken (paths_of faults.now) (taken_in (program_tree w.now)) [] (written_trees written.now))
+        (are_owns_among (with_texts (taken_in (program_tree w.now)) (flat_map names_of_cause (written_trees written.now)))
+        (length faults.now))) }
 {
     let mut names = program_names(alloc, w)?;
     judge_causes(alloc, faults.as_slice(), written.as_slice(), &mut names)?;
@@ -59,7 +62,7 @@ fn judge_causes(
     alloc: Global,
     faults: &[Fault],
     written: &[Written],
-    names: &mut Texts,
+    names: &mut TextSet,
 ) -> Result<(), CauseFault>
     ensures kept { OnOk result (first_broken (paths_of faults.now) names.old [] (written_trees written.now) ≡ None) }
     ensures names { OnOk result (names.new ≡ with_texts names.old (flat_map names_of_cause (written_trees written.now))) }
@@ -91,7 +94,7 @@ fn broken(
     alloc: Global,
     faults: &[Fault],
     before: &[Written],
-    names: &Texts,
+    names: &TextSet,
     cause: &Written,
 ) -> Result<Option<CauseRule>, OutOfMemory>
     ensures { IfOk result (λ o. option_map rule_of o
@@ -113,7 +116,7 @@ fn broken_bound(
     alloc: Global,
     faults: usize,
     before: usize,
-    names: &Texts,
+    names: &TextSet,
     cause: &Written,
 ) -> Result<Option<CauseRule>, OutOfMemory>
     ensures { IfOk result (λ o. option_map rule_of o ≡ bound_broken faults names.now before (written_tree cause.now)) }
@@ -146,7 +149,7 @@ fn has_name(causes: &[Written], name: &Name) -> bool
 }
 
 /// Refuses names that are added after all causes, for so many faults, where one is taken.
-fn judge_owns(alloc: Global, faults: usize, taken: &Texts) -> Result<(), CauseFault>
+fn judge_owns(alloc: Global, faults: usize, taken: &TextSet) -> Result<(), CauseFault>
     ensures free { OnOk result (are_owns_among taken.now faults ≡ false) }
     ensures told { IfErr result (λ fault. Tells fault (owns_told (are_owns_among taken.now faults))) }
 {

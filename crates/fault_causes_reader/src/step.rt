@@ -1,12 +1,12 @@
 //! What is read of a cause so far, and what one more token makes of it.
 //!
-//! The main function is [`step`]; [`State`] has a case for each place in the line of a cause.
-
+//! The main function is [`step`]; [`CauseState`] has a case for each place in the line of a cause.
 ghost use Rattle.std.specs.Prelude.{◌≡◌, [], codes, option_map, IfOk};
 ghost use Rattle.smv_expression_reader.specs.Marks.{mark_of};
 ghost use Rattle.smv_expression_reader.specs.Places.{is_word};
-ghost use Rattle.fault_causes_reader.specs.CausesRead.{part, stepped, stage_where, name_stage, first_stage, is_dots as is_dots_mark, last_stage, part_stage, after_read, cause_read};
-ghost use Rattle.fault_causes_reader.specs.ReadView.{stage_of, read_view, written_tree, written_trees};
+ghost use Rattle.fault_causes_reader.specs.CauseStages.{part, stepped, stage_where, name_stage, first_stage, is_dots as is_dots_mark};
+ghost use Rattle.fault_causes_reader.specs.CauseStages.{last_stage, part_stage, after_read, cause_read};
+ghost use Rattle.fault_causes_reader.specs.StageView.{stage_of, read_view, written_tree, written_trees};
 
 use crate::written::{PathList, Written, WrittenList};
 use base_values::{Name, NameList, OutOfMemory};
@@ -24,7 +24,7 @@ pub(crate) struct Head {
 
 /// What is read of a cause so far, with what comes next.
 #[derive(Drop)]
-pub(crate) enum State {
+pub(crate) enum CauseState {
     /// A cause, or the end.
     Start,
     /// After `CAUSE`.
@@ -44,29 +44,29 @@ pub(crate) enum State {
 /// to those before it.
 pub(crate) fn step(
     alloc: Global,
-    state: State,
+    state: CauseState,
     causes: &mut WrittenList,
     token: &TokenText,
-) -> Result<Option<State>, OutOfMemory>
+) -> Result<Option<CauseState>, OutOfMemory>
     ensures { IfOk result (λ next. read_view next causes.new ≡ stepped (stage_of state) (written_trees causes.old) token.now) }
 {
     match state {
-        State::Start => Ok(where_so(token.is_word(b"CAUSE"), State::Named)),
-        State::Named => name_step(alloc, token),
-        State::Within(name) => Ok(where_so(token.is_word(b"WITHIN"), State::From(name))),
-        State::From(name) => Ok(from_step(name, token)),
-        State::Dots(name, from) => Ok(where_so(is_dots(token), State::To(name, from))),
-        State::To(name, from) => Ok(to_step(name, from, token)),
-        State::Strikes(head) => strikes_step(alloc, head, token),
-        State::Part(head, strikes, parts) => part_step(alloc, head, strikes, parts, token),
-        State::After(head, strikes, parts) => {
+        CauseState::Start => Ok(where_so(token.is_word(b"CAUSE"), CauseState::Named)),
+        CauseState::Named => name_step(alloc, token),
+        CauseState::Within(name) => Ok(where_so(token.is_word(b"WITHIN"), CauseState::From(name))),
+        CauseState::From(name) => Ok(from_step(name, token)),
+        CauseState::Dots(name, from) => Ok(where_so(is_dots(token), CauseState::To(name, from))),
+        CauseState::To(name, from) => Ok(to_step(name, from, token)),
+        CauseState::Strikes(head) => strikes_step(alloc, head, token),
+        CauseState::Part(head, strikes, parts) => part_step(alloc, head, strikes, parts, token),
+        CauseState::After(head, strikes, parts) => {
             after_step(alloc, head, strikes, parts, causes, token)
         }
     }
 }
 
 /// This state, where the token leads to it.
-fn where_so(fits: bool, to: State) -> Option<State>
+fn where_so(fits: bool, to: CauseState) -> Option<CauseState>
     ensures { option_map stage_of result ≡ stage_where fits (stage_of to) }
 {
     if fits { Some(to) } else { None }
@@ -83,31 +83,31 @@ fn is_dots(token: &TokenText) -> bool
 }
 
 /// After the token where a cause's name comes.
-fn name_step(alloc: Global, token: &TokenText) -> Result<Option<State>, OutOfMemory>
+fn name_step(alloc: Global, token: &TokenText) -> Result<Option<CauseState>, OutOfMemory>
     ensures { IfOk result (λ next. option_map stage_of next ≡ name_stage (mark_of token.now) token.now) }
 {
     match token.mark() {
-        Mark::Name => Ok(Some(State::Within(token.name(alloc)?))),
+        Mark::Name => Ok(Some(CauseState::Within(token.name(alloc)?))),
         _ => Ok(None),
     }
 }
 
 /// After the token where the window's first number comes.
-fn from_step(name: Name, token: &TokenText) -> Option<State>
+fn from_step(name: Name, token: &TokenText) -> Option<CauseState>
     ensures { option_map stage_of result ≡ first_stage (mark_of token.now) name token.now }
 {
     match token.mark() {
-        Mark::Number => Some(State::Dots(name, token.digits().value)),
+        Mark::Number => Some(CauseState::Dots(name, token.digits().value)),
         _ => None,
     }
 }
 
 /// After the token where the window's last number comes.
-fn to_step(name: Name, from: u64, token: &TokenText) -> Option<State>
+fn to_step(name: Name, from: u64, token: &TokenText) -> Option<CauseState>
     ensures { option_map stage_of result ≡ last_stage (mark_of token.now) name from token.now }
 {
     match token.mark() {
-        Mark::Number => Some(State::Strikes(Head {
+        Mark::Number => Some(CauseState::Strikes(Head {
             name,
             from,
             to: token.digits().value,
@@ -117,11 +117,15 @@ fn to_step(name: Name, from: u64, token: &TokenText) -> Option<State>
 }
 
 /// After the token where `STRIKES` comes.
-fn strikes_step(alloc: Global, head: Head, token: &TokenText) -> Result<Option<State>, OutOfMemory>
+fn strikes_step(
+    alloc: Global,
+    head: Head,
+    token: &TokenText,
+) -> Result<Option<CauseState>, OutOfMemory>
     ensures { IfOk result (λ next. option_map stage_of next
         ≡ stage_where (is_word token.now (codes "STRIKES")) (part head.name head.from head.to [] [])) }
 {
-    let to = State::Part(head, PathList::new(alloc), NameList::new(alloc));
+    let to = CauseState::Part(head, PathList::new(alloc), NameList::new(alloc));
     Ok(where_so(token.is_word(b"STRIKES"), to))
 }
 
@@ -132,13 +136,14 @@ fn part_step(
     strikes: PathList,
     mut parts: NameList,
     token: &TokenText,
-) -> Result<Option<State>, OutOfMemory>
-    ensures { IfOk result (λ next. option_map stage_of next ≡ part_stage (mark_of token.now) head.name head.from head.to strikes parts token.now) }
+) -> Result<Option<CauseState>, OutOfMemory>
+    ensures { IfOk result (λ next. option_map stage_of next
+        ≡ part_stage (mark_of token.now) head.name head.from head.to strikes parts token.now) }
 {
     match token.mark() {
         Mark::Name => {
             parts.push(token.name(alloc)?)?;
-            Ok(Some(State::After(head, strikes, parts)))
+            Ok(Some(CauseState::After(head, strikes, parts)))
         }
         _ => Ok(None),
     }
@@ -152,20 +157,20 @@ fn after_step(
     parts: NameList,
     causes: &mut WrittenList,
     token: &TokenText,
-) -> Result<Option<State>, OutOfMemory>
+) -> Result<Option<CauseState>, OutOfMemory>
     ensures { IfOk result (λ next. read_view next causes.new
         ≡ after_read (mark_of token.now) head.name head.from head.to strikes parts (written_trees causes.old)) }
 {
     match token.mark() {
-        Mark::Dot => Ok(Some(State::Part(head, strikes, parts))),
+        Mark::Dot => Ok(Some(CauseState::Part(head, strikes, parts))),
         Mark::Comma => {
             strikes.push(parts)?;
-            Ok(Some(State::Part(head, strikes, NameList::new(alloc))))
+            Ok(Some(CauseState::Part(head, strikes, NameList::new(alloc))))
         }
         Mark::Semicolon => {
             strikes.push(parts)?;
             causes.push(written(head, strikes))?;
-            Ok(Some(State::Start))
+            Ok(Some(CauseState::Start))
         }
         _ => Ok(None),
     }

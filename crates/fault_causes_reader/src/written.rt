@@ -1,5 +1,4 @@
 //! Causes as they are written: [`Written`] has the names of the faults that a cause strikes, which may be names of no fault.
-
 use base_values::{Items, Name, NameList};
 
 /// The names of faults, each with the parts that dots join.

@@ -12,16 +12,16 @@ use Rattle.smv_language.specs.Flat.{FlatInstance, FlatModel}
 use Rattle.smv_language.specs.declared.model.Instance.{Instance}
 use Rattle.smv_language.specs.ModelTree.{instance_tree}
 use Rattle.fault_rules.specs.declared.placed.Placed.{Placed}
-use Rattle.fault_rules.specs.Placing.{PlacedSlice, seen_placed}
+use Rattle.fault_rules.specs.PlacedSlices.{PlacedSlice, seen_placed}
 use Rattle.fault_extend_laws.specs.SliceUses.{modes_from, uses_of_slice, uses_of_slices}
 use Rattle.smv_flat_laws.proofs.Conditions.{each_join}
 use Rattle.fault_extend_laws.specs.Uses.{Use}
 use Rattle.fault_extend_laws.specs.Expressions.{KeepsUse, UseRule, IsBrokenAt, IsFirstAmong}
-use Rattle.fault_extend.specs.declared.fault.Cause.{Cause}
-use Rattle.fault_extend.specs.declared.fault.Cause.TheVariants.{Weave, Flat, Kinds}
+use Rattle.fault_extend.specs.declared.fault.WeaveCause.{WeaveCause}
+use Rattle.fault_extend.specs.declared.fault.WeaveCause.TheVariants.{Weave, Flat, Kinds}
 use Rattle.fault_extend.specs.declared.fault.WeaveFault.{WeaveFault}
-use Rattle.fault_extend.specs.Guarded.{use_at}
-use Rattle.fault_extend.specs.Refused.{IsWantOr, IsFirstFault}
+use Rattle.fault_extend.specs.GuardJudgement.{use_at}
+use Rattle.fault_extend.specs.FirstRefusal.{IsWantOr, IsFirstFault}
 use Rattle.std.proofs.lemmas.Bool.{false_from_ne_true as not_true}
 use Rattle.smv_language.proofs.ListLaws.{drop_here}
 
@@ -31,7 +31,7 @@ pub record Decides (p : ProgramTree) (m : FlatModel) (left all : List Use) : Typ
   pub first : (r : UseRule) (n : ℕ) → IsFirstAmong p m left r n → IsFirstAmong p m all r n
 
 -- a rule of which one thing holds is one of which another does
-pub want_or : (cause : Cause) (P Q : UseRule → Type 0) → ((r : UseRule) → P r → Q r) → IsWantOr cause P → IsWantOr cause Q
+pub want_or : (cause : WeaveCause) (P Q : UseRule → Type 0) → ((r : UseRule) → P r → Q r) → IsWantOr cause P → IsWantOr cause Q
 want_or (Weave rule) P Q f h = h
 want_or (Flat fault) P Q f h = record { rule = h.rule; is_cause = h.is_cause; holds = f h.rule h.holds }
 want_or (Kinds fault) P Q f h = record { rule = h.rule; is_cause = h.is_cause; holds = f h.rule h.holds }
@@ -86,7 +86,7 @@ module _ (p : ProgramTree) (m : FlatModel) where
     pub mode_next : KeepsUse p m (use_at at type (mode_tree x) new) → Decides p m (modes_from at type (new + 1) (map mode_tree (drop (i + 1) xs))) all
     mode_next kept = decides_next (use_at at type (mode_tree x) new ∷ []) (modes_from at type (new + 1) (map mode_tree (drop (i + 1) xs))) all modes_split (kept, tt)
 
-    pub mode_first : (cause : Cause) → IsWantOr cause (IsBrokenAt p m (use_at at type (mode_tree x) new)) → IsFirstFault p m all (record { cause = cause; item = new })
+    pub mode_first : (cause : WeaveCause) → IsWantOr cause (IsBrokenAt p m (use_at at type (mode_tree x) new)) → IsFirstFault p m all (record { cause = cause; item = new })
     mode_first cause h =
         want_or cause (IsBrokenAt p m (use_at at type (mode_tree x) new)) (λ r. IsFirstAmong p m all r new)
         (λ r b. decides_first (use_at at type (mode_tree x) new ∷ []) (modes_from at type (new + 1) (map mode_tree (drop (i + 1) xs))) all modes_split r new (one_first (use_at at type (mode_tree x) new) r b)) h

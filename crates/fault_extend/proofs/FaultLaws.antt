@@ -10,7 +10,7 @@ use Rattle.fault_weave.specs.Faults.{Fault, slice_faults, module_slices, slices_
 use Rattle.fault_extend.specs.WovenFaults.{faults_at, IsOfModule, places_of, AreInstancesOf}
 use Rattle.fault_instructions.specs.declared.instructions.Extension.{Extension}
 use Rattle.fault_instructions.specs.Instructions.{SliceTree, InstructionTree, extension_tree, slices_from, slices_of}
-use Rattle.fault_weave.specs.Woven.{own_slices}
+use Rattle.fault_weave.specs.WovenProgram.{own_slices}
 use Rattle.fault_weave.proofs.SliceLaws.{own_first}
 use Rattle.smv_language.specs.ModelTree.{place_of}
 

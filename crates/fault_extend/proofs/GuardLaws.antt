@@ -10,7 +10,7 @@ use Rattle.fault_instructions.specs.Instructions.{EffectTree, follows, stuck_at,
 use Rattle.smv_language.specs.Flat.{FlatLeaf, FlatInstance, FlatModel}
 use Rattle.smv_flat_laws.specs.Items.{instances_of}
 use Rattle.smv_flat_laws.specs.Looks.{ActualsMean}
-use Rattle.smv_flat_laws.specs.Resolved.{has_next}
+use Rattle.smv_flat_laws.specs.NameResolution.{has_next}
 use Rattle.smv_flat_laws.specs.Rules.{Rule, next_here, IsWalkable, IsAccepted}
 use Rattle.smv_flat_laws.specs.Model.{IsFlatOf}
 use Rattle.smv_flat_laws.proofs.Reaches.{each_left, each_right}
@@ -19,18 +19,18 @@ use Rattle.smv_flat_laws.proofs.Conditions.{each_at, each_flat}
 use Rattle.smv_flat_laws.proofs.Sections.{AreInstances}
 use Rattle.smv_flat_laws.proofs.Places.{are_instances}
 use Rattle.smv_flat_laws.proofs.Walkable.{accepted_walkable, main_is_there}
-use Rattle.smv_type_laws.specs.Judged.{KindRule}
+use Rattle.smv_type_laws.specs.ExpressionKinds.{KindRule}
 use Rattle.smv_type_laws.specs.Models.{least, judged_in, IsTyped}
 use Rattle.smv_type_laws.proofs.Least.{least_none}
 use Rattle.smv_type_laws.proofs.Parts.{none_first, none_second}
 use Rattle.fault_instructions.specs.Weavable.{Among, IsWeavable}
 use Rattle.fault_weave.specs.Conservative.{IsExtensionOf}
-use Rattle.fault_weave.specs.Woven.{woven}
+use Rattle.fault_weave.specs.WovenProgram.{woven}
 use Rattle.fault_weave.proofs.WovenNominal.{woven_extends}
 use Rattle.fault_rules.specs.Sites.{OwnedSlice, owned, item_sites}
 use Rattle.fault_rules.specs.Faults.{file_slices}
-use Rattle.fault_rules.specs.Placing.{PlacedSlice, placed_from}
-use Rattle.fault_rules.specs.Judged.{IsJudged}
+use Rattle.fault_rules.specs.PlacedSlices.{PlacedSlice, placed_from}
+use Rattle.fault_rules.specs.Prerequisites.{IsJudged}
 use Rattle.fault_extend_laws.specs.Uses.{Use, uses_at}
 use Rattle.fault_extend_laws.specs.SliceUses.{modes_from, uses_of_slice}
 use Rattle.fault_extend_laws.specs.Expressions.{followed, SomeBreaks, IsForm, broken_by, class_of_followed, class_of_guard, or_else, KeepsUse, AllUsesKept}

@@ -12,7 +12,7 @@ use Rattle.fault_instructions.specs.Types.{IsUniform, IsNumberMember, IsSymbolMe
 use Rattle.fault_instructions.specs.Weavable.{NoNext, NoNextInTrees, NoNextInBranches, HasMeaning, IsReadable, IsLawfulGuard}
 use Rattle.smv_language.specs.Flat.{FlatLeaf, FlatVariable, FlatModel}
 use Rattle.smv_flat_laws.specs.Items.{Visit, visits, variables_of}
-use Rattle.smv_flat_laws.specs.Resolved.{Definition, Resolver, IsSound, IsResolved, leaves_in, has_next, trees_have_next, branches_have_next}
+use Rattle.smv_flat_laws.specs.NameResolution.{Definition, Resolver, IsSound, IsResolved, leaves_in, has_next, trees_have_next, branches_have_next}
 use Rattle.smv_flat_laws.specs.Rules.{IsAccepted}
 use Rattle.smv_flat_laws.specs.Model.{IsVariableOf, IsFlatOf}
 use Rattle.smv_flat_laws.proofs.Conditions.{each_at}
@@ -21,13 +21,13 @@ use Rattle.smv_flat_laws.proofs.Resolving.{Known, names_known, each_leaf}
 use Rattle.smv_flat_laws.proofs.Places.{has_main}
 use Rattle.smv_flat_laws.proofs.Walkable.{accepted_walkable, main_is_there}
 use Rattle.smv_flat_laws.proofs.Variables.{variables_are}
-use Rattle.smv_type_laws.specs.Judged.{Class, number_class, symbol_class, mixed_enum, unless_class, first_class}
-use Rattle.smv_type_laws.specs.Declared.{member_kind, judged_declared}
+use Rattle.smv_type_laws.specs.ExpressionKinds.{Class, number_class, symbol_class, mixed_enum, unless_class, first_class}
+use Rattle.smv_type_laws.specs.DeclaredKinds.{member_kind, judged_declared}
 use Rattle.smv_type_laws.specs.Models.{variable_breaches, IsTyped}
 use Rattle.smv_type_laws.proofs.Parts.{none_first, none_second, class_kept}
 use Rattle.smv_type_laws.proofs.ClosedLaws.{all_leaves}
 use Rattle.smv_type_laws.proofs.WrittenLaws.{written_conditions_decided, IsReal, real_all}
-use Rattle.fault_rules.specs.Judged.{IsReadableEffect, IsJudgedMode}
+use Rattle.fault_rules.specs.Prerequisites.{IsReadableEffect, IsJudgedMode}
 use Rattle.fault_extend.specs.JudgedLaws.{IsGoodMode, IsGoodEffect, IsGoodGuard, GoodModesAreJudged, TypesAreUniform, GoodIsJudged}
 use Rattle.smv_type_laws.proofs.TraceLaws.{one_type}
 use Rattle.smv_type_laws.proofs.SetRows.{or_false_second as or_right, or_false_first as or_left}

@@ -11,7 +11,7 @@ use Rattle.fault_instructions.specs.Weavable.{NoNext, HasMeaning, IsReadable, Is
 use Rattle.smv_language.specs.Flat.{FlatLeaf, FlatFormula, FlatModel}
 use Rattle.smv_flat_laws.specs.Looks.{ActualsMean}
 use Rattle.smv_flat_laws.specs.Items.{Item, a_declaration, a_definition, an_assignment, some_constants, an_init, an_invar, a_trans, items_of_section, items_of}
-use Rattle.smv_flat_laws.specs.Resolved.{Definition, IsResolved, leaves_in}
+use Rattle.smv_flat_laws.specs.NameResolution.{Definition, IsResolved, leaves_in}
 use Rattle.smv_flat_laws.specs.Rules.{names_of_item, is_name_again, not_a_target, may_be_assigned, is_target, BreaksTarget, expression_of, expression_in, expression_of_kind, IsAccepted}
 use Rattle.smv_flat_laws.specs.Model.{Condition, plain, now_among, next_among, kept, Written, conditions, first_conditions, each_conditions, step_conditions, kept_conditions, IsConditionTree, IsFormulaOf, Root, roots_of_type, roots_of, IsDefinitionOf, IsFlatOf}
 use Rattle.smv_flat_laws.proofs.Conditions.{each_from}

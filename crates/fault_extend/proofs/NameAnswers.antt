@@ -4,7 +4,7 @@ use Rattle.std.specs.Prelude.{IfSome, MatchOption, nat_lt, if◌then◌else◌, 
 use Rattle.std.specs.Option.{option_map}
 use Rattle.std.proofs.lemmas.Bool.{ltb-true, ltb-false}
 use Rattle.smv_language.specs.ProgramTree.{Path, Formula, ProgramTree}
-use Rattle.smv_language.specs.Written.{tree_of}
+use Rattle.smv_language.specs.ExpressionTree.{tree_of}
 use Rattle.smv_language.specs.declared.expr.Expr.{Expr}
 use Rattle.fault_instructions.specs.Instructions.{guard_tree}
 use Rattle.smv_language.specs.Scope.{Place}
@@ -17,20 +17,20 @@ use Rattle.smv_flat.specs.ResolvedAt.{IsValueFault}
 use Rattle.smv_language.specs.declared.model.Flat.{Flat}
 use Rattle.smv_language.specs.ModelTree.{flat_tree}
 use Rattle.smv_flat.proofs.FlatFaults.{no_rule}
-use Rattle.fault_rules.specs.declared.fault.Rule.TheVariants.{OutOfMemory}
+use Rattle.fault_rules.specs.declared.fault.InstructionRule.TheVariants.{OutOfMemory}
 use Rattle.fault_extend_laws.specs.Uses.{Use}
 use Rattle.fault_extend_laws.specs.Expressions.{followed, BreaksNames, IsLeastOfNames, KeepsNames, IsForm, of_names, IsBrokenAt, by_names}
-use Rattle.fault_extend.specs.declared.fault.Cause.{Cause}
-use Rattle.fault_extend.specs.declared.fault.Cause.TheVariants as causes
-use Rattle.fault_extend.specs.Guarded.{IsLeastOfSome, IsSomeKept, IsSomeFault, told_number, lower_fault, both_forms}
-use Rattle.fault_extend.specs.Refused.{IsWantOr}
+use Rattle.fault_extend.specs.declared.fault.WeaveCause.{WeaveCause}
+use Rattle.fault_extend.specs.declared.fault.WeaveCause.TheVariants as causes
+use Rattle.fault_extend.specs.GuardJudgement.{IsLeastOfSome, IsSomeKept, IsSomeFault, told_number, lower_fault, both_forms}
+use Rattle.fault_extend.specs.FirstRefusal.{IsWantOr}
 
 -- how a fault of names is told
-abbrev pub IsFlatCause : FlatFault → Cause → Type 0
+abbrev pub IsFlatCause : FlatFault → WeaveCause → Type 0
 IsFlatCause f cause = MatchOption (rule_of f.rule) (cause ≡ causes.Weave OutOfMemory) (λ r. cause ≡ causes.Flat f)
 
 -- of an accepted program there is want of memory alone
-pub want_told : (p : ProgramTree) (f : FlatFault) (cause : Cause) → IsAccepted p → IsFaultOf p f → IsFlatCause f cause → cause ≡ causes.Weave OutOfMemory
+pub want_told : (p : ProgramTree) (f : FlatFault) (cause : WeaveCause) → IsAccepted p → IsFaultOf p f → IsFlatCause f cause → cause ≡ causes.Weave OutOfMemory
 want_told p f cause accepted fault h = subst (λ o. MatchOption o (cause ≡ causes.Weave OutOfMemory) (λ r. cause ≡ causes.Flat f)) (no_rule p f accepted fault) h
 
 positive : (r : Rule) → 0 < number_of r
@@ -113,7 +113,7 @@ module _ (p : ProgramTree) (u : Use) where
     both_told a c = by_rules (rule_of f.rule) (rule_of g.rule) refl refl (nat_lt (told_number (rule_of g.rule)) (told_number (rule_of f.rule))) refl a c
 
   -- and how that is told
-  pub names_cause : (m : FlatModel) (f : FlatFault) (cause : Cause) → IsFlatCause f cause → IsNamesFault f → IsWantOr cause (IsBrokenAt p m u)
+  pub names_cause : (m : FlatModel) (f : FlatFault) (cause : WeaveCause) → IsFlatCause f cause → IsNamesFault f → IsWantOr cause (IsBrokenAt p m u)
   names_cause m f cause told fault = by_rule (rule_of f.rule) refl told fault
     where
       by_rule : (o : Option Rule) → rule_of f.rule ≡ o → MatchOption o (cause ≡ causes.Weave OutOfMemory) (λ r. cause ≡ causes.Flat f) → IfSome o (λ r. (f.item ≡ 0) × IsLeastOfNames p u r) →

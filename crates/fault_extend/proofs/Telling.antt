@@ -14,13 +14,13 @@ use Rattle.smv_language.specs.ModelTree.{instance_tree}
 use Rattle.smv_types.specs.Faults.{IsOfMemory, IsToldOf}
 use Rattle.smv_types.specs.declared.fault.TypeFault.{TypeFault}
 use Rattle.fault_extend_laws.specs.Uses.{uses}
-use Rattle.fault_extend.specs.declared.fault.Cause.{Cause}
-use Rattle.fault_extend.specs.declared.fault.Cause.TheVariants.{Weave, Flat, Kinds}
+use Rattle.fault_extend.specs.declared.fault.WeaveCause.{WeaveCause}
+use Rattle.fault_extend.specs.declared.fault.WeaveCause.TheVariants.{Weave, Flat, Kinds}
 use Rattle.fault_extend.specs.declared.fault.WeaveFault.{WeaveFault}
-use Rattle.fault_extend.specs.Refused.{modules_in, modules_at, KeepsRules, IsToldBy, IsTold, IsOfExpressions, IsFromExpressions, IsWant, IsFirstFault, IsToldSomewhere}
+use Rattle.fault_extend.specs.FirstRefusal.{modules_in, modules_at, KeepsRules, IsToldBy, IsTold, IsOfExpressions, IsFromExpressions, IsWant, IsFirstFault, IsToldSomewhere}
 
 module _ (p : ProgramTree) (m : FlatModel) (i : InstructionTree) (modules : List Text) where
-  fault_told : (cause : Cause) (item : ℕ) → KeepsRules p i modules → IsOfExpressions cause → (IsAccepted p → IsFlatOf p m → IsFirstFault p m (uses p i) (record { cause = cause; item = item })) → IsToldBy p m i modules cause item
+  fault_told : (cause : WeaveCause) (item : ℕ) → KeepsRules p i modules → IsOfExpressions cause → (IsAccepted p → IsFlatOf p m → IsFirstFault p m (uses p i) (record { cause = cause; item = item })) → IsToldBy p m i modules cause item
   fault_told (Weave rule) item kept want first = λ other. absurd (other want)
   fault_told (Flat fault) item kept want first = record { kept = kept; first = first }
   fault_told (Kinds fault) item kept want first = record { kept = kept; first = first }

@@ -1,6 +1,7 @@
 -- The instances of a flat model are those of the program in depth-first order.
 use Rattle.std.specs.Prelude.{◌≡◌, List, map}
-use Rattle.smv_language.specs.ProgramTree.{DeclaredTree, boolean, range, members, instance, DeclTree, SectionTree, var, ivar, frozen, define, constants, assign, init, invar, trans, ProgramTree}
+use Rattle.smv_language.specs.ProgramTree.{DeclaredTree, boolean, range, members, instance, DeclTree, SectionTree, var, ivar, frozen}
+use Rattle.smv_language.specs.ProgramTree.{define, constants, assign, init, invar, trans, ProgramTree}
 use Rattle.smv_language.specs.Trace.{Each}
 use Rattle.smv_language.specs.declared.model.Instance.{Instance}
 use Rattle.smv_language.specs.Flat.{FlatInstance}
@@ -42,4 +43,5 @@ HasInstancesInVar p = Each (λ m. Each DeclaresInVar m.sections) p
 
 -- where a flat model has the instances that flattening gives, they are the program's, each with its module
 abbrev pub InstancesAreListed : Type 0
-InstancesAreListed = (p : ProgramTree) (instances : List Instance) → IsAccepted p → HasInstancesInVar p → map instance_tree instances ≡ instances_of p → AreInstancesOf p instances
+InstancesAreListed = (p : ProgramTree) (instances : List Instance) → IsAccepted p → HasInstancesInVar p →
+    map instance_tree instances ≡ instances_of p → AreInstancesOf p instances

@@ -4,16 +4,17 @@ use Rattle.smv_language.specs.Tree.{Tree}
 use Rattle.smv_language.specs.ProgramTree.{Text, Formula, DeclaredTree, ModuleTree, ProgramTree}
 use Rattle.smv_language.specs.Scope.{Place, Role, a_variable, kind_in}
 use Rattle.smv_language.specs.Trace.{IsInstance, Each}
-use Rattle.fault_instructions.specs.Instructions.{EffectTree, stuck_at, follows, inverted, random, erroneous, frozen, stuck_at_pick, offset, ramp_down, ModeTree, SliceTree, InstructionTree, slices_of}
+use Rattle.fault_instructions.specs.Instructions.{EffectTree, stuck_at, follows, inverted, random, erroneous, frozen, stuck_at_pick, offset}
+use Rattle.fault_instructions.specs.Instructions.{ramp_down, ModeTree, SliceTree, InstructionTree, slices_of}
 use Rattle.fault_instructions.specs.Types.{IsUniform}
 use Rattle.smv_language.specs.Flat.{FlatLeaf, FlatModel}
-use Rattle.smv_flat_laws.specs.Resolved.{Definition, Resolver, IsSound, IsResolved, has_next}
+use Rattle.smv_flat_laws.specs.NameResolution.{Definition, Resolver, IsSound, IsResolved, has_next}
 use Rattle.smv_flat_laws.specs.Rules.{IsAccepted}
 use Rattle.smv_flat_laws.specs.Model.{IsFlatOf}
 use Rattle.smv_type_laws.specs.Models.{judged_in, broken_condition, IsTyped}
 use Rattle.smv_flat_laws.specs.Looks.{ActualsMean}
 use Rattle.fault_instructions.specs.Weavable.{Among, IsLawfulInstance}
-use Rattle.fault_rules.specs.Judged.{IsJudgedMode, IsJudged}
+use Rattle.fault_rules.specs.Prerequisites.{IsJudgedMode, IsJudged}
 
 module _ (p : ProgramTree) (m : FlatModel) (written : List Definition) (at : Place) where
   -- a guard at an instance: its names mean something, it has no `next`, and its flat form breaks no rule as a condition
@@ -59,24 +60,29 @@ module _ (p : ProgramTree) (m : FlatModel) (written : List Definition) (at : Pla
 -- a mode that is good at an instance of a program that breaks no rule is judged there: a guard has exactly one truth value
 abbrev pub GoodModesAreJudged : Type 0
 GoodModesAreJudged =
-    (p : ProgramTree) (m : FlatModel) → IsAccepted p → (is : IsFlatOf p m) → IsTyped m → (at : Place) (k : ModuleTree) (mode : ModeTree) → IsGoodMode p m is.written at mode → IsJudgedMode p at k mode
+    (p : ProgramTree) (m : FlatModel) → IsAccepted p → (is : IsFlatOf p m) → IsTyped m → (at : Place) (k : ModuleTree) (mode : ModeTree) →
+    IsGoodMode p m is.written at mode → IsJudgedMode p at k mode
 
 -- members of a type of a program that breaks no rule are all numbers or all symbols
 abbrev pub TypesAreUniform : Type 0
 TypesAreUniform =
-    (p : ProgramTree) (m : FlatModel) → IsAccepted p → IsFlatOf p m → IsTyped m → (at : Place) (k : ModuleTree) (x : Text) (role : Role) (type : DeclaredTree) →
+    (p : ProgramTree) (m : FlatModel) → IsAccepted p → IsFlatOf p m → IsTyped m →
+    (at : Place) (k : ModuleTree) (x : Text) (role : Role) (type : DeclaredTree) →
     IsInstance p at k → kind_in k x ≡ a_variable role type → IsUniform type
 
 -- each instance of a program that breaks no rule of names, whose actuals mean something, is such as the weave takes
 abbrev pub InstancesAreLawful : Type 0
-InstancesAreLawful = (p : ProgramTree) (m : FlatModel) → IsAccepted p → IsFlatOf p m → ActualsMean p → (at : Place) (k : ModuleTree) → IsInstance p at k → IsLawfulInstance p at k
+InstancesAreLawful = (p : ProgramTree) (m : FlatModel) → IsAccepted p → IsFlatOf p m → ActualsMean p → (at : Place) (k : ModuleTree) →
+    IsInstance p at k → IsLawfulInstance p at k
 
 -- each mode is good at each instance of its slice's module
 abbrev pub AreGoodModes : ProgramTree → FlatModel → List Definition → InstructionTree → Type 0
-AreGoodModes p m written i = (at : Place) (k : ModuleTree) (s : SliceTree) → IsInstance p at k → Among (slices_of i k.name) s → Each (IsGoodMode p m written at) s.modes
+AreGoodModes p m written i = (at : Place) (k : ModuleTree) (s : SliceTree) → IsInstance p at k → Among (slices_of i k.name) s →
+    Each (IsGoodMode p m written at) s.modes
 
 -- Instructions whose modes are good are judged, where the names at each instance of the program mean something.
 abbrev pub GoodIsJudged : Type 0
 GoodIsJudged =
-    (p : ProgramTree) (m : FlatModel) (i : InstructionTree) → IsAccepted p → (is : IsFlatOf p m) → IsTyped m → ((at : Place) (k : ModuleTree) → IsInstance p at k → IsLawfulInstance p at k) →
+    (p : ProgramTree) (m : FlatModel) (i : InstructionTree) → IsAccepted p → (is : IsFlatOf p m) → IsTyped m →
+    ((at : Place) (k : ModuleTree) → IsInstance p at k → IsLawfulInstance p at k) →
     AreGoodModes p m is.written i → IsJudged p i

@@ -1,8 +1,8 @@
 pub mod WovenFaults
-pub mod Refused
+pub mod FirstRefusal
 pub mod JudgedLaws
 pub mod InstanceLaws
 pub mod NumberedFaults
-pub mod Guarded
+pub mod GuardJudgement
 pub mod Nominals
 pub mod ToldLaws

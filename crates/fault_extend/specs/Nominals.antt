@@ -4,7 +4,7 @@ use Rattle.std.specs.Option.{option_map, option_copied}
 use Rattle.std.specs.Borrow.{Bor}
 use Rattle.smv_language.specs.ProgramTree.{Path, Formula, declared_tree}
 use Rattle.smv_language.specs.Trace.{Each}
-use Rattle.smv_language.specs.Written.{tree_of}
+use Rattle.smv_language.specs.ExpressionTree.{tree_of}
 use Rattle.smv_language.specs.Flat.{FlatInstance}
 use Rattle.smv_language.specs.ModelTree.{flat_tree}
 use Rattle.smv_language.specs.declared.expr.Expr.{Expr}
@@ -13,13 +13,13 @@ use Rattle.fault_instructions.specs.Instructions.{mode_tree}
 use Rattle.smv_flat_laws.specs.Rules.{IsAccepted}
 use Rattle.smv_flat_laws.specs.Model.{IsFlatOf}
 use Rattle.smv_flat.specs.ResolvedAt.{IsAt}
-use Rattle.fault_rules.specs.Placing.{PlacedSlice}
+use Rattle.fault_rules.specs.PlacedSlices.{PlacedSlice}
 use Rattle.fault_rules.specs.declared.placed.Placed.{Placed}
 use Rattle.fault_extend_laws.specs.Uses.{Use}
 use Rattle.fault_extend_laws.specs.SliceUses.{modes_from, uses_of_slices}
 use Rattle.fault_extend_laws.specs.Expressions.{UseRule, IsForm, KeepsUse, IsBrokenAt}
-use Rattle.fault_extend.specs.Guarded.{program_in, model_in}
-use Rattle.fault_extend.specs.Refused.{IsFirstFault}
+use Rattle.fault_extend.specs.GuardJudgement.{program_in, model_in}
+use Rattle.fault_extend.specs.FirstRefusal.{IsFirstFault}
 use Rattle.fault_extend.specs.declared.fault.WeaveFault.{WeaveFault}
 use Rattle.fault_extend.specs.declared.guards.Nominal.{Nominal}
 

@@ -7,7 +7,7 @@ use Rattle.smv_language.specs.declared.model.FlatModel.{FlatModel}
 use Rattle.smv_language.specs.declared.model.Fault.{Fault}
 use Rattle.smv_language.specs.Trace.{Each, AtSome}
 use Rattle.fault_extend.specs.declared.faults.WovenFault.{WovenFault}
-use Rattle.fault_extend.specs.declared.list.Symbols.{Symbols}
+use Rattle.fault_extend.specs.declared.list.SymbolNumbers.{SymbolNumbers}
 
 -- a path from `main` on; `main` has none
 abbrev pub parts_of : Option Path → Path
@@ -52,9 +52,9 @@ AreNumbered m [] (f ∷ fs) = ⊥
 AreNumbered m (w ∷ ws) [] = ⊥
 
 -- each kept number is that of the symbol beside it
-abbrev pub AreSymbols : Symbols → Type 0
+abbrev pub AreSymbols : SymbolNumbers → Type 0
 AreSymbols s = Each (λ e. slice_get s.names.now e.1 ≡ Some e.0.now) s.numbers.entries
 
 -- the number of this symbol is kept
-abbrev pub KnowsSymbol : Symbols → Text → Type 0
+abbrev pub KnowsSymbol : SymbolNumbers → Text → Type 0
 KnowsSymbol s x = AtSome (λ e. e.0.now ≡ x) s.numbers.entries

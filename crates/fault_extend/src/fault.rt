@@ -1,11 +1,10 @@
 //! Why instructions can't be woven into a program ([`WeaveFault`]): the rules of three layers in one type. Want of memory in
 //! any of them is one cause, `Weave(OutOfMemory)`.
-
 ghost use Rattle.std.specs.Prelude.{◌≡◌};
-ghost use Rattle.fault_extend.specs.Refused.{of_rule, IsWant};
+ghost use Rattle.fault_extend.specs.FirstRefusal.{of_rule, IsWant};
 
 use base_values::OutOfMemory;
-use fault_rules::{Rule, RuleFault};
+use fault_rules::{InstructionRule, RuleFault};
 use smv_flat::FlatFault;
 use smv_types::TypeFault;
 use std::alloc::{AllocError, AllocFailed};
@@ -13,10 +12,10 @@ use std::alloc::{AllocError, AllocFailed};
 /// Why instructions can't be woven into a program: a rule of the weave, or a rule of names or of kinds that
 /// a guard or Follows expression breaks at some instance. `Kinds` also has the two demands on classes: what
 /// is followed has the class of the variable, and a guard is a truth value. The faults of names and of kinds
-/// have the item 0. Want of memory is `Rule::OutOfMemory`, and is never told inside `Flat` or `Kinds`.
+/// have the item 0. Want of memory is `InstructionRule::OutOfMemory`, and is never told inside `Flat` or `Kinds`.
 #[derive(Clone, Copy, Debug, PartialEq, Eq)]
-pub enum Cause {
-    Weave(Rule),
+pub enum WeaveCause {
+    Weave(InstructionRule),
     Flat(FlatFault),
     Kinds(TypeFault),
 }
@@ -25,7 +24,7 @@ pub enum Cause {
 /// written order: each EXTENSION, SLICE and MODE is one. For want of memory the item says nothing.
 #[derive(Clone, Copy, Debug, PartialEq, Eq)]
 pub struct WeaveFault {
-    pub cause: Cause,
+    pub cause: WeaveCause,
     pub item: u32,
 }
 
@@ -34,7 +33,7 @@ impl From<RuleFault> for WeaveFault {
 
     fn from(fault: RuleFault) -> WeaveFault {
         WeaveFault {
-            cause: Cause::Weave(fault.rule),
+            cause: WeaveCause::Weave(fault.rule),
             item: fault.item,
         }
     }
@@ -45,7 +44,7 @@ impl From<OutOfMemory> for WeaveFault {
 
     fn from(_refused: OutOfMemory) -> WeaveFault {
         WeaveFault {
-            cause: Cause::Weave(Rule::OutOfMemory),
+            cause: WeaveCause::Weave(InstructionRule::OutOfMemory),
             item: 0,
         }
     }
@@ -56,7 +55,7 @@ impl From<AllocError> for WeaveFault {
 
     fn from(_refused: AllocError) -> WeaveFault {
         WeaveFault {
-            cause: Cause::Weave(Rule::OutOfMemory),
+            cause: WeaveCause::Weave(InstructionRule::OutOfMemory),
             item: 0,
         }
     }
@@ -67,7 +66,7 @@ impl<T: Drop> From<AllocFailed<T>> for WeaveFault {
 
     fn from(_refused: AllocFailed<T>) -> WeaveFault {
         WeaveFault {
-            cause: Cause::Weave(Rule::OutOfMemory),
+            cause: WeaveCause::Weave(InstructionRule::OutOfMemory),
             item: 0,
         }
     }

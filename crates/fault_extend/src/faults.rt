@@ -1,11 +1,10 @@
 //! The faults of a woven program, by instances, then slices, then modes ([`woven_faults`]): a fault is a mode of a slice at
 //! an instance of the slice's module. This order is that of the numbers of faults in all reports.
-
 ghost use Rattle.std.specs.Prelude.{◌≡◌, ◌++◌, IfOk, OnOk, map, flat_map};
 ghost use Rattle.fault_instructions.specs.Instructions.{instruction_tree, slice_tree, extension_tree};
 ghost use Rattle.smv_language.specs.ProgramTree.{program_tree};
 ghost use Rattle.smv_language.specs.Texts.{same_text};
-ghost use Rattle.fault_weave.specs.Woven.{own_slices};
+ghost use Rattle.fault_weave.specs.WovenProgram.{own_slices};
 ghost use Rattle.fault_weave.specs.Faults.{slice_faults};
 ghost use Rattle.fault_extend.specs.WovenFaults.{fault_tree, instance_faults, faults_at};
 ghost use Rattle.smv_language.specs.ModelTree.{place_of};
@@ -75,7 +74,8 @@ fn add_extension(
     faults: &mut WovenFaultList,
 ) -> Result<(), OutOfMemory>
     ensures { OnOk result (map fault_tree faults.new
-        ≡ map fault_tree faults.old ++ flat_map (slice_faults (place_of instance.now.path)) (own_slices (extension_tree extension.now) instance.now.«module»)) }
+        ≡ map fault_tree faults.old
+        ++ flat_map (slice_faults (place_of instance.now.path)) (own_slices (extension_tree extension.now) instance.now.«module»)) }
 {
     if extends(extension, instance) {
         return add_slices(instance, extension.slices.as_slice(), faults);
@@ -128,7 +128,8 @@ fn woven_fault(
     slice: &Name,
     mode: &ModeRule,
 ) -> Result<WovenFault, OutOfMemory>
-    ensures { IfOk result (λ made. fault_tree made ≡ record { place = place_of instance.now.path; slice = slice.now; mode = mode.now.name }) }
+    ensures { IfOk result (λ made. fault_tree made
+        ≡ record { place = place_of instance.now.path; slice = slice.now; mode = mode.now.name }) }
 {
     let path = copy_path(&instance.path)?;
     let slice = slice.copy()?;

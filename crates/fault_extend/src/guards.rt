@@ -1,10 +1,9 @@
 //! The rules of guards and Follows expressions, tried by instances, then items. Each expression is judged
 //! as a DEFINE of its module would be: first by the rules of names, then by those of kinds.
-
 ghost use Rattle.std.specs.Prelude.{◌≡◌, ◌≢◌, ℕ, IfErr, IfOk, OnOk, Some, None, MatchOption, map, option_copied, option_map};
 ghost use Rattle.smv_language.specs.ProgramTree.{DeclaredTree, program_tree, declared_tree};
 ghost use Rattle.fault_instructions.specs.Instructions.{effect_tree, guard_tree, mode_tree};
-ghost use Rattle.smv_type_laws.specs.Judged.{truth_class, number_class, symbol_class, same_class};
+ghost use Rattle.smv_type_laws.specs.ExpressionKinds.{truth_class, number_class, symbol_class, same_class};
 ghost use Rattle.smv_language.specs.Flat.{FlatInstance};
 ghost use Rattle.smv_flat_laws.specs.Rules.{IsAccepted};
 ghost use Rattle.smv_scope.specs.Faults.{rule_of};
@@ -13,25 +12,27 @@ ghost use Rattle.smv_flat.specs.ScopeOf.{IsScopeOf};
 ghost use Rattle.smv_types.specs.Answers.{told_first, told_rules};
 ghost use Rattle.smv_types.specs.Calls.{fault_of, shown};
 ghost use Rattle.smv_types.specs.Rows.{lower, lesser_rule, unless};
-ghost use Rattle.smv_types.specs.declared.fault.Rule.TheVariants as type_rules;
-ghost use Rattle.fault_rules.specs.Placing.{seen_placed};
-ghost use Rattle.fault_rules.specs.declared.fault.Rule.TheVariants as weave_rules;
+ghost use Rattle.smv_types.specs.declared.fault.TypeRule.TheVariants as type_rules;
+ghost use Rattle.fault_rules.specs.PlacedSlices.{seen_placed};
+ghost use Rattle.fault_rules.specs.declared.fault.InstructionRule.TheVariants as weave_rules;
 ghost use Rattle.fault_extend_laws.specs.Expressions.{followed, broken_by, kind_rule, KeepsNames};
 ghost use Rattle.fault_extend_laws.specs.SliceUses.{uses_of_slices};
-ghost use Rattle.fault_extend.specs.Guarded.{program_in, use_at, IsSomeKept, IsSomeFault, told_number, kind_of_form, class_shown, fits_class, member_class, judged_by, lower_fault, both_forms};
-ghost use Rattle.fault_extend.specs.Nominals.{WhereFlat, IsInstanceAt, all_uses, uses_of_placed, IsUseKept, AreUsesKept, IsUseBroken, IsFirstOfUses, written, IsFormAt};
-ghost use Rattle.fault_extend.specs.Refused.{IsOfExpressions, IsFromExpressions, IsWant, IsWantOr};
-ghost use Rattle.fault_extend.specs.declared.fault.Cause.TheVariants as causes;
-ghost use Rattle.smv_type_laws.specs.Declared.{class_declared};
+ghost use Rattle.fault_extend.specs.GuardJudgement.{program_in, use_at, IsSomeKept, IsSomeFault, told_number, kind_of_form, class_shown};
+ghost use Rattle.fault_extend.specs.GuardJudgement.{fits_class, member_class, judged_by, lower_fault, both_forms};
+ghost use Rattle.fault_extend.specs.Nominals.{WhereFlat, IsInstanceAt, all_uses, uses_of_placed, IsUseKept, AreUsesKept, IsUseBroken};
+ghost use Rattle.fault_extend.specs.Nominals.{IsFirstOfUses, written, IsFormAt};
+ghost use Rattle.fault_extend.specs.FirstRefusal.{IsOfExpressions, IsFromExpressions, IsWant, IsWantOr};
+ghost use Rattle.fault_extend.specs.declared.fault.WeaveCause.TheVariants as causes;
+ghost use Rattle.smv_type_laws.specs.DeclaredKinds.{class_declared};
 
-use crate::fault::{Cause, WeaveFault};
+use crate::fault::{WeaveCause, WeaveFault};
 use base_values::{Dotted, Name};
 use fault_instructions::{Effect, ModeRule};
 use fault_rules::{Placed, item_after};
 use smv_flat::{FlatFault, Scope};
 use smv_language::model::Flat;
 use smv_language::{Declared, Expr, Member, Program};
-use smv_types::{Kind, Rule, TypeFault, Typed, check_value};
+use smv_types::{Kind, TypeFault, TypeRule, Typed, check_value};
 use std::alloc::Global;
 
 /// A program that breaks no rule, and its flat model with kinds.
@@ -50,8 +51,8 @@ struct Resolved {
 
 /// The rule of kinds that an expression breaks, and its kind where it breaks none.
 #[derive(Clone, Copy)]
-struct Verdict {
-    rule: Option<Rule>,
+struct GuardVerdict {
+    rule: Option<TypeRule>,
     kind: Option<Kind>,
 }
 
@@ -63,7 +64,8 @@ pub(crate) fn judge_guards(
 ) -> Result<(), WeaveFault>
     ensures want { IfErr result IsFromExpressions }
     ensures kept { WhereFlat nominal.entry (OnOk result (AreUsesKept nominal.entry (all_uses nominal.entry (map seen_placed slices.now)))) }
-    ensures told { WhereFlat nominal.entry (IfErr result (IsFirstOfUses nominal.entry (all_uses nominal.entry (map seen_placed slices.now)))) }
+    ensures told { WhereFlat nominal.entry
+        (IfErr result (IsFirstOfUses nominal.entry (all_uses nominal.entry (map seen_placed slices.now)))) }
 {
     let scope = scope_of(alloc, nominal.program)?;
     judge_instances(alloc, nominal, &scope, slices)
@@ -79,7 +81,8 @@ fn judge_instances(
     requires scope { IsScopeOf (program_in nominal) scope.now }
     ensures want { IfErr result IsFromExpressions }
     ensures kept { WhereFlat nominal.entry (OnOk result (AreUsesKept nominal.entry (all_uses nominal.entry (map seen_placed slices.now)))) }
-    ensures told { WhereFlat nominal.entry (IfErr result (IsFirstOfUses nominal.entry (all_uses nominal.entry (map seen_placed slices.now)))) }
+    ensures told { WhereFlat nominal.entry
+        (IfErr result (IsFirstOfUses nominal.entry (all_uses nominal.entry (map seen_placed slices.now)))) }
 {
     let mut number = 0;
     for instance in nominal.typed.model().instances.as_slice() {
@@ -163,13 +166,14 @@ fn judge_mode(
     instance: u32,
     declared: &Declared,
     mode: &ModeRule,
-) -> Result<(), Cause>
+) -> Result<(), WeaveCause>
     requires scope { IsScopeOf (program_in nominal) scope.now }
     ensures want { IfErr result IsOfExpressions }
     ensures kept { (at : FlatInstance) (n : ℕ) → IsInstanceAt nominal.entry «instance» at →
         OnOk result (IsUseKept nominal.entry (use_at at.place (declared_tree declared.now) (mode_tree mode.now) n)) }
     ensures told { (at : FlatInstance) (n : ℕ) → IsInstanceAt nominal.entry «instance» at →
-        IfErr result (λ cause. IsWantOr cause (IsUseBroken nominal.entry (use_at at.place (declared_tree declared.now) (mode_tree mode.now) n))) }
+        IfErr result (λ cause. IsWantOr cause
+        (IsUseBroken nominal.entry (use_at at.place (declared_tree declared.now) (mode_tree mode.now) n))) }
 {
     let resolved = resolve_mode(alloc, nominal, scope, instance, mode)?;
     match first_of_kinds(nominal.typed, &resolved, declared) {
@@ -185,7 +189,7 @@ fn resolve_mode(
     scope: &Scope<'_>,
     instance: u32,
     mode: &ModeRule,
-) -> Result<Resolved, Cause>
+) -> Result<Resolved, WeaveCause>
     requires scope { IsScopeOf (program_in nominal) scope.now }
     ensures want { IfErr result IsOfExpressions }
     ensures follows { (at : FlatInstance) → IsInstanceAt nominal.entry «instance» at →
@@ -237,7 +241,8 @@ fn resolve(
     e: Option<&Expr<Dotted>>,
 ) -> Result<Option<Expr<Flat>>, FlatFault>
     requires scope { IsScopeOf (program_in nominal) scope.now }
-    ensures form { (at : FlatInstance) → IsInstanceAt nominal.entry «instance» at → IfOk result (IsFormAt nominal.entry at (written e.entry)) }
+    ensures form { (at : FlatInstance) → IsInstanceAt nominal.entry «instance» at →
+        IfOk result (IsFormAt nominal.entry at (written e.entry)) }
     ensures kept { (at : FlatInstance) → IsInstanceAt nominal.entry «instance» at →
         OnOk result (IsSomeKept (program_in nominal.entry) at.place inputs (written e.entry)) }
     ensures told { (at : FlatInstance) → IsInstanceAt nominal.entry «instance» at →
@@ -263,7 +268,7 @@ fn follows_of(effect: &Effect) -> Option<&Expr<Dotted>>
 
 /// The first rule of kinds that a mode's expressions break: the least of both, and else the demands on
 /// their classes.
-fn first_of_kinds(typed: &Typed, resolved: &Resolved, declared: &Declared) -> Option<Rule>
+fn first_of_kinds(typed: &Typed, resolved: &Resolved, declared: &Declared) -> Option<TypeRule>
     ensures { result ≡ told_first (kind_rule (model_tree typed.now.model) (declared_tree declared.now)
         (option_map flat_tree resolved.now.follows) (option_map flat_tree resolved.now.guard)) }
 {
@@ -276,14 +281,14 @@ fn first_of_kinds(typed: &Typed, resolved: &Resolved, declared: &Declared) -> Op
 }
 
 /// The rule of kinds that an expression breaks, or its kind, where there is one.
-fn judged(typed: &Typed, e: Option<&Expr<Flat>>) -> Verdict
+fn judged(typed: &Typed, e: Option<&Expr<Flat>>) -> GuardVerdict
     ensures rule { result.rule ≡ told_rules (broken_by (model_tree typed.now.model) (option_map flat_tree (option_copied e.entry))) }
     ensures kind { result.rule ≡ None → result.kind
         ≡ option_map shown (kind_of_form (model_tree typed.now.model) (option_map flat_tree (option_copied e.entry))) }
 {
     match e {
         Some(e) => of_answer(check_value(typed, e)),
-        None => Verdict {
+        None => GuardVerdict {
             rule: None,
             kind: None,
         },
@@ -291,15 +296,15 @@ fn judged(typed: &Typed, e: Option<&Expr<Flat>>) -> Verdict
 }
 
 /// What is answered of kinds, as a verdict.
-fn of_answer(answer: Result<Kind, TypeFault>) -> Verdict
+fn of_answer(answer: Result<Kind, TypeFault>) -> GuardVerdict
     ensures { result ≡ judged_by answer }
 {
     match answer {
-        Ok(kind) => Verdict {
+        Ok(kind) => GuardVerdict {
             rule: None,
             kind: Some(kind),
         },
-        Err(fault) => Verdict {
+        Err(fault) => GuardVerdict {
             rule: Some(fault.rule),
             kind: None,
         },
@@ -307,15 +312,15 @@ fn of_answer(answer: Result<Kind, TypeFault>) -> Verdict
 }
 
 /// The demands on classes: what is followed has that of the variable, and a guard is a truth value.
-fn demand(follows: Option<Kind>, guard: Option<Kind>, declared: &Declared) -> Option<Rule>
+fn demand(follows: Option<Kind>, guard: Option<Kind>, declared: &Declared) -> Option<TypeRule>
     ensures { result ≡ lower (unless (fits_class follows (class_declared (declared_tree declared.now))) type_rules.Mismatch)
         (unless (fits_class guard truth_class) type_rules.NotBoolean) }
 {
     if !follows_fits(follows, declared) {
-        return Some(Rule::Mismatch);
+        return Some(TypeRule::Mismatch);
     }
     if !guard_fits(guard) {
-        return Some(Rule::NotBoolean);
+        return Some(TypeRule::NotBoolean);
     }
     None
 }
@@ -393,30 +398,32 @@ fn is_symbol(kind: Kind) -> bool
 }
 
 /// A broken rule of kinds as a cause.
-fn kind_fault(rule: Rule) -> Cause
+fn kind_fault(rule: TypeRule) -> WeaveCause
     ensures { result ≡ causes.Kinds (fault_of rule) }
 {
-    Cause::Kinds(TypeFault { rule, item: 0 })
+    WeaveCause::Kinds(TypeFault { rule, item: 0 })
 }
 
 /// Want of memory is told as such, and never inside another fault.
-pub(crate) fn flat_cause(fault: FlatFault) -> Cause
+pub(crate) fn flat_cause(fault: FlatFault) -> WeaveCause
     ensures { MatchOption (rule_of fault.rule) (result ≡ causes.Weave weave_rules.OutOfMemory) (λ r. result ≡ causes.Flat fault) }
 {
     match fault.rule {
-        smv_flat::Rule::OutOfMemory => Cause::Weave(fault_rules::Rule::OutOfMemory),
-        _ => Cause::Flat(fault),
+        smv_flat::FlatRule::OutOfMemory => WeaveCause::Weave(
+            fault_rules::InstructionRule::OutOfMemory,
+        ),
+        _ => WeaveCause::Flat(fault),
     }
 }
 
 /// Want of memory is told as such, and never inside a fault of kinds.
-pub(crate) fn type_cause(fault: TypeFault) -> Cause
+pub(crate) fn type_cause(fault: TypeFault) -> WeaveCause
     ensures want { fault.rule ≡ type_rules.OutOfMemory → result ≡ causes.Weave weave_rules.OutOfMemory }
     ensures other { fault.rule ≢ type_rules.OutOfMemory → result ≡ causes.Kinds fault }
 {
     match fault.rule {
-        Rule::OutOfMemory => Cause::Weave(fault_rules::Rule::OutOfMemory),
-        _ => Cause::Kinds(fault),
+        TypeRule::OutOfMemory => WeaveCause::Weave(fault_rules::InstructionRule::OutOfMemory),
+        _ => WeaveCause::Kinds(fault),
     }
 }
 
@@ -432,17 +439,17 @@ fn lower_flat(first: FlatFault, second: FlatFault) -> FlatFault
 }
 
 /// The number of a rule of names; want of memory comes before all.
-fn flat_number(rule: smv_flat::Rule) -> u32
+fn flat_number(rule: smv_flat::FlatRule) -> u32
     ensures { result ≡ told_number (rule_of rule) }
 {
     match rule {
-        smv_flat::Rule::OutOfMemory => 0,
+        smv_flat::FlatRule::OutOfMemory => 0,
         _ => rule as u32,
     }
 }
 
 /// The rule with the lower number, where there is any.
-fn lower_kind(first: Option<Rule>, second: Option<Rule>) -> Option<Rule>
+fn lower_kind(first: Option<TypeRule>, second: Option<TypeRule>) -> Option<TypeRule>
     ensures { result ≡ lower first second }
 {
     match (first, second) {
@@ -453,7 +460,7 @@ fn lower_kind(first: Option<Rule>, second: Option<Rule>) -> Option<Rule>
 }
 
 /// Of two rules the one with the lower number.
-fn lesser_kind(first: Rule, second: Rule) -> Rule
+fn lesser_kind(first: TypeRule, second: TypeRule) -> TypeRule
     ensures { result ≡ lesser_rule first second }
 {
     if (second as u32) < (first as u32) {

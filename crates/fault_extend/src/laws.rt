@@ -1,5 +1,4 @@
 //! What the rules on guards and on what is followed are for, and that a weave tells one fault at most.
-
 ghost use Rattle.fault_extend.specs.InstanceLaws.{InstancesAreListed};
 ghost use Rattle.fault_extend.specs.JudgedLaws.{GoodIsJudged, GoodModesAreJudged, InstancesAreLawful, TypesAreUniform};
 ghost use Rattle.fault_extend.specs.ToldLaws.{OneTold, KeptTellNone};

@@ -7,7 +7,7 @@
 //! listed by instances, then slices, then modes ([`weave`]). [`fault_list`] gives them the numbers that they
 //! have in the woven program's flat model.
 //!
-//! Which rule is told, group after group, stands in `specs/Refused.antt`, and it is one ([`one_told`]); what the
+//! Which rule is told, group after group, stands in `specs/FirstRefusal.antt`, and it is one ([`one_told`]); what the
 //! third group is for are laws over the definitions of names and of kinds ([`good_is_judged`]).
 //!
 //! ```text
@@ -24,7 +24,7 @@ mod laws;
 mod list;
 mod weaving;
 
-pub use fault::{Cause, WeaveFault};
+pub use fault::{WeaveCause, WeaveFault};
 pub use faults::{Woven, WovenFault, WovenFaultList, copy_woven_faults, woven_faults};
 pub use laws::{
     good_is_judged, good_modes_are_judged, instances_are_listed, one_told, types_are_uniform,

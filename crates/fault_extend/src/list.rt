@@ -1,11 +1,11 @@
 //! The faults with the numbers that they have in the woven program's flat model ([`fault_list`]): of the variable that holds
 //! a slice's state and of the symbol that stands for a mode. A search reads by them in a state which modes stand.
-
 ghost use Rattle.std.specs.Prelude.{◌≡◌, ◌↔◌, ◌∷◌, ◌++◌, [], IfOk, OnOk, Some, IsTrue, slice_get};
 ghost use Rattle.smv_language.specs.Trace.{Each};
 ghost use Rattle.smv_language.specs.ProgramTree.{Text};
 ghost use Rattle.fault_instructions.specs.AddedNames.{mode_variable as mode_variable_of, mode_symbol as mode_symbol_of};
-ghost use Rattle.fault_extend.specs.NumberedFaults.{parts_of, HasMode, HaveModes, IsNumbered, AreNumbered, AreSymbols, KnowsSymbol, HasPath, IsThere};
+ghost use Rattle.fault_extend.specs.NumberedFaults.{parts_of, HasMode, HaveModes, IsNumbered, AreNumbered, AreSymbols, KnowsSymbol};
+ghost use Rattle.fault_extend.specs.NumberedFaults.{HasPath, IsThere};
 
 use crate::faults::{Woven, WovenFault};
 use base_values::{Dotted, Items, Name, OutOfMemory};
@@ -17,7 +17,7 @@ use std::alloc::Global;
 
 /// The symbols of a model by their texts, with their numbers.
 #[derive(Drop)]
-pub(crate) struct Symbols<'a> {
+pub(crate) struct SymbolNumbers<'a> {
     pub(crate) names: &'a [Name],
     pub(crate) numbers: IndexMap<&'a [u8], u32>,
 }
@@ -41,7 +41,7 @@ fn numbered_list(
     requires modes { HaveModes m.now woven.now }
     ensures { IfOk result (λ list. AreNumbered m.now woven.now list) }
 {
-    let symbols = Symbols::of_names(alloc, m.symbols.as_slice())?;
+    let symbols = SymbolNumbers::of_names(alloc, m.symbols.as_slice())?;
     let mut faults = Items::new(alloc);
     for fault in woven {
         faults.push(numbered(alloc, m, &symbols, fault)?)?;
@@ -53,7 +53,7 @@ fn numbered_list(
 fn numbered(
     alloc: Global,
     m: &FlatModel,
-    symbols: &Symbols<'_>,
+    symbols: &SymbolNumbers<'_>,
     fault: &WovenFault,
 ) -> Result<Fault, OutOfMemory>
     requires own { symbols.now.names.now ≡ m.now.symbols }
@@ -134,14 +134,14 @@ fn is_same(x: &[Name], y: &[Name]) -> bool
     true
 }
 
-impl<'a> Symbols<'a> {
+impl<'a> SymbolNumbers<'a> {
     /// The symbols of these names, each with its number.
-    fn of_names(alloc: Global, names: &'a [Name]) -> Result<Symbols<'a>, OutOfMemory>
+    fn of_names(alloc: Global, names: &'a [Name]) -> Result<SymbolNumbers<'a>, OutOfMemory>
         ensures own { IfOk result (λ symbols. symbols.names.now ≡ names.now) }
         ensures symbols { IfOk result AreSymbols }
         ensures known { IfOk result (λ symbols. Each (KnowsSymbol symbols) names.now) }
     {
-        let mut symbols = Symbols {
+        let mut symbols = SymbolNumbers {
             names,
             numbers: IndexMap::new(alloc),
         };
@@ -168,7 +168,8 @@ impl<'a> Symbols<'a> {
     fn of_fault(&self, alloc: Global, fault: &WovenFault) -> Result<u32, OutOfMemory>
         requires symbols { AreSymbols self.now }
         requires known { KnowsSymbol self.now (mode_symbol_of fault.now.slice (Some fault.now.mode)) }
-        ensures { IfOk result (λ number. slice_get self.now.names.now number ≡ Some (mode_symbol_of fault.now.slice (Some fault.now.mode))) }
+        ensures { IfOk result (λ number. slice_get self.now.names.now number
+            ≡ Some (mode_symbol_of fault.now.slice (Some fault.now.mode))) }
     {
         let symbol = mode_symbol(alloc, &fault.slice, &fault.mode)?;
         Ok(self.number_of(&symbol))

@@ -1,16 +1,15 @@
 //! The public calls: the woven program with its faults, from a program ([`weave`]), or from a program whose flat model and
 //! kinds are known already ([`weave_typed`]).
-
 ghost use Rattle.std.specs.Prelude.{◌≡◌, ◌≢◌, IfOk, IfErr, OnOk, map};
 ghost use Rattle.smv_language.specs.ProgramTree.{program_tree};
 ghost use Rattle.fault_instructions.specs.Instructions.{instruction_tree};
-ghost use Rattle.fault_weave.specs.Woven.{woven};
-ghost use Rattle.fault_rules.specs.Counted.{module_names};
+ghost use Rattle.fault_weave.specs.WovenProgram.{woven};
+ghost use Rattle.fault_rules.specs.FaultCounts.{module_names};
 ghost use Rattle.fault_rules.specs.Sites.{item_sites};
 ghost use Rattle.fault_rules.specs.Rules.{broken_at};
-ghost use Rattle.fault_rules.specs.Counting.{count_broken_at};
+ghost use Rattle.fault_rules.specs.CountLimits.{count_broken_at};
 ghost use Rattle.fault_rules.specs.FirstBroken.{AllKept, IsFirstBroken};
-ghost use Rattle.fault_rules.specs.declared.fault.Rule.TheVariants as broken;
+ghost use Rattle.fault_rules.specs.declared.fault.InstructionRule.TheVariants as broken;
 ghost use Rattle.fault_extend.specs.InstanceLaws.{HasInstancesInVar};
 ghost use Rattle.fault_extend.specs.WovenFaults.{fault_tree, faults_at, AreInstancesOf};
 ghost use Rattle.fault_weave.specs.Conservative.{IsExtensionOf};
@@ -23,9 +22,9 @@ ghost use Rattle.smv_language.specs.ModelTree.{model_tree};
 ghost use Rattle.smv_language.specs.Flat.{FlatModel};
 ghost use Rattle.smv_type_laws.specs.Models.{IsTyped};
 ghost use Rattle.fault_extend_laws.specs.Expressions.{AllUsesKept};
-ghost use Rattle.fault_extend.specs.Refused.{modules_in, modules_at, KeepsRules, IsTold, IsToldSomewhere, IsWant};
+ghost use Rattle.fault_extend.specs.FirstRefusal.{modules_in, modules_at, KeepsRules, IsTold, IsToldSomewhere, IsWant};
 
-use crate::fault::{Cause, WeaveFault};
+use crate::fault::{WeaveCause, WeaveFault};
 use crate::faults::{Woven, woven_faults};
 use crate::guards::{Nominal, flat_cause, judge_guards, type_cause};
 use base_values::{Name, OutOfMemory};
@@ -51,7 +50,8 @@ pub fn weave(alloc: Global, p: &Program, i: &Instructions) -> Result<Woven, Weav
     ensures kept { OnOk result (AllKept (broken_at (program_tree p.now)) (item_sites (instruction_tree i.now))) }
     ensures counts { (m : FlatModel) → IsFlatOf (program_tree p.now) m →
         OnOk result (AllKept (count_broken_at (modules_at m)) (item_sites (instruction_tree i.now))) }
-    ensures uses { (m : FlatModel) → IsFlatOf (program_tree p.now) m → OnOk result (AllUsesKept (program_tree p.now) m (instruction_tree i.now)) }
+    ensures uses { (m : FlatModel) → IsFlatOf (program_tree p.now) m →
+        OnOk result (AllUsesKept (program_tree p.now) m (instruction_tree i.now)) }
     ensures told { IfErr result (IsToldSomewhere (program_tree p.now) (instruction_tree i.now)) }
     ensures exact { (m : FlatModel) → IsAccepted (program_tree p.now) → IsFlatOf (program_tree p.now) m →
         IsTyped m → IfErr result (IsTold (program_tree p.now) m (instruction_tree i.now) (modules_at m)) }
@@ -76,7 +76,8 @@ pub fn weave_typed(
     ensures kept { OnOk result (KeepsRules (program_tree p.now) (instruction_tree i.now) (modules_in typed.now.model.instances)) }
     ensures uses { IsAccepted (program_tree p.now) → IsFlatOf (program_tree p.now) (model_tree typed.now.model) →
         OnOk result (AllUsesKept (program_tree p.now) (model_tree typed.now.model) (instruction_tree i.now)) }
-    ensures told { IfErr result (IsTold (program_tree p.now) (model_tree typed.now.model) (instruction_tree i.now) (modules_in typed.now.model.instances)) }
+    ensures told { IfErr result
+        (IsTold (program_tree p.now) (model_tree typed.now.model) (instruction_tree i.now) (modules_in typed.now.model.instances)) }
 {
     judge(alloc, p, typed, i)?;
     let woven = made(alloc, p, typed, i)?;
@@ -88,7 +89,8 @@ fn judge(alloc: Global, p: &Program, typed: &Typed, i: &Instructions) -> Result<
     ensures kept { OnOk result (KeepsRules (program_tree p.now) (instruction_tree i.now) (modules_in typed.now.model.instances)) }
     ensures uses { IsAccepted (program_tree p.now) → IsFlatOf (program_tree p.now) (model_tree typed.now.model) →
         OnOk result (AllUsesKept (program_tree p.now) (model_tree typed.now.model) (instruction_tree i.now)) }
-    ensures told { IfErr result (IsTold (program_tree p.now) (model_tree typed.now.model) (instruction_tree i.now) (modules_in typed.now.model.instances)) }
+    ensures told { IfErr result
+        (IsTold (program_tree p.now) (model_tree typed.now.model) (instruction_tree i.now) (modules_in typed.now.model.instances)) }
 {
     let slices = placed_slices(alloc, p, i)?;
     count(alloc, typed, i)?;
@@ -146,7 +148,7 @@ fn typed_of(alloc: Global, p: &Program) -> Result<Typed, WeaveFault>
 }
 
 /// A fault of the program itself.
-fn of_program(cause: Cause) -> WeaveFault
+fn of_program(cause: WeaveCause) -> WeaveFault
     ensures { result ≡ record { cause = cause; item = 0 } }
 {
     WeaveFault { cause, item: 0 }

@@ -9,7 +9,7 @@ use Rattle.fault_instructions.specs.declared.instructions.Start.TheVariants.{Nom
 use Rattle.fault_instructions.specs.Instructions.{stuck_at, ModeTree, InstructionTree}
 use Rattle.smv_language.specs.Flat.{FlatModel}
 use Rattle.smv_flat_laws.specs.Rules.{Rule, no_main, main_has_parameters, double_module, double_name, no_such_module, wrong_count, module_loop, no_such_name, not_a_target, double_assign, define_loop, next_here, input_here, too_many}
-use Rattle.smv_type_laws.specs.Judged.{not_boolean}
+use Rattle.smv_type_laws.specs.ExpressionKinds.{not_boolean}
 use Rattle.fault_extend_laws.specs.Uses.{Use}
 use Rattle.fault_extend_laws.specs.Expressions.{BreaksNames, of_kinds, by_kinds, IsFirstUse}
 

@@ -4,7 +4,7 @@ use Rattle.smv_language.specs.Tree.{Tree}
 use Rattle.smv_language.specs.ProgramTree.{Path, Formula, ProgramTree}
 use Rattle.smv_language.specs.Scope.{Place}
 use Rattle.smv_language.specs.Flat.{FlatLeaf, FlatModel}
-use Rattle.smv_flat_laws.specs.Resolved.{StandsFor, IsLeafOf, Resolver, IsSound, IsResolved}
+use Rattle.smv_flat_laws.specs.NameResolution.{StandsFor, IsLeafOf, Resolver, IsSound, IsResolved}
 use Rattle.smv_flat_laws.specs.ResolvedAt.{IsResolvedAt}
 use Rattle.smv_flat_laws.specs.Rules.{IsAccepted}
 use Rattle.smv_flat_laws.specs.Model.{IsFlatOf}

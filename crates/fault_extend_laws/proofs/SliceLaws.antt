@@ -11,7 +11,7 @@ use Rattle.fault_instructions.specs.KindTypes.{type_of_kind}
 use Rattle.fault_rules.specs.Sites.{OwnedSlice, owned, Site, mode_sites, slice_sites, extension_sites, item_sites}
 use Rattle.fault_rules.specs.Rules.{target_kind}
 use Rattle.fault_rules.specs.Faults.{owned_slices, file_slices}
-use Rattle.fault_rules.specs.Placing.{PlacedSlice, placed_from}
+use Rattle.fault_rules.specs.PlacedSlices.{PlacedSlice, placed_from}
 use Rattle.fault_rules.proofs.PlacingLaws.{places_joined, no_places}
 use Rattle.smv_flat_laws.specs.Items.{instances_of}
 use Rattle.fault_extend_laws.specs.Uses.{Use, use_of_site, uses_from, uses_at, uses}

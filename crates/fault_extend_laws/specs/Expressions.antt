@@ -4,13 +4,14 @@ use Rattle.smv_language.specs.Tree.{Tree}
 use Rattle.smv_language.specs.ProgramTree.{Formula, DeclaredTree, ProgramTree}
 use Rattle.smv_language.specs.Scope.{Place}
 use Rattle.smv_language.specs.Trace.{Each}
-use Rattle.fault_instructions.specs.Instructions.{EffectTree, follows, stuck_at, inverted, random, erroneous, frozen, stuck_at_pick, offset, ramp_down, InstructionTree}
+use Rattle.fault_instructions.specs.Instructions.{EffectTree, follows, stuck_at, inverted, random, erroneous, frozen, stuck_at_pick, offset}
+use Rattle.fault_instructions.specs.Instructions.{ramp_down, InstructionTree}
 use Rattle.smv_language.specs.Flat.{FlatLeaf, FlatModel}
 use Rattle.smv_flat_laws.specs.Rules.{Rule, number_of}
 use Rattle.smv_flat_laws.specs.ValueRules.{BreaksValue}
 use Rattle.smv_flat_laws.specs.ResolvedAt.{IsResolvedAt}
-use Rattle.smv_type_laws.specs.Judged.{KindRule, mismatch, not_boolean, truth_class, unless_class}
-use Rattle.smv_type_laws.specs.Declared.{judged_declared}
+use Rattle.smv_type_laws.specs.ExpressionKinds.{KindRule, mismatch, not_boolean, truth_class, unless_class}
+use Rattle.smv_type_laws.specs.DeclaredKinds.{judged_declared}
 use Rattle.smv_type_laws.specs.Models.{judged_in, least}
 use Rattle.fault_extend_laws.specs.Uses.{Use, uses}
 
@@ -81,7 +82,8 @@ or_else None other = other
 -- least of the two demands on their classes.
 abbrev pub kind_rule : FlatModel → DeclaredTree → Option (Tree FlatLeaf) → Option (Tree FlatLeaf) → Option KindRule
 kind_rule m type follows_as guard_as =
-    or_else (least (broken_by m follows_as ++ broken_by m guard_as)) (least (class_of_followed m type follows_as ++ class_of_guard m guard_as))
+    or_else (least (broken_by m follows_as ++ broken_by m guard_as)) (least (class_of_followed m type follows_as
+    ++ class_of_guard m guard_as))
 
 -- the mode breaks no rule at the instance
 pub record KeepsUse (p : ProgramTree) (m : FlatModel) (u : Use) : Type 0 where
@@ -101,7 +103,8 @@ pub data UseRule : Type 0 where
 -- the rule for which a mode is refused at an instance: those of names come before those of kinds
 pub data IsBrokenAt (p : ProgramTree) (m : FlatModel) (u : Use) : UseRule → Type 0 where
   by_names : (r : Rule) → IsLeastOfNames p u r → IsBrokenAt p m u (of_names r)
-  by_kinds : (r : KindRule) → KeepsNames p u → (f : Forms p m u) → kind_rule m u.type f.follows_as f.guard_as ≡ Some r → IsBrokenAt p m u (of_kinds r)
+  by_kinds : (r : KindRule) → KeepsNames p u → (f : Forms p m u) → kind_rule m u.type f.follows_as f.guard_as ≡ Some r →
+      IsBrokenAt p m u (of_kinds r)
 
 -- the rule is broken at one of these, of this item, and none before it breaks one
 pub record IsFirstAmong (p : ProgramTree) (m : FlatModel) (among : List Use) (rule : UseRule) (item : ℕ) : Type 0 where

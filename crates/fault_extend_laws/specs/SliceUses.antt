@@ -5,7 +5,7 @@ use Rattle.smv_language.specs.Scope.{Place}
 use Rattle.smv_language.specs.Texts.{same_text}
 use Rattle.fault_instructions.specs.Instructions.{ModeTree}
 use Rattle.smv_language.specs.Flat.{FlatInstance}
-use Rattle.fault_rules.specs.Placing.{PlacedSlice}
+use Rattle.fault_rules.specs.PlacedSlices.{PlacedSlice}
 use Rattle.fault_extend_laws.specs.Uses.{Use}
 
 -- modes at an instance, of which the first is the item of this number

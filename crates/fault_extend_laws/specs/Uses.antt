@@ -22,7 +22,8 @@ abbrev pub use_of_site : ProgramTree → FlatInstance → ℕ → Site → List 
 use_of_site p at n (an_extension m) = []
 use_of_site p at n (a_slice before o) = []
 use_of_site p at n (a_mode before o earlier m) =
-    if same_text o.owner at.module_name then record { place = at.place; item = n; type = type_of_kind (target_kind p o); mode = m } ∷ [] else []
+    if same_text o.owner at.module_name then record { place = at.place; item = n; type = type_of_kind (target_kind p o); mode = m }
+    ∷ [] else []
 
 -- items from this number on
 abbrev pub uses_from : ProgramTree → FlatInstance → ℕ → List Site → List Use

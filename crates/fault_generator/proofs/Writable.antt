@@ -7,7 +7,7 @@ use Rattle.std.proofs.lemmas.Bool.Decides.{nat_tests}
 use Rattle.smv_lexer.specs.Runs.{Runs, takes_digit}
 use Rattle.smv_language.specs.Trace.{Each}
 use Rattle.smv_language.specs.Lexemes.{is_reserved}
-use Rattle.smv_language.specs.Printed.{IsName, IsWritable}
+use Rattle.smv_language.specs.PrintedTokens.{IsName, IsWritable}
 use Rattle.smv_language.specs.WritableProgram.{IsWritableDecl, IsWritableSection, IsWritableModule, IsWritableProgram}
 use Rattle.smv_language.proofs.TokenTexts.{decimal_digits}
 use Rattle.fault_instructions.specs.WritableInstructions.{IsWritableMode, IsWritableSlice, IsWritableInstructions}

@@ -1,10 +1,12 @@
 -- The generator's model, two rails of relays whose last outputs are dead together, and its instructions.
-use Rattle.std.specs.Prelude.{ℕ, zero, suc, ◌+◌, ◌*◌, ◌/◌, ◌%◌, ◌^◌, nat_eq, Bool, true, false, List, [], ◌∷◌, ◌++◌, Option, Some, None, codes}
+use Rattle.std.specs.Prelude.{ℕ, zero, suc, ◌+◌, ◌*◌, ◌/◌, ◌%◌, ◌^◌, nat_eq, Bool, true, false, List, [], ◌∷◌, ◌++◌, Option, Some, None}
+use Rattle.std.specs.Prelude.{codes}
 use Rattle.std.specs.Fmt.{decimal}
 use Rattle.smv_language.specs.declared.expr.Op.TheVariants as op
 use Rattle.smv_language.specs.declared.program.Moment.TheVariants.{Always}
 use Rattle.smv_language.specs.Tree.{truth, leaf, not_of, binary}
-use Rattle.smv_language.specs.ProgramTree.{Text, Formula, boolean, instance, DeclTree, SectionTree, var, define, assign, ModuleTree, ProgramTree}
+use Rattle.smv_language.specs.ProgramTree.{Text, Formula, boolean, instance, DeclTree, SectionTree, var, define, assign, ModuleTree}
+use Rattle.smv_language.specs.ProgramTree.{ProgramTree}
 use Rattle.smv_language.specs.Values.{truth as truth_value}
 use Rattle.fault_instructions.specs.declared.instructions.Start.TheVariants.{Nominal}
 use Rattle.fault_instructions.specs.declared.instructions.Dynamics.TheVariants.{Permanent}

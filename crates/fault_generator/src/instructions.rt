@@ -1,11 +1,11 @@
 //! The instructions of generated models: each relay's output may be stuck at FALSE for good.
 //!
 //! The main function is [`generated_instructions`]; they are the same for every number and so many stages.
-
 ghost use Rattle.std.specs.Prelude.{◌≡◌, IfOk};
 ghost use Rattle.fault_instructions.specs.Instructions.{mode_tree, slice_tree, extension_tree, instruction_tree};
 ghost use Rattle.fault_instructions.specs.WritableInstructions.{IsWritableInstructions};
-ghost use Rattle.fault_generator.specs.Generator.{generated_instructions as instructions_tree, relay_extension as extension_of_relay, relay_slice as slice_of_relay, off_mode as off_tree};
+ghost use Rattle.fault_generator.specs.Generator.{generated_instructions as instructions_tree, relay_extension as extension_of_relay};
+ghost use Rattle.fault_generator.specs.Generator.{relay_slice as slice_of_relay, off_mode as off_tree};
 
 use crate::parts::one;
 use base_values::{Name, OutOfMemory};

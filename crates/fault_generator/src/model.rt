@@ -1,14 +1,15 @@
 //! The model and its top event: a module of relays, and `main` with the stages and the event.
 //!
 //! The main functions are [`generated_model`] and [`generated_top`]. The stages come from `rails`.
-
 ghost use Rattle.std.specs.Prelude.{◌≡◌, [], ◌∷◌, IfOk};
 ghost use Rattle.smv_language.specs.Tree.{not_of};
-ghost use Rattle.smv_language.specs.Written.{tree_of};
+ghost use Rattle.smv_language.specs.ExpressionTree.{tree_of};
 ghost use Rattle.smv_language.specs.ProgramTree.{section_tree, module_tree, program_tree};
-ghost use Rattle.smv_language.specs.Printed.{IsWritable};
+ghost use Rattle.smv_language.specs.PrintedTokens.{IsWritable};
 ghost use Rattle.smv_language.specs.WritableProgram.{IsWritableProgram};
-ghost use Rattle.fault_generator.specs.Generator.{generated_model as model_of, generated_top as top_tree, relay_module as relay_tree, relay_variables as relay_variables_tree, relay_assignments as relay_assignments_tree, main_module as main_tree, dead_section, dead_formula, output_of as output_tree};
+ghost use Rattle.fault_generator.specs.Generator.{generated_model as model_of, generated_top as top_tree, relay_module as relay_tree};
+ghost use Rattle.fault_generator.specs.Generator.{relay_variables as relay_variables_tree, relay_assignments as relay_assignments_tree};
+ghost use Rattle.fault_generator.specs.Generator.{main_module as main_tree, dead_section, dead_formula, output_of as output_tree};
 ghost use Rattle.fault_generator.specs.Stages.{told_rails};
 
 use crate::parts::{named, one, output_of, single};

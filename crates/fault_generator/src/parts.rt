@@ -1,10 +1,9 @@
 //! Names, lists and formulas of which generated trees are made.
 //!
 //! [`output_of`] is what feeds a stage: the output of the last stage of its rail, or TRUE.
-
 ghost use Rattle.std.specs.Prelude.{◌≡◌, [], ◌∷◌, codes, IfOk};
 ghost use Rattle.smv_language.specs.Tree.{leaf};
-ghost use Rattle.smv_language.specs.Written.{tree_of};
+ghost use Rattle.smv_language.specs.ExpressionTree.{tree_of};
 ghost use Rattle.fault_generator.specs.Generator.{stage_name as stage_name_of, output_of as output_tree};
 
 use base_values::{Dotted, Items, Name, OutOfMemory};

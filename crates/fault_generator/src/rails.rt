@@ -1,10 +1,10 @@
 //! The stages of a model: on which rail each is, and by which it is fed.
 //!
 //! The main function is [`rails`]. Each stage has the number that follows the one before it, and a bit of that chooses the rail.
-
 ghost use Rattle.std.specs.Prelude.{◌≡◌, ◌<◌, ◌^◌, true, false, IfOk, OnOk};
 ghost use Rattle.smv_language.specs.ProgramTree.{decl_tree};
-ghost use Rattle.fault_generator.specs.Generator.{next_number as number_after, is_on_rail_a as is_on_a, with_stage, rails_of, stage as stage_of};
+ghost use Rattle.fault_generator.specs.Generator.{next_number as number_after, is_on_rail_a as is_on_a, with_stage, rails_of};
+ghost use Rattle.fault_generator.specs.Generator.{stage as stage_of};
 ghost use Rattle.fault_generator.specs.Stages.{told_rails};
 
 use crate::parts::{one, output_of, stage_name};

@@ -13,7 +13,7 @@ use Rattle.fault_instructions.specs.AddedNames.{own_name, mode_variable, mode_sy
 use Rattle.fault_instructions.specs.KindTypes.{type_of_kind}
 use Rattle.fault_rules.specs.Sites.{OwnedSlice, owned, a_slice, a_mode, item_sites}
 use Rattle.fault_rules.specs.Rules.{is_program_name, target_kind, broken_at}
-use Rattle.fault_rules.specs.Counting.{instances_of as count_of, count_broken_at}
+use Rattle.fault_rules.specs.CountLimits.{instances_of as count_of, count_broken_at}
 use Rattle.fault_rules.specs.FirstBroken.{AllKept}
 use Rattle.fault_extend_laws.specs.Uses.{Use, uses_at}
 use Rattle.fault_extend_laws.specs.Expressions.{KeepsNames, KeepsUse}

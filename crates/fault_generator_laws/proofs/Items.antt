@@ -6,7 +6,7 @@ use Rattle.smv_language.specs.ProgramTree.{Text, boolean, ModuleTree, ProgramTre
 use Rattle.smv_language.specs.Texts.{is_among}
 use Rattle.smv_language.specs.declared.program.Moment.TheVariants.{Always}
 use Rattle.smv_language.specs.Scope.{kind_at, state}
-use Rattle.smv_flat_laws.specs.Resolved.{has_next}
+use Rattle.smv_flat_laws.specs.NameResolution.{has_next}
 use Rattle.smv_language.specs.Flat.{FlatInstance}
 use Rattle.smv_flat_laws.specs.Items.{Item, a_declaration, a_definition, an_assignment, NumberedModule}
 use Rattle.smv_flat_laws.specs.Rules.{no_main, main_has_parameters, double_module, double_name, no_such_name, not_a_target, double_assign, define_loop, next_here, input_here, the_program, a_header, an_item, a_use, names_of_item, HasNoValue, is_target, may_be_assigned, IsKept}

@@ -20,12 +20,12 @@ use Rattle.fault_instructions.specs.SpellsInstructions.{SpellsInstructions, Byte
 use Rattle.fault_instructions.proofs.InstructionSpells.{instructions_spell}
 use Rattle.fault_instructions.proofs.OneInstructions.{one_instructions}
 use Rattle.fault_reader.specs.InstructionPlaces.{IsInstructions}
-use Rattle.fault_reader.specs.Within.{HaveInstructionDepths, AreInstructionsTooDeep}
+use Rattle.fault_reader.specs.InstructionDepths.{HaveInstructionDepths, AreInstructionsTooDeep}
 use Rattle.smv_expression_reader.specs.declared.fault.ParseFault.{ParseFault}
 use Rattle.smv_expression_reader.specs.declared.fault.ParseFault.TheVariants as parse
 use Rattle.smv_expression_reader.specs.Stops.{IsExpression, IsTooDeep, IsFrontOf, StopsAt, FaultMeans}
 use Rattle.smv_model_reader.specs.Symbols.{IsProgram}
-use Rattle.smv_model_reader.specs.Within.{HasProgramDepths, IsProgramTooDeep}
+use Rattle.smv_model_reader.specs.ProgramDepths.{HasProgramDepths, IsProgramTooDeep}
 use Rattle.fault_generator.specs.Generator.{generated_model, generated_instructions, generated_top}
 use Rattle.fault_generator.proofs.Writable.{model_writable, instructions_writable, top_writable}
 use Rattle.fault_generator_laws.specs.Laws.{GeneratedTextIsRead, InstructionTextIsRead, TopTextIsRead}

@@ -6,7 +6,7 @@ use Rattle.smv_language.specs.ProgramTree.{Text, Path, Formula, boolean, Section
 use Rattle.smv_language.specs.Scope.{Place, state, a_variable, kind_in_sections, Key, define_key, actual_key, a_variable_at, means_in}
 use Rattle.smv_language.specs.Trace.{Each}
 use Rattle.smv_language.specs.Flat.{FlatInstance}
-use Rattle.smv_flat_laws.specs.Resolved.{leaves_in}
+use Rattle.smv_flat_laws.specs.NameResolution.{leaves_in}
 use Rattle.smv_flat_laws.specs.Items.{Item, NumberedItem, numbered_from, items_of_section, items_named, instances_of}
 use Rattle.smv_flat_laws.specs.Rules.{expression_of}
 use Rattle.smv_flat_laws.specs.Model.{Root, roots_of_item, roots_of, keys_of_meaning, AreNamed, Adds, AddsAll, stands, comes, no_more, one_more}

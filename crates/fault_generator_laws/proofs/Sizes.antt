@@ -7,7 +7,7 @@ use Rattle.smv_language.specs.Tree.{Tree}
 use Rattle.smv_language.specs.ProgramTree.{Text, DeclaredTree, boolean, ProgramTree}
 use Rattle.smv_language.specs.Scope.{Place, Role, state, input, frozen_role, undeclared, formal_from, kind_in_decls, kind_in_sections, kind_in}
 use Rattle.smv_language.specs.Flat.{FlatLeaf, FlatInstance, FlatVariable, FlatFormula, FlatModel}
-use Rattle.smv_flat_laws.specs.Resolved.{Resolver, Definition}
+use Rattle.smv_flat_laws.specs.NameResolution.{Resolver, Definition}
 use Rattle.smv_flat_laws.specs.History.{Mode, bit_variable, bit_variables, bit_at_first, bits_at_first, bit_at_step, bits_at_step, with_history}
 use Rattle.smv_flat_laws.specs.Items.{Item, items_named, Visit, variable_declared, variables_of}
 use Rattle.smv_flat_laws.specs.Model.{Condition, plain, now_among, next_among, kept, Written, written_at, conditions, first_conditions, each_conditions, step_conditions, kept_conditions, IsConditionTree, IsFormulaOf, IsVariableOf, first_appearances, symbols_of_item, symbols_of, IsDefinitionOf, IsFlatOf}
@@ -16,7 +16,7 @@ use Rattle.smv_flat_laws.proofs.Variables.{both_at_second}
 use Rattle.smv_type_laws.specs.Costs.{cost_of, declared_cost, formulas_cost, model_cost, digits_in, role_width, declared_width, state_bits}
 use Rattle.smv_type_laws.specs.Models.{is_too_large}
 use Rattle.fault_instructions.specs.AddedNames.{own_name, mode_variable, mode_symbol}
-use Rattle.fault_weave.specs.Woven.{mode_type, woven}
+use Rattle.fault_weave.specs.WovenProgram.{mode_type, woven}
 use Rattle.fault_generator.specs.Generator.{stage_name, relay_slice, generated_instructions}
 use Rattle.fault_generator_laws.specs.Laws.{WovenIsSmall}
 use Rattle.fault_generator_laws.proofs.Stages.{relay_with, AreStages, generated_of_stages}

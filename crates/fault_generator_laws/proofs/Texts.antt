@@ -11,9 +11,9 @@ use Rattle.smv_flat_laws.proofs.Lists.{each_more}
 use Rattle.fault_instructions.specs.Instructions.{EffectTree, stuck_at, ModeTree, SliceTree, ExtensionTree, InstructionTree}
 use Rattle.fault_instructions.specs.InstructionText.{instructions_text, extension_words}
 use Rattle.fault_instructions.specs.SpellsInstructions.{SpellsEffect, e_stuck, e_follows, e_inverted, e_random, e_erroneous, e_frozen, e_pick, e_offset, e_ramp, SpellsGuard, no_guard, a_guard, SpellsMode, a_mode, SpellsSlice, a_slice, SpellsExtension, an_extension, SpellsInstructions, unnamed, named}
-use Rattle.fault_reader.specs.Within.{in_effect, in_guard, in_mode, in_slice, in_extension, in_instructions}
-use Rattle.smv_expression_reader.specs.Within.{AreWithin}
-use Rattle.smv_model_reader.specs.Within.{HasProgramDepths}
+use Rattle.fault_reader.specs.InstructionDepths.{in_effect, in_guard, in_mode, in_slice, in_extension, in_instructions}
+use Rattle.smv_expression_reader.specs.ExpressionDepths.{AreWithin}
+use Rattle.smv_model_reader.specs.ProgramDepths.{HasProgramDepths}
 use Rattle.fault_generator.specs.Generator.{stage_name, output_of, stage, dead_formula, dead_section, relay_module, generated_instructions}
 use Rattle.fault_generator_laws.specs.Laws.{GeneratedTextIsShort, GeneratedTextHasDepths, InstructionTextIsShort, InstructionTextHasDepths, TopTextHasDepths}
 use Rattle.fault_generator_laws.proofs.Stages.{IsStageBefore, stages_from, main_of, program_of, AreStages, generated_of_stages}

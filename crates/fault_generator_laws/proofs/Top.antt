@@ -10,7 +10,7 @@ use Rattle.smv_flat_laws.specs.Model.{IsFlatOf}
 use Rattle.smv_flat_laws.specs.Rules.{Rule, no_such_name, next_here, input_here, expression_of, Needs, Leads, is_input_kind, MeansInput, ReadsInput}
 use Rattle.smv_flat_laws.specs.ValueRules.{BreaksValue}
 use Rattle.smv_flat_laws.proofs.Resolving.{same_meaning}
-use Rattle.smv_type_laws.specs.Judged.{KindRule, Judged}
+use Rattle.smv_type_laws.specs.ExpressionKinds.{KindRule, Judged}
 use Rattle.smv_type_laws.specs.Costs.{cost_of}
 use Rattle.smv_type_laws.specs.Models.{judged_in, broken_condition, least, size_fault, top_fault}
 use Rattle.fault_generator.specs.Generator.{stage_name, relay_module, dead_formula, generated_top}

@@ -10,10 +10,10 @@ use Rattle.smv_language.specs.ProgramTree.{Text, Path, Formula, DeclaredTree, bo
 use Rattle.smv_language.specs.Scope.{Role, state, input, frozen_role}
 use Rattle.smv_language.specs.Trace.{Each}
 use Rattle.smv_language.specs.Flat.{FlatLeaf, flat_variable, flat_symbol, flat_definition, FlatVariable, FlatFormula, FlatModel}
-use Rattle.smv_flat_laws.specs.Resolved.{IsResolved}
+use Rattle.smv_flat_laws.specs.NameResolution.{IsResolved}
 use Rattle.smv_flat_laws.proofs.Lists.{each_more}
-use Rattle.smv_type_laws.specs.Judged.{Kind, truth_class, Judged, judged_not, judged_connective, judged_same, judge}
-use Rattle.smv_type_laws.specs.Declared.{judged_declared}
+use Rattle.smv_type_laws.specs.ExpressionKinds.{Kind, truth_class, Judged, judged_not, judged_connective, judged_same, judge}
+use Rattle.smv_type_laws.specs.DeclaredKinds.{judged_declared}
 use Rattle.smv_type_laws.specs.Models.{kind_at, leaf_kind, judged_variables, judged_after, judged_definitions, kind_of_leaf, judged_in, broken_condition, variable_breaches, definition_breaches, condition_breaches, breaches, IsTyped}
 use Rattle.smv_type_laws.specs.Costs.{cost_of, declared_cost, formulas_cost, model_cost, role_width, declared_width, state_bits}
 use Rattle.smv_type_laws.proofs.Mapped.{judge_mapped, cost_mapped}

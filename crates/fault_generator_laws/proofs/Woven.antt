@@ -10,7 +10,7 @@ use Rattle.smv_flat_laws.specs.Rules.{too_many, Site, a_header, an_item, a_visit
 use Rattle.smv_flat_laws.proofs.Reaches.{each_right}
 use Rattle.smv_flat_laws.proofs.Conditions.{each_join, each_flat}
 use Rattle.fault_instructions.specs.AddedNames.{own_name, mode_variable}
-use Rattle.fault_weave.specs.Woven.{mode_type, woven_module, woven}
+use Rattle.fault_weave.specs.WovenProgram.{mode_type, woven_module, woven}
 use Rattle.fault_generator.specs.Generator.{stage_name, relay_module, relay_slice, generated_instructions, generated_model}
 use Rattle.fault_generator_laws.specs.Laws.{WovenIsWithinNumbers, WovenBreaksNoNumber}
 use Rattle.fault_generator_laws.proofs.Stages.{program_with, generated_of_stages}

@@ -20,7 +20,12 @@
 //! ```
 #![tactic(auto)]
 
-ghost use Rattle.fault_generator_laws.specs.Laws.{GeneratedIsAccepted, GeneratedIsTyped, GeneratedTopKeepsNames, GeneratedTopIsTyped, GeneratedItemsAreKept, GeneratedFaultsAreFew, GeneratedUsesAreKept, GeneratedFaultsAreStages, WovenIsWithinNumbers, WovenIsSmall, GeneratedTextIsShort, GeneratedTextHasDepths, InstructionTextIsShort, InstructionTextHasDepths, TopTextHasDepths, GeneratedTextIsRead, InstructionTextIsRead, TopTextIsRead, WovenBreaksNoNumber};
+ghost use Rattle.fault_generator_laws.specs.Laws.{GeneratedIsAccepted, GeneratedIsTyped, GeneratedTopKeepsNames, GeneratedTopIsTyped};
+ghost use Rattle.fault_generator_laws.specs.Laws.{GeneratedItemsAreKept, GeneratedFaultsAreFew, GeneratedUsesAreKept};
+ghost use Rattle.fault_generator_laws.specs.Laws.{GeneratedFaultsAreStages, WovenIsWithinNumbers, WovenIsSmall, GeneratedTextIsShort};
+ghost use Rattle.fault_generator_laws.specs.Laws.{GeneratedTextHasDepths, InstructionTextIsShort, InstructionTextHasDepths};
+ghost use Rattle.fault_generator_laws.specs.Laws.{TopTextHasDepths, GeneratedTextIsRead, InstructionTextIsRead, TopTextIsRead};
+ghost use Rattle.fault_generator_laws.specs.Laws.{WovenBreaksNoNumber};
 
 /// A generated model of less than 1,000 stages breaks no rule of names or of kinds, and no limit.
 pub fn generated_models_are_lawful()

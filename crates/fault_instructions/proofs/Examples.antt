@@ -12,7 +12,7 @@ use Rattle.fault_instructions.specs.Instructions.{stuck_at, erroneous, frozen, o
 use Rattle.fault_instructions.specs.AddedNames.{own_name, mode_symbol}
 use Rattle.fault_instructions.specs.Effects.{clipped}
 use Rattle.fault_instructions.specs.Templates.{number_tree, branch, ramp_rule, ramp_first}
-use Rattle.fault_instructions.specs.Allowed.{fault_of}
+use Rattle.fault_instructions.specs.AllowedEffects.{fault_of}
 use Rattle.fault_instructions.specs.declared.fault.EffectFault.TheVariants.{WrongKind, Outside, OneValueOnly}
 
 -- 7 and 5 more, clipped to 0..9

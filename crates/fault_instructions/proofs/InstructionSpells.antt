@@ -10,7 +10,7 @@ use Rattle.smv_language.specs.Values.{Value, truth, number, symbol, value_text}
 use Rattle.smv_language.specs.Lexemes.{Lexeme, word, num, sign}
 use Rattle.smv_language.specs.SpellsProgram.{SpellsMany, no_more, one_more}
 use Rattle.smv_language.specs.Text.{each_after, joined, text_of, all_of}
-use Rattle.smv_language.specs.Printed.{printed, printed_int, in_brackets}
+use Rattle.smv_language.specs.PrintedTokens.{printed, printed_int, in_brackets}
 use Rattle.smv_language.specs.Trace.{Each}
 use Rattle.smv_language.proofs.Pieces.{Reads, nothing, then, as_lexemes, piece_reads, whole_reads}
 use Rattle.smv_language.proofs.TokenTexts.{Ends, blank, line_feed, is_open_brace, is_close_brace, is_comma, is_semicolon, is_colon, is_word, AreDigits, digits_read}

@@ -5,7 +5,7 @@ use Rattle.smv_lexer.specs.declared.token.TokenKind.TheVariants as k
 use Rattle.smv_language.specs.ProgramTree.{Text, Formula}
 use Rattle.smv_language.specs.Values.{Value}
 use Rattle.smv_language.specs.Lexemes.{Lexeme, word, sign}
-use Rattle.smv_language.specs.Printed.{IsSmall}
+use Rattle.smv_language.specs.PrintedTokens.{IsSmall}
 use Rattle.smv_language.proofs.Spelled.{IsSign, Fits, AllFit, front, back, tokens_fit, int_writable, spelled_writable, many_writable}
 use Rattle.fault_instructions.specs.Instructions.{EffectTree, ModeTree, SliceTree, ExtensionTree, InstructionTree}
 use Rattle.fault_instructions.specs.SpellsInstructions.{SpellsConst, const_true, const_false, const_int, const_name, SpellsEffect, e_stuck, e_follows, e_inverted, e_random, e_erroneous, e_frozen, e_pick, e_offset, e_ramp, SpellsGuard, no_guard, a_guard, IsTokenText, number_text, word_text, sign_of, SpellsMark, no_mark, a_mark, SpellsMode, a_mode, SpellsSlice, a_slice, SpellsExtension, an_extension, SpellsInstructions, unnamed, named, BytesSpellInstructions}

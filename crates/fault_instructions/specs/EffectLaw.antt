@@ -7,7 +7,8 @@ use Rattle.smv_language.specs.Values.{Value, truth, symbol, Values, one, has, op
 use Rattle.smv_language.specs.Texts.{same_text}
 use Rattle.smv_language.specs.Evaluate.{Leaves, evaluate}
 use Rattle.smv_language.specs.Trace.{Each, in_domain}
-use Rattle.fault_instructions.specs.Instructions.{EffectTree, stuck_at, follows, inverted, random, erroneous, frozen, stuck_at_pick, offset, ramp_down, SliceTree}
+use Rattle.fault_instructions.specs.Instructions.{EffectTree, stuck_at, follows, inverted, random, erroneous, frozen, stuck_at_pick, offset}
+use Rattle.fault_instructions.specs.Instructions.{ramp_down, SliceTree}
 use Rattle.fault_instructions.specs.AddedNames.{ModeState, own_name, mode_variable, mode_symbol}
 use Rattle.fault_instructions.specs.Effects.{Allows}
 use Rattle.fault_instructions.specs.Templates.{branch, rules, first_rules}
@@ -19,7 +20,8 @@ pub record SliceLeaves (s : SliceTree) (type : DeclaredTree) (now : Leaves Path)
   pub own_leaf : now (own_name s.target ∷ []) ≡ Some (one own)
   pub mode_leaf : now (mode_variable s.name ∷ []) ≡ Some (one (symbol (mode_symbol s.name st)))
   pub symbol_leaves : (st' : ModeState) → IsKnown s st' → now (mode_symbol s.name st' ∷ []) ≡ Some (one (symbol (mode_symbol s.name st')))
-  pub type_leaves : (ms : List Member) → type ≡ members ms → Each (λ d. (x : Text) → d ≡ member.Symbol x → now (x ∷ []) ≡ Some (one (symbol x))) ms
+  pub type_leaves : (ms : List Member) → type ≡ members ms →
+      Each (λ d. (x : Text) → d ≡ member.Symbol x → now (x ∷ []) ≡ Some (one (symbol x))) ms
 
 -- the mode of this name stands
 abbrev pub stands_at : ModeState → Text → Bool
@@ -60,8 +62,10 @@ FirstRuleHolds now _ = Unit {0}
 -- in a mode that stands next, the branch and the rule sections allow a read value exactly where the effect does
 abbrev pub EffectLaw : Type 0
 EffectLaw =
-    (e : EffectTree) (s : SliceTree) (type : DeclaredTree) (mode : Text) (now next : Leaves Path) (before own_before own x : Value) (st : ModeState) →
-    IsKnown s (Some mode) → mode ≢ codes "nominal" → MayStand e type → IsUniform type → IsTrue (in_domain type before) → IsTrue (in_domain type own) → IsTrue (in_domain type x) →
+    (e : EffectTree) (s : SliceTree) (type : DeclaredTree) (mode : Text) (now next : Leaves Path) (before own_before own x : Value)
+    (st : ModeState) →
+    IsKnown s (Some mode) → mode ≢ codes "nominal" → MayStand e type → IsUniform type → IsTrue (in_domain type before) →
+    IsTrue (in_domain type own) → IsTrue (in_domain type x) →
     SliceLeaves s type now before own_before st → SliceLeaves s type next x own (Some mode) →
     ((Gives next next (branch e type s.target) x × Each (RuleHolds now next) (rules e s.name mode s.target))
     ↔ Allows e (Gives next next) type own before (opposite (stands_at st mode)) x)
@@ -71,7 +75,9 @@ EffectLaw =
 abbrev pub FirstEffectLaw : Type 0
 FirstEffectLaw =
     (e : EffectTree) (s : SliceTree) (type : DeclaredTree) (mode : Text) (now : Leaves Path) (own x : Value) →
-    IsKnown s (Some mode) → mode ≢ codes "nominal" → MayStand e type → IsUniform type → IsTrue (in_domain type own) → IsTrue (in_domain type x) →
+    IsKnown s (Some mode) → mode ≢ codes "nominal" → MayStand e type → IsUniform type → IsTrue (in_domain type own) →
+    IsTrue (in_domain type x) →
     SliceLeaves s type now x own (Some mode) →
-    ((Gives now now (branch e type s.target) x × Each (FirstRuleHolds now) (rules e s.name mode s.target) × Each (FirstRuleHolds now) (first_rules e s.name mode s.target))
+    ((Gives now now (branch e type s.target) x × Each (FirstRuleHolds now) (rules e s.name mode s.target)
+    × Each (FirstRuleHolds now) (first_rules e s.name mode s.target))
     ↔ Allows e (Gives now now) type own own true x)

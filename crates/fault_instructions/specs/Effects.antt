@@ -3,7 +3,8 @@ use Rattle.std.specs.Prelude.{◌≡◌, ◌≢◌, ℤ, Bool, true, false, IsTr
 use Rattle.smv_language.specs.ProgramTree.{Formula, DeclaredTree, range}
 use Rattle.smv_language.specs.Values.{Value, truth, number, opposite}
 use Rattle.smv_language.specs.Trace.{in_domain}
-use Rattle.fault_instructions.specs.Instructions.{EffectTree, stuck_at, follows, inverted, random, erroneous, frozen, stuck_at_pick, offset, ramp_down}
+use Rattle.fault_instructions.specs.Instructions.{EffectTree, stuck_at, follows, inverted, random, erroneous, frozen, stuck_at_pick, offset}
+use Rattle.fault_instructions.specs.Instructions.{ramp_down}
 
 -- the number of the range that is nearest
 abbrev pub clipped : ℤ → ℤ → ℤ → ℤ

@@ -8,7 +8,8 @@ use Rattle.fault_instructions.specs.declared.instructions.Dynamics.{Dynamics}
 use Rattle.fault_instructions.specs.declared.instructions.Dynamics.TheVariants.{Permanent, Transient}
 use Rattle.fault_instructions.specs.declared.instructions.Start.{Start}
 use Rattle.fault_instructions.specs.declared.instructions.Start.TheVariants.{Nominal, Any}
-use Rattle.fault_instructions.specs.Instructions.{EffectTree, stuck_at, follows, inverted, random, erroneous, frozen, stuck_at_pick, offset, ramp_down, ModeTree, SliceTree, ExtensionTree, InstructionTree}
+use Rattle.fault_instructions.specs.Instructions.{EffectTree, stuck_at, follows, inverted, random, erroneous, frozen, stuck_at_pick, offset}
+use Rattle.fault_instructions.specs.Instructions.{ramp_down, ModeTree, SliceTree, ExtensionTree, InstructionTree}
 
 -- an effect: its word, and its arguments in parentheses
 abbrev pub effect_text : EffectTree → Text
@@ -52,7 +53,8 @@ start_text Any = codes " INITIALLY ANY"
 
 -- a slice: its first line after two spaces, then its modes
 abbrev pub slice_text : SliceTree → Text
-slice_text s = codes "  SLICE " ++ (s.name ++ (codes " AFFECTS " ++ (s.target ++ (start_text s.start ++ (codes " WITH\n" ++ all_of (map mode_line s.modes))))))
+slice_text s = codes "  SLICE "
+    ++ (s.name ++ (codes " AFFECTS " ++ (s.target ++ (start_text s.start ++ (codes " WITH\n" ++ all_of (map mode_line s.modes))))))
 
 -- the words before the name of a module, and before that of the file
 unfoldable pub extension_words : Text

@@ -12,7 +12,7 @@ use Rattle.fault_instructions.specs.declared.instructions.Extension.{Extension}
 use Rattle.fault_instructions.specs.declared.instructions.Instructions.{Instructions}
 use Rattle.smv_language.specs.ProgramTree.{Text, Path, Formula}
 use Rattle.smv_language.specs.declared.expr.Expr.{Expr}
-use Rattle.smv_language.specs.Written.{tree_of}
+use Rattle.smv_language.specs.ExpressionTree.{tree_of}
 use Rattle.smv_language.specs.Values.{Value, truth, number, symbol}
 use Rattle.smv_language.specs.Texts.{same_text}
 

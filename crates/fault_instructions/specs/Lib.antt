@@ -8,7 +8,7 @@ pub mod Numbers
 pub mod Effects
 pub mod Templates
 pub mod EffectLaw
-pub mod Allowed
+pub mod AllowedEffects
 pub mod KindTypes
 pub mod Weavable
 pub mod WeaveNumbers

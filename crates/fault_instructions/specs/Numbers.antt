@@ -4,7 +4,8 @@ use Rattle.smv_language.specs.declared.program.Member.{Member}
 use Rattle.smv_language.specs.declared.program.Member.TheVariants as member
 use Rattle.smv_language.specs.ProgramTree.{DeclaredTree, boolean, range, members, instance}
 use Rattle.smv_language.specs.Values.{Value, truth, number, symbol}
-use Rattle.fault_instructions.specs.Instructions.{EffectTree, stuck_at, follows, inverted, random, erroneous, frozen, stuck_at_pick, offset, ramp_down}
+use Rattle.fault_instructions.specs.Instructions.{EffectTree, stuck_at, follows, inverted, random, erroneous, frozen, stuck_at_pick, offset}
+use Rattle.fault_instructions.specs.Instructions.{ramp_down}
 
 -- the number's negation is within 64 bits
 abbrev pub HasNegation : ℤ → Type 0

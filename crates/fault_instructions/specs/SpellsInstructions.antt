@@ -13,7 +13,8 @@ use Rattle.fault_instructions.specs.declared.instructions.Dynamics.{Dynamics}
 use Rattle.fault_instructions.specs.declared.instructions.Dynamics.TheVariants.{Permanent, Transient}
 use Rattle.fault_instructions.specs.declared.instructions.Start.{Start}
 use Rattle.fault_instructions.specs.declared.instructions.Start.TheVariants.{Nominal, Any}
-use Rattle.fault_instructions.specs.Instructions.{EffectTree, stuck_at, follows, inverted, random, erroneous, frozen, stuck_at_pick, offset, ramp_down, ModeTree, SliceTree, ExtensionTree, InstructionTree}
+use Rattle.fault_instructions.specs.Instructions.{EffectTree, stuck_at, follows, inverted, random, erroneous, frozen, stuck_at_pick, offset}
+use Rattle.fault_instructions.specs.Instructions.{ramp_down, ModeTree, SliceTree, ExtensionTree, InstructionTree}
 
 -- const = "TRUE" | "FALSE" | int | name
 pub data SpellsConst : List Lexeme → Value → Type 0 where
@@ -24,14 +25,17 @@ pub data SpellsConst : List Lexeme → Value → Type 0 where
 
 -- an effect is its word, and its arguments in parentheses where it has some
 pub data SpellsEffect : List Lexeme → EffectTree → Type 0 where
-  e_stuck : {ts : List Lexeme} {c : Value} → SpellsConst ts c → SpellsEffect (word (codes "StuckAt") ∷ sign k.Open ∷ (ts ++ sign k.Close ∷ [])) (stuck_at c)
-  e_follows : {ts : List Lexeme} {e : Formula} → SpellsExpr ts e → SpellsEffect (word (codes "Follows") ∷ sign k.Open ∷ (ts ++ sign k.Close ∷ [])) (follows e)
+  e_stuck : {ts : List Lexeme} {c : Value} → SpellsConst ts c →
+      SpellsEffect (word (codes "StuckAt") ∷ sign k.Open ∷ (ts ++ sign k.Close ∷ [])) (stuck_at c)
+  e_follows : {ts : List Lexeme} {e : Formula} → SpellsExpr ts e →
+      SpellsEffect (word (codes "Follows") ∷ sign k.Open ∷ (ts ++ sign k.Close ∷ [])) (follows e)
   e_inverted : SpellsEffect (word (codes "Inverted") ∷ []) inverted
   e_random : SpellsEffect (word (codes "Random") ∷ []) random
   e_erroneous : SpellsEffect (word (codes "Erroneous") ∷ []) erroneous
   e_frozen : SpellsEffect (word (codes "Frozen") ∷ []) frozen
   e_pick : SpellsEffect (word (codes "StuckAtPick") ∷ []) stuck_at_pick
-  e_offset : {ts : List Lexeme} {d : ℤ} → SpellsInt ts d → SpellsEffect (word (codes "Offset") ∷ sign k.Open ∷ (ts ++ sign k.Close ∷ [])) (offset d)
+  e_offset : {ts : List Lexeme} {d : ℤ} → SpellsInt ts d →
+      SpellsEffect (word (codes "Offset") ∷ sign k.Open ∷ (ts ++ sign k.Close ∷ [])) (offset d)
   e_ramp : {xs ys : List Lexeme} {d f : ℤ} → SpellsInt xs d → SpellsInt ys f →
       SpellsEffect (word (codes "RampDown") ∷ sign k.Open ∷ (xs ++ sign k.Comma ∷ (ys ++ sign k.Close ∷ []))) (ramp_down d f)
 
@@ -79,11 +83,13 @@ pub data SpellsSlice : List Lexeme → SliceTree → Type 0 where
 -- extension = "EXTENSION" "OF" "MODULE" name { slice }
 pub data SpellsExtension : List Lexeme → ExtensionTree → Type 0 where
   an_extension : {x : Text} {ts : List Lexeme} {ss : List SliceTree} → is_reserved x ≡ false → SpellsMany SpellsSlice ts ss →
-      SpellsExtension (word (codes "EXTENSION") ∷ word (codes "OF") ∷ word (codes "MODULE") ∷ word x ∷ ts) (record { of_module = x; slices = ss })
+      SpellsExtension (word (codes "EXTENSION") ∷ word (codes "OF") ∷ word (codes "MODULE") ∷ word x
+      ∷ ts) (record { of_module = x; slices = ss })
 
 -- file = [ "FAULT" "EXTENSION" name ] { extension }
 pub data SpellsInstructions : List Lexeme → InstructionTree → Type 0 where
-  unnamed : {ts : List Lexeme} {xs : List ExtensionTree} → SpellsMany SpellsExtension ts xs → SpellsInstructions ts (record { name = None; extensions = xs })
+  unnamed : {ts : List Lexeme} {xs : List ExtensionTree} → SpellsMany SpellsExtension ts xs →
+      SpellsInstructions ts (record { name = None; extensions = xs })
   named : {x : Text} {ts : List Lexeme} {xs : List ExtensionTree} → is_reserved x ≡ false → SpellsMany SpellsExtension ts xs →
       SpellsInstructions (word (codes "FAULT") ∷ word (codes "EXTENSION") ∷ word x ∷ ts) (record { name = Some x; extensions = xs })
 

@@ -4,10 +4,13 @@ use Rattle.smv_language.specs.declared.expr.Op.TheVariants as op
 use Rattle.smv_language.specs.declared.program.Member.{Member}
 use Rattle.smv_language.specs.declared.program.Member.TheVariants as member
 use Rattle.smv_language.specs.declared.program.Section.{Section}
-use Rattle.smv_language.specs.Tree.{Trees, truth as is_truth, number as is_number, leaf, not_of, negate, next_of, binary, choice, set_of, span, no_tree, tree_then, trees_from}
-use Rattle.smv_language.specs.ProgramTree.{Text, Path, Formula, DeclaredTree, boolean, range, members, instance, SectionTree, init, invar, trans, section_tree}
+use Rattle.smv_language.specs.Tree.{Trees, truth as is_truth, number as is_number, leaf, not_of, negate, next_of, binary, choice, set_of}
+use Rattle.smv_language.specs.Tree.{span, no_tree, tree_then, trees_from}
+use Rattle.smv_language.specs.ProgramTree.{Text, Path, Formula, DeclaredTree, boolean, range, members, instance, SectionTree, init, invar}
+use Rattle.smv_language.specs.ProgramTree.{trans, section_tree}
 use Rattle.smv_language.specs.Values.{Value, truth, number, symbol}
-use Rattle.fault_instructions.specs.Instructions.{EffectTree, stuck_at, follows, inverted, random, erroneous, frozen, stuck_at_pick, offset, ramp_down}
+use Rattle.fault_instructions.specs.Instructions.{EffectTree, stuck_at, follows, inverted, random, erroneous, frozen, stuck_at_pick, offset}
+use Rattle.fault_instructions.specs.Instructions.{ramp_down}
 use Rattle.fault_instructions.specs.AddedNames.{own_name, mode_variable, mode_symbol}
 use Rattle.smv_language.specs.Trace.{value_of_member}
 
@@ -19,7 +22,8 @@ named x = leaf (x ∷ [])
 abbrev pub number_tree : ℤ → Formula
 number_tree (pos n) = is_number (pos n)
 number_tree (negsuc n) =
-    if nat_eq n 2147483647 then binary op.Minus (negate (is_number (pos 2147483647))) (is_number (pos 1)) else negate (is_number (pos (suc n)))
+    if nat_eq n 2147483647 then binary op.Minus (negate (is_number (pos 2147483647))) (is_number (pos 1)) else negate
+    (is_number (pos (suc n)))
 
 -- the constant
 abbrev pub value_tree : Value → Formula
@@ -40,7 +44,8 @@ domain_tree (instance m actuals) = set_of no_tree
 
 -- the number of the range that is nearest to that of the formula
 abbrev pub clipped_tree : DeclaredTree → Formula → Formula
-clipped_tree (range lo hi) e = choice (binary op.Greater e (number_tree hi)) (number_tree hi) (choice (binary op.Less e (number_tree lo)) (number_tree lo) e)
+clipped_tree (range lo hi) e =
+    choice (binary op.Greater e (number_tree hi)) (number_tree hi) (choice (binary op.Less e (number_tree lo)) (number_tree lo) e)
 clipped_tree _ e = e
 
 -- what x may be in a mode of the effect, from its own value
@@ -86,7 +91,8 @@ pick_rule slice mode x = binary op.Implies (binary op.And (stands slice mode) (s
 -- where the mode stands next, the next read value is the greater of the floor and the one now less the step
 abbrev pub ramp_rule : ℤ → ℤ → Text → Text → Text → Formula
 ramp_rule d f slice mode x =
-    binary op.Implies (stands_next slice mode) (binary op.Equal (next_of (named x)) (greater_tree (binary op.Minus (named x) (number_tree d)) f))
+    binary op.Implies (stands_next slice mode)
+    (binary op.Equal (next_of (named x)) (greater_tree (binary op.Minus (named x) (number_tree d)) f))
 
 -- the rule sections of a mode
 abbrev pub rules : EffectTree → Text → Text → Text → List SectionTree
@@ -107,7 +113,8 @@ frozen_first slice mode x = binary op.Implies (stands slice mode) (binary op.Equ
 -- and for a ramp the greater of the floor and the own one less the step
 abbrev pub ramp_first : ℤ → ℤ → Text → Text → Text → Formula
 ramp_first d f slice mode x =
-    binary op.Implies (stands slice mode) (binary op.Equal (named x) (greater_tree (binary op.Minus (named (own_name x)) (number_tree d)) f))
+    binary op.Implies (stands slice mode)
+    (binary op.Equal (named x) (greater_tree (binary op.Minus (named (own_name x)) (number_tree d)) f))
 
 -- the first rule sections of a mode, in which its slice may start
 abbrev pub first_rules : EffectTree → Text → Text → Text → List SectionTree

@@ -2,15 +2,20 @@
 use Rattle.std.specs.Prelude.{◌≡◌, ◌≢◌, ℕ, IsTrue, Bool, false, List, [], ◌∷◌, Option, Some, None, codes}
 use Rattle.smv_language.specs.declared.program.Member.{Member}
 use Rattle.smv_language.specs.declared.program.Member.TheVariants as member
-use Rattle.smv_language.specs.Tree.{Tree, Trees, Branches, truth as is_truth, number as is_number, leaf, not_of, negate, next_of, binary, choice, case_of, set_of, span, no_tree, tree_then, no_branch, branch_then}
-use Rattle.smv_language.specs.ProgramTree.{Text, Path, Formula, DeclaredTree, boolean, range, members, instance, DeclTree, AssignmentTree, SectionTree, var, ivar, frozen as frozen_section, assign, init, invar, trans, ModuleTree, ProgramTree}
+use Rattle.smv_language.specs.Tree.{Tree, Trees, Branches, truth as is_truth, number as is_number, leaf, not_of, negate, next_of, binary}
+use Rattle.smv_language.specs.Tree.{choice, case_of, set_of, span, no_tree, tree_then, no_branch, branch_then}
+use Rattle.smv_language.specs.ProgramTree.{Text, Path, Formula, DeclaredTree, boolean, range, members, instance, DeclTree, AssignmentTree}
+use Rattle.smv_language.specs.ProgramTree.{SectionTree, var, ivar, frozen as frozen_section, assign, init, invar, trans, ModuleTree}
+use Rattle.smv_language.specs.ProgramTree.{ProgramTree}
 use Rattle.smv_language.specs.Values.{truth, one}
 use Rattle.smv_language.specs.Evaluate.{evaluate}
 use Rattle.smv_language.specs.Laws.{AllLeaves}
-use Rattle.smv_language.specs.Scope.{Place, Role, state, input, frozen_role, a_variable, a_define, an_instance, undeclared, kind_declared, kind_in, nth_formula, is_symbol, Meaning, Means}
+use Rattle.smv_language.specs.Scope.{Place, Role, state, input, frozen_role, a_variable, a_define, an_instance, undeclared, kind_declared}
+use Rattle.smv_language.specs.Scope.{kind_in, nth_formula, is_symbol, Meaning, Means}
 use Rattle.smv_language.specs.May.{Valuation, name_values}
 use Rattle.smv_language.specs.Trace.{IsInstance, Each, AtSome, in_domain, InDomains}
-use Rattle.fault_instructions.specs.Instructions.{EffectTree, stuck_at, follows, inverted, offset, ramp_down, ModeTree, SliceTree, InstructionTree, slices_of}
+use Rattle.fault_instructions.specs.Instructions.{EffectTree, stuck_at, follows, inverted, offset, ramp_down, ModeTree, SliceTree}
+use Rattle.fault_instructions.specs.Instructions.{InstructionTree, slices_of}
 use Rattle.fault_instructions.specs.Types.{IsUniform, IsKnown}
 use Rattle.fault_instructions.specs.AddedNames.{ModeState}
 use Rattle.fault_instructions.specs.AddedNames.{own_name, mode_variable, mode_symbol}
@@ -152,7 +157,11 @@ module _ (p : ProgramTree) (at : Place) (m : ModuleTree) where
 pub record IsWeavable (p : ProgramTree) (i : InstructionTree) : Type 0 where
   pub instances : (at : Place) (m : ModuleTree) → IsInstance p at m → IsLawfulInstance p at m
   pub slices : (at : Place) (m : ModuleTree) (s : SliceTree) → IsInstance p at m → Among (slices_of i m.name) s → IsLawfulSlice p at m s
-  pub targets_differ : (m : ModuleTree) (s t : SliceTree) → Among (slices_of i m.name) s → Among (slices_of i m.name) t → s.target ≡ t.target → s ≡ t
-  pub names_differ : (m : ModuleTree) (s t : SliceTree) → Among (slices_of i m.name) s → Among (slices_of i m.name) t → s.name ≡ t.name → s ≡ t
-  pub symbol_not_own : (m : ModuleTree) (s t : SliceTree) (st : ModeState) → Among (slices_of i m.name) s → Among (slices_of i m.name) t → IsKnown s st → mode_symbol s.name st ≢ own_name t.target
-  pub symbol_not_mode : (m : ModuleTree) (s t : SliceTree) (st : ModeState) → Among (slices_of i m.name) s → Among (slices_of i m.name) t → IsKnown s st → mode_symbol s.name st ≢ mode_variable t.name
+  pub targets_differ : (m : ModuleTree) (s t : SliceTree) → Among (slices_of i m.name) s → Among (slices_of i m.name) t →
+      s.target ≡ t.target → s ≡ t
+  pub names_differ : (m : ModuleTree) (s t : SliceTree) → Among (slices_of i m.name) s → Among (slices_of i m.name) t → s.name ≡ t.name →
+      s ≡ t
+  pub symbol_not_own : (m : ModuleTree) (s t : SliceTree) (st : ModeState) → Among (slices_of i m.name) s → Among (slices_of i m.name) t →
+      IsKnown s st → mode_symbol s.name st ≢ own_name t.target
+  pub symbol_not_mode : (m : ModuleTree) (s t : SliceTree) (st : ModeState) → Among (slices_of i m.name) s → Among (slices_of i m.name) t →
+      IsKnown s st → mode_symbol s.name st ≢ mode_variable t.name

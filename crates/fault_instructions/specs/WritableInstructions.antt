@@ -5,9 +5,10 @@ use Rattle.smv_lexer.specs.declared.token.TokenKind.TheVariants as k
 use Rattle.smv_lexer.specs.Tokens.{IsWord, IsNumber, number_of, sign_text}
 use Rattle.smv_language.specs.ProgramTree.{Text, Formula}
 use Rattle.smv_language.specs.Values.{Value, truth, number, symbol}
-use Rattle.smv_language.specs.Printed.{IsName, IsSmall, IsEnd, IsWritable}
+use Rattle.smv_language.specs.PrintedTokens.{IsName, IsSmall, IsEnd, IsWritable}
 use Rattle.smv_language.specs.Trace.{Each}
-use Rattle.fault_instructions.specs.Instructions.{EffectTree, stuck_at, follows, inverted, random, erroneous, frozen, stuck_at_pick, offset, ramp_down, ModeTree, SliceTree, ExtensionTree, InstructionTree}
+use Rattle.fault_instructions.specs.Instructions.{EffectTree, stuck_at, follows, inverted, random, erroneous, frozen, stuck_at_pick, offset}
+use Rattle.fault_instructions.specs.Instructions.{ramp_down, ModeTree, SliceTree, ExtensionTree, InstructionTree}
 
 -- a sign that does not end a mark
 abbrev pub IsInner : TokenKind → Type 0

@@ -1,9 +1,8 @@
 //! Small expressions, from which branches and rules are made: a function for each form.
 //! A negative number is the negation of a number ([`number`]).
-
 ghost use Rattle.std.specs.Prelude.{◌≡◌, ◌≤ℤ◌, negsuc, IfOk};
 ghost use Rattle.smv_language.specs.Tree.{not_of, negate, next_of, binary as binary_of, choice as choice_of, set_of, tree_then, no_tree};
-ghost use Rattle.smv_language.specs.Written.{tree_of};
+ghost use Rattle.smv_language.specs.ExpressionTree.{tree_of};
 ghost use Rattle.fault_instructions.specs.Templates.{named as named_tree, number_tree};
 
 use base_values::{Dotted, Items, Name, OutOfMemory};

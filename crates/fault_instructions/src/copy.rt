@@ -1,6 +1,5 @@
 //! Copies of instructions and of their parts. A collection keeps its allocator, so a copy of what holds one takes no other;
 //! an effect may hold none, so its copy is given one.
-
 ghost use Rattle.std.specs.Prelude.{◌≡◌, IfOk, map};
 ghost use Rattle.fault_instructions.specs.Instructions.{instruction_tree, extension_tree, slice_tree, mode_tree, effect_tree, guard_tree};
 

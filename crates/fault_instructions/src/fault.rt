@@ -1,5 +1,4 @@
-//! Which effects may stand at a variable: [`allowed`] tells the first demand that is broken, by `specs/Allowed.antt`.
-
+//! Which effects may stand at a variable: [`allowed`] tells the first demand that is broken, by `specs/AllowedEffects.antt`.
 ghost use Rattle.std.specs.Prelude.{◌≡◌, ◌+ℤ◌, ◌-ℤ◌, ◌&&◌, pos};
 ghost use Rattle.std.specs.Result.{result_err};
 ghost use Rattle.std.specs.List.{list_any};
@@ -8,7 +7,10 @@ ghost use Rattle.smv_language.specs.Values.{same_value, is_between, at_most, opp
 ghost use Rattle.smv_language.specs.Texts.{same_text};
 ghost use Rattle.smv_language.specs.Trace.{in_domain, is_member, value_of_member};
 ghost use Rattle.fault_instructions.specs.Instructions.{effect_tree, constant_value};
-ghost use Rattle.fault_instructions.specs.Allowed.{kind_of_members, is_of_kind as is_of_kind_of, differs as differs_from, members_differ, has_two_values as has_two_values_of, is_small as is_small_number, offset_fits as offset_fits_in, ramp_fits as ramp_fits_in, constant_fault, inverted_fault, offset_fault, ramp_fault, fault_of};
+ghost use Rattle.fault_instructions.specs.AllowedEffects.{kind_of_members, is_of_kind as is_of_kind_of, differs as differs_from};
+ghost use Rattle.fault_instructions.specs.AllowedEffects.{members_differ, has_two_values as has_two_values_of, is_small as is_small_number};
+ghost use Rattle.fault_instructions.specs.AllowedEffects.{offset_fits as offset_fits_in, ramp_fits as ramp_fits_in, constant_fault};
+ghost use Rattle.fault_instructions.specs.AllowedEffects.{inverted_fault, offset_fault, ramp_fault, fault_of};
 
 use crate::{Constant, Effect};
 use base_values::Name;
@@ -49,7 +51,8 @@ pub fn allowed(e: &Effect, d: &Declared) -> Result<(), EffectFault>
 /// `StuckAt`: the constant is of the variable's kind, and one of its values.
 fn constant_allowed(c: &Constant, d: &Declared) -> Result<(), EffectFault>
     ensures { result_err result
-        ≡ constant_fault (is_of_kind_of (declared_tree d.now) (constant_value c.now)) (in_domain (declared_tree d.now) (constant_value c.now)) }
+        ≡ constant_fault (is_of_kind_of (declared_tree d.now) (constant_value c.now))
+        (in_domain (declared_tree d.now) (constant_value c.now)) }
 {
     if !is_of_kind(d, c) {
         return Err(EffectFault::WrongKind);

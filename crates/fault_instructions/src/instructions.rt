@@ -1,5 +1,4 @@
 //! Instructions as they are written: [`Instructions`], with extensions, slices, modes and their effects.
-
 use base_values::{Dotted, Items, Name};
 use smv_language::Expr;
 

@@ -21,7 +21,7 @@
 //! rule section ([`branch`] and [`rule`]; the trees that they make stand in `specs/Templates.antt`). Where
 //! a slice may start in the mode, [`first_rule`] is a third part, for the first moment. That the parts
 //! together allow exactly what the effect does is a law: [`effects_allow`]. Which effects may stand at a
-//! variable of a type is [`allowed`], by `specs/Allowed.antt`. The layer above also uses the added names
+//! variable of a type is [`allowed`], by `specs/AllowedEffects.antt`. The layer above also uses the added names
 //! and the small parts of templates.
 //!
 //! ```text

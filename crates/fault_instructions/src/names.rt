@@ -1,8 +1,8 @@
 //! The names that a weave adds to a module: those of the own value, of a slice's state and of a mode's symbol.
 //! Each has a `#`, and `specs/AddedNames.antt` has their texts.
-
 ghost use Rattle.std.specs.Prelude.{◌≡◌, Some, None, IfOk};
-ghost use Rattle.fault_instructions.specs.AddedNames.{own_name as own_name_of, mode_variable as mode_variable_of, mode_symbol as mode_symbol_of};
+ghost use Rattle.fault_instructions.specs.AddedNames.{own_name as own_name_of, mode_variable as mode_variable_of};
+ghost use Rattle.fault_instructions.specs.AddedNames.{mode_symbol as mode_symbol_of};
 
 use base_values::{ByteList, Name, OutOfMemory};
 use std::alloc::Global;

@@ -1,14 +1,14 @@
 //! The branch of an effect: [`branch`] makes what the read value is assigned while the mode stands.
 //! The trees are those of `branch` in `specs/Templates.antt`.
-
 ghost use Rattle.std.specs.Prelude.{◌≡◌, IfOk, map, All};
 ghost use Rattle.smv_language.specs.ProgramTree.{declared_tree, range};
 ghost use Rattle.smv_language.specs.Tree.{binary as binary_of, choice as choice_of, not_of};
-ghost use Rattle.smv_language.specs.Written.{tree_of};
+ghost use Rattle.smv_language.specs.ExpressionTree.{tree_of};
 ghost use Rattle.fault_instructions.specs.Instructions.{effect_tree, constant_value};
 ghost use Rattle.fault_instructions.specs.AddedNames.{own_name as own_name_of};
 ghost use Rattle.fault_instructions.specs.Numbers.{HasNegation, ValueHasNegation, MemberHasNegation, EffectHasNegations, TypeHasNegations};
-ghost use Rattle.fault_instructions.specs.Templates.{named as named_tree, number_tree, value_tree, domain_tree, clipped_tree, branch as branch_of};
+ghost use Rattle.fault_instructions.specs.Templates.{named as named_tree, number_tree, value_tree, domain_tree, clipped_tree};
+ghost use Rattle.fault_instructions.specs.Templates.{branch as branch_of};
 ghost use Rattle.smv_language.specs.Trace.{value_of_member};
 
 use crate::build::{binary, choice, named, not, number, set_of_two};

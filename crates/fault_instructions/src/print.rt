@@ -1,12 +1,14 @@
 //! Printing instructions: [`print_instructions`]. All text goes to the end of one buffer, so the work is linear in the text.
-
 ghost use Rattle.std.specs.Prelude.{◌≡◌, ◌++◌, ℕ, List, codes, IfOk, OnOk, map};
 ghost use Rattle.smv_language.specs.Text.{text_of, all_of, joined};
-ghost use Rattle.smv_language.specs.Written.{tree_of};
-ghost use Rattle.fault_instructions.specs.Instructions.{instruction_tree, extension_tree, slice_tree, mode_tree, effect_tree, constant_value, guard_tree};
+ghost use Rattle.smv_language.specs.ExpressionTree.{tree_of};
+ghost use Rattle.fault_instructions.specs.Instructions.{instruction_tree, extension_tree, slice_tree, mode_tree, effect_tree};
+ghost use Rattle.fault_instructions.specs.Instructions.{constant_value, guard_tree};
 ghost use Rattle.fault_instructions.specs.SpellsInstructions.{BytesSpellInstructions};
 ghost use Rattle.fault_instructions.specs.WritableInstructions.{IsWritableInstructions};
-ghost use Rattle.fault_instructions.specs.InstructionText.{instructions_text, extension_text, slice_text, start_text, mode_line, mode_head, mark_text, guard_text, effect_text, dynamics_text, name_text, name_line, file_words as file_words_text, extension_words as extension_words_text};
+ghost use Rattle.fault_instructions.specs.InstructionText.{instructions_text, extension_text, slice_text, start_text, mode_line, mode_head};
+ghost use Rattle.fault_instructions.specs.InstructionText.{mark_text, guard_text, effect_text, dynamics_text, name_text, name_line};
+ghost use Rattle.fault_instructions.specs.InstructionText.{file_words as file_words_text, extension_words as extension_words_text};
 ghost use Rattle.smv_language.specs.Values.{value_text};
 
 use crate::instructions::{

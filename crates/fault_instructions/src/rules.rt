@@ -1,13 +1,16 @@
 //! The rule sections of an effect: [`rule`] for all steps, and [`first_rule`] for the first moment.
 //! They restrict the read value where its branch leaves several values open; the trees are those of `specs/Templates.antt`.
-
 ghost use Rattle.std.specs.Prelude.{◌≡◌, IfOk, Some};
 ghost use Rattle.smv_language.specs.Tree.{binary as binary_of, next_of};
-ghost use Rattle.smv_language.specs.Written.{tree_of};
+ghost use Rattle.smv_language.specs.ExpressionTree.{tree_of};
 ghost use Rattle.fault_instructions.specs.Instructions.{effect_tree};
 ghost use Rattle.fault_instructions.specs.AddedNames.{mode_symbol as mode_symbol_of, mode_variable as mode_variable_of};
 ghost use Rattle.fault_instructions.specs.Numbers.{HasNegation, EffectHasNegations};
-ghost use Rattle.fault_instructions.specs.Templates.{named as named_tree, number_tree, greater_tree, stands as stands_tree, stands_next as stands_next_tree, stays_tree, erroneous_rule as erroneous_tree, frozen_rule as frozen_tree, pick_rule as pick_tree, ramp_rule as ramp_tree, frozen_first as frozen_first_tree, ramp_first as ramp_first_tree, rules, first_rules, rule_sections};
+ghost use Rattle.fault_instructions.specs.Templates.{named as named_tree, number_tree, greater_tree, stands as stands_tree};
+ghost use Rattle.fault_instructions.specs.Templates.{stands_next as stands_next_tree, stays_tree, erroneous_rule as erroneous_tree};
+ghost use Rattle.fault_instructions.specs.Templates.{frozen_rule as frozen_tree, pick_rule as pick_tree, ramp_rule as ramp_tree};
+ghost use Rattle.fault_instructions.specs.Templates.{frozen_first as frozen_first_tree, ramp_first as ramp_first_tree, rules, first_rules};
+ghost use Rattle.fault_instructions.specs.Templates.{rule_sections};
 
 use crate::Effect;
 use crate::build::{binary, choice, named, next, number};

@@ -34,5 +34,6 @@ with_fraction (Some whole) digits = at_most_one (whole + number_of digits * 10 ^
 -- it, and at most one. None where the mark is no probability.
 abbrev pub units_of : List Text → Option ℕ
 units_of (x ∷ []) = whole_units x
-units_of (x ∷ point ∷ digits ∷ []) = if same_text point (codes ".") && is_fraction digits then with_fraction (whole_units x) digits else None
+units_of (x ∷ point ∷ digits ∷ []) =
+    if same_text point (codes ".") && is_fraction digits then with_fraction (whole_units x) digits else None
 units_of _ = None

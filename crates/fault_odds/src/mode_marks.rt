@@ -2,7 +2,6 @@
 //!
 //! The main function is [`marks`]: it judges every mode of the instructions in the order of their items, and then gives each fault the
 //! units of its mode, which it finds by the names of slice and mode.
-
 ghost use Rattle.std.specs.Prelude.{◌≡◌, ◌^◌, ◌<◌, ◌≤◌, ◌⊎◌, ◌++◌, flat_map, map, None, IfOk, IfErr, OnOk};
 ghost use Rattle.smv_language.specs.ProgramTree.{ProgramTree};
 ghost use Rattle.smv_language.specs.Texts.{same_text};
@@ -10,8 +9,11 @@ ghost use Rattle.fault_instructions.specs.Instructions.{instruction_tree, extens
 ghost use Rattle.fault_weave.specs.Faults.{HasFaults};
 ghost use Rattle.fault_extend.specs.WovenFaults.{fault_tree};
 ghost use Rattle.fault_odds.specs.Units.{one_in_units};
-ghost use Rattle.fault_odds.specs.Marks.{item_marks as marks_of_items, extension_marks, slice_marks, fault_of_mark, fault_of_units as fault_of_number, HasProbabilities, AreOdds};
-ghost use Rattle.fault_odds.specs.FirstMark.{IsWant, IsMarkFault, IsFaultOf, fault_at as fault_at_item, first_of, mark_units, mode_units as units_of_modes, units_in_slice as units_of_slice, slice_units as units_of_slices, extension_units as units_of_extensions, units_at};
+ghost use Rattle.fault_odds.specs.Marks.{item_marks as marks_of_items, extension_marks, slice_marks, fault_of_mark};
+ghost use Rattle.fault_odds.specs.Marks.{fault_of_units as fault_of_number, HasProbabilities, AreOdds};
+ghost use Rattle.fault_odds.specs.FirstMark.{IsWant, IsMarkFault, IsFaultOf, fault_at as fault_at_item, first_of, mark_units};
+ghost use Rattle.fault_odds.specs.FirstMark.{mode_units as units_of_modes, units_in_slice as units_of_slice};
+ghost use Rattle.fault_odds.specs.FirstMark.{slice_units as units_of_slices, extension_units as units_of_extensions, units_at};
 
 use crate::odds::OddsList;
 use crate::units::units_of_mark;

@@ -1,7 +1,6 @@
 //! The units of faults, and the bound of a set of them.
 //!
 //! [`OddsList`] has the units of each fault, and [`bound`] is the product of a set's units, rounded up at each factor.
-
 ghost use Rattle.std.specs.Prelude.{◌≡◌, ◌≤◌, ◌<◌, ◌-◌, ◌*◌, [], ◌∷◌, ◌++◌, All, length, slice_index_or, IfOk, OnOk, OnErr};
 ghost use Rattle.std.specs.Int.{div_ceil};
 ghost use Rattle.fault_odds.specs.Units.{one_in_units};

@@ -1,7 +1,6 @@
 //! The text of bounds and of their sum.
 //!
 //! The main function is [`print_odds`].
-
 ghost use Rattle.std.specs.Prelude.{◌≡◌, ◌+◌, ◌-◌, ◌++◌, ◌<◌, ◌≤◌, ◌^◌, codes, decimal, length, map, All, IfOk, OnOk};
 ghost use Rattle.fault_odds.specs.Bounds.{bound_sum, slack_of, units_in};
 ghost use Rattle.fault_odds.specs.OddsText.{last_digits, units_text, odds_lines, odds_text};
@@ -62,7 +61,8 @@ fn append_line(
 /// Appends the line of the sum.
 #[tactic(auto, using(crate::proofs::OddsLemmas::text_rules))]
 fn append_sum(alloc: Global, text: &mut ByteList, sum: u128, slack: u128) -> Result<(), OutOfMemory>
-    ensures { OnOk result (text.new ≡ text.old ++ (codes "sum " ++ (units_text sum ++ (codes " within " ++ (decimal slack ++ codes "\n"))))) }
+    ensures { OnOk result (text.new
+        ≡ text.old ++ (codes "sum " ++ (units_text sum ++ (codes " within " ++ (decimal slack ++ codes "\n"))))) }
 {
     text.append(b"sum ")?;
     append_units(alloc, text, sum)?;

@@ -1,12 +1,13 @@
 //! Marks that are probabilities, in units of 10^-18.
 //!
 //! The main function is [`units_of_mark`]; what is no decimal number from 0 to 1 has no units.
-
 ghost use Rattle.std.specs.Prelude.{◌≡◌, ◌↔◌, ◌<◌, ◌≤◌, ◌-◌, ◌*◌, ◌^◌, true, length, codes, Some, None, [], ◌∷◌, IfSome, IsTrue};
 ghost use Rattle.std.specs.List.{list_all};
 ghost use Rattle.smv_lexer.specs.Tokens.{number_of};
 ghost use Rattle.smv_language.specs.Texts.{same_text};
-ghost use Rattle.fault_odds.specs.Units.{one_in_units, is_digit as is_digit_byte, is_fraction as is_fraction_text, whole_units as whole_units_of, at_most_one as at_most_one_of, with_fraction as with_fraction_of, units_of};
+ghost use Rattle.fault_odds.specs.Units.{one_in_units, is_digit as is_digit_byte, is_fraction as is_fraction_text};
+ghost use Rattle.fault_odds.specs.Units.{whole_units as whole_units_of, at_most_one as at_most_one_of, with_fraction as with_fraction_of};
+ghost use Rattle.fault_odds.specs.Units.{units_of};
 
 use base_values::Name;
 

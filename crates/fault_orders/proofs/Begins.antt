@@ -9,7 +9,7 @@ use Rattle.smv_flat_laws.specs.FlatTrace.{stands, stands_in_some}
 use Rattle.fault_orders.specs.declared.Relation.{Relation}
 use Rattle.fault_orders.specs.declared.Relation.TheVariants.{Before, After, Together}
 use Rattle.fault_orders.specs.Relations.{BeginsAt}
-use Rattle.fault_orders.specs.Told.{begins_before}
+use Rattle.fault_orders.specs.RelationValues.{begins_before}
 use Rattle.fault_orders.specs.Laws.{Breaks}
 
 -- what speaks against a claim

@@ -8,11 +8,11 @@ use Rattle.smv_language.specs.Evaluate.{gives_applied, gives_not}
 use Rattle.smv_language.specs.Flat.{FlatModel, one_of, Holds}
 use Rattle.smv_flat_laws.specs.History.{Mode}
 use Rattle.smv_flat_laws.specs.FlatTrace.{stands, stands_in_some}
-use Rattle.fault_cause_laws.specs.Added.{with_addition}
+use Rattle.fault_cause_laws.specs.Additions.{with_addition}
 use Rattle.fault_cause_laws.proofs.AddedReadings.{gives_and, gives_opposite, get_last}
 use Rattle.fault_cause_laws.proofs.Columns.{one_added, IsForced, Fits}
 use Rattle.fault_orders.specs.Stage.{order_variable, order_at_first, order_at_step}
-use Rattle.fault_orders.specs.Told.{begins_before}
+use Rattle.fault_orders.specs.RelationValues.{begins_before}
 use Rattle.smv_flat_laws.proofs.HistoryTraces.{within_one, applied_or as gives_or}
 use Rattle.base_values.proofs.ListLaws.{get_left}
 

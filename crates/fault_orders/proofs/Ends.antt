@@ -13,7 +13,7 @@ use Rattle.sat_encoding_laws.proofs.HistoryFacts.{last_told}
 use Rattle.fault_cause_laws.specs.Columns.{with_values, with_value}
 use Rattle.fault_cause_laws.proofs.Columns.{with_values_length}
 use Rattle.fault_orders.specs.Relations.{BeginsAt, HasRelation}
-use Rattle.fault_orders.specs.Told.{begins_before, order_value, ordered_told, told_relation}
+use Rattle.fault_orders.specs.RelationValues.{begins_before, order_value, ordered_told, told_relation}
 use Rattle.fault_orders.specs.Laws.{EndsTellOrders, OwnValuesAreKept}
 use Rattle.fault_orders.proofs.Begins.{Stood, begins_somewhere, order_of}
 use Rattle.fault_orders.proofs.Speaking.{last_value, take_all}

@@ -9,14 +9,14 @@ use Rattle.smv_flat_laws.specs.History.{Mode, with_history}
 use Rattle.smv_flat_laws.specs.FlatTrace.{IsFlatMoment, IsFlatTrace, IsModeOf, stands_in_some, bits_after, told_from}
 use Rattle.smv_flat_laws.proofs.Lists.{length_end}
 use Rattle.smv_flat_laws.proofs.HistoryTraces.{history_exactly, domains_length}
-use Rattle.fault_cause_laws.specs.Added.{KnowsNames, beside, AreAdded}
+use Rattle.fault_cause_laws.specs.Additions.{KnowsNames, beside, AreAdded}
 use Rattle.fault_cause_laws.specs.Columns.{with_values, with_value}
 use Rattle.fault_cause_laws.proofs.Traces.{taken_apart}
 use Rattle.fault_cause_laws.proofs.Columns.{EachFrom, grown, one_added, forced, fitting}
 use Rattle.fault_cause_laws.proofs.AddedKnown.{knows_added, names_own, knows_history}
 use Rattle.std.proofs.lemmas.Option.{slice_get_within as within_of}
 use Rattle.fault_orders.specs.Stage.{order_variable, order_at_first, order_at_step, with_order, bit_number, stage}
-use Rattle.fault_orders.specs.Told.{order_value, ordered_told}
+use Rattle.fault_orders.specs.RelationValues.{order_value, ordered_told}
 use Rattle.fault_orders.specs.Laws.{ArePair}
 use Rattle.fault_orders.proofs.Booleans.{ordered, KnowsTwo, is_forced, does_fit, begins_ordered}
 use Rattle.sat_encoding_laws.proofs.HistoryPlaces.{get_past as get_after}

@@ -15,7 +15,7 @@ use Rattle.cut_right_laws.specs.Sets.{has_number}
 use Rattle.sat_encoding_laws.specs.FlatTraces.{ReachesTop, HasFailedNumber, IsNumbered, last_of}
 use Rattle.sat_encoding_laws.proofs.SetLaws.{has_contains, contains_has}
 use Rattle.sat_encoding_laws.proofs.HistoryFacts.{at_last, to_last, each_last, last_told}
-use Rattle.fault_cause_laws.specs.Added.{KnowsNames}
+use Rattle.fault_cause_laws.specs.Additions.{KnowsNames}
 use Rattle.fault_cause_laws.specs.Columns.{with_values, with_value}
 use Rattle.fault_cause_laws.proofs.AddedReadings.{get_last, truth_same}
 use Rattle.fault_cause_laws.proofs.Columns.{with_values_length}
@@ -23,7 +23,7 @@ use Rattle.std.proofs.lemmas.Option.{slice_get_within as within_of}
 use Rattle.fault_cause_laws.proofs.Grown.{HasGrown, grown_by, grown_history, gives_same}
 use Rattle.fault_orders.specs.declared.Relation.{Relation}
 use Rattle.fault_orders.specs.Stage.{order_variable, with_order, bit_number, stage, with_set, with_claim, against}
-use Rattle.fault_orders.specs.Told.{begins_before, order_value, ordered_told}
+use Rattle.fault_orders.specs.RelationValues.{begins_before, order_value, ordered_told}
 use Rattle.fault_orders.specs.Laws.{ArePair, Breaks, SpeaksAgainst, IsKnownTop, IsTruth}
 use Rattle.fault_orders.proofs.Begins.{against_claim, breaks_iff}
 use Rattle.fault_orders.proofs.Claims.{all_match, set_gives, claimed, claim_gives, matches_iff}

@@ -6,9 +6,9 @@ use Rattle.smv_language.specs.ProgramTree.{Text, boolean}
 use Rattle.smv_language.specs.Flat.{FlatLeaf, FlatModel}
 use Rattle.smv_flat_laws.specs.History.{Mode, with_history}
 use Rattle.smv_flat_laws.proofs.Lists.{get_end}
-use Rattle.smv_type_laws.specs.Judged.{truth_class}
+use Rattle.smv_type_laws.specs.ExpressionKinds.{truth_class}
 use Rattle.sat_encoding_laws.proofs.HistoryPlaces.{is_bit}
-use Rattle.fault_cause_laws.specs.Added.{Addition}
+use Rattle.fault_cause_laws.specs.Additions.{Addition}
 use Rattle.fault_cause_laws.specs.KindLaws.{AreOfKinds}
 use Rattle.fault_cause_laws.proofs.AddedKinds.{IsRightModel, right_added, grows_added}
 use Rattle.fault_cause_laws.proofs.RightTrees.{HasType, type_grown, IsRightTree, as_formula, variable_right, not_tree, next_tree, and_tree, or_tree, within_tree}

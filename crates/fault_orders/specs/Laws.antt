@@ -6,15 +6,15 @@ use Rattle.smv_language.specs.Trace.{Each}
 use Rattle.smv_language.specs.Flat.{FlatLeaf, FlatModel, FlatGives}
 use Rattle.smv_flat_laws.specs.History.{Mode}
 use Rattle.smv_flat_laws.specs.FlatTrace.{IsFlatMoment, IsFlatTrace, IsModeOf, stands, stands_in_some}
-use Rattle.smv_flat_laws.specs.Resolved.{leaves_in}
-use Rattle.fault_cause_laws.specs.Added.{KnowsNames, IsKnownName}
+use Rattle.smv_flat_laws.specs.NameResolution.{leaves_in}
+use Rattle.fault_cause_laws.specs.Additions.{KnowsNames, IsKnownName}
 use Rattle.cut_right_laws.specs.Right.{HasFailedExactly}
 use Rattle.cut_right_laws.specs.Sets.{has_number}
 use Rattle.sat_encoding_laws.specs.FlatTraces.{ReachesTop, HasFailedNumber, IsNumbered, last_of}
 use Rattle.fault_orders.specs.declared.Relation.{Relation}
 use Rattle.fault_orders.specs.Relations.{HasRelation}
 use Rattle.fault_orders.specs.Stage.{stage, against}
-use Rattle.fault_orders.specs.Told.{ordered_told, told_relation}
+use Rattle.fault_orders.specs.RelationValues.{ordered_told, told_relation}
 
 -- two modes among the faults, by their numbers from one on
 pub record ArePair (fs : List Mode) (first second : ℕ) (f g : Mode) : Type 0 where
@@ -27,7 +27,9 @@ pub record ArePair (fs : List Mode) (first second : ℕ) (f g : Mode) : Type 0 w
 abbrev pub OrdersAreTold : Type 0
 OrdersAreTold =
     (m : FlatModel) (fs : List Mode) (first second : ℕ) (f g : Mode) → KnowsNames m → Each (IsModeOf m) fs → ArePair fs first second f g →
-    (long : List (List Value)) → (IsFlatTrace (stage m fs first second) long ↔ ((trace : List (List Value)) × IsFlatTrace m trace × (long ≡ ordered_told m fs f g trace)))
+    (long : List (List Value)) →
+    (IsFlatTrace (stage m fs first second) long
+    ↔ ((trace : List (List Value)) × IsFlatTrace m trace × (long ≡ ordered_told m fs f g trace)))
 
 -- the trace does not have the relation that is claimed; where none is, every trace speaks against it
 abbrev pub Breaks : FlatModel → Mode → Mode → Option Relation → List (List Value) → Type 0
@@ -35,7 +37,8 @@ Breaks m f g None trace = Unit {0}
 Breaks m f g (Some r) trace = HasRelation (List Value) r (λ v. IsTrue (stands m f v)) (λ v. IsTrue (stands m g v)) trace → ⊥
 
 -- the trace reaches the top event, has failed exactly the set, and breaks the claim
-pub record SpeaksAgainst (m : FlatModel) (fs : List Mode) (top : Tree FlatLeaf) (set : List ℕ) (f g : Mode) (claim : Option Relation) (trace : List (List Value)) : Type 0 where
+pub record SpeaksAgainst (m : FlatModel) (fs : List Mode) (top : Tree FlatLeaf) (set : List ℕ) (f g : Mode) (claim : Option Relation)
+    (trace : List (List Value)) : Type 0 where
   pub reaches : ReachesTop m top trace
   pub exactly : HasFailedExactly (List (List Value)) (IsFlatTrace m) (ReachesTop m top) (HasFailedNumber m fs) trace set
   pub breaks : Breaks m f g claim trace
@@ -69,8 +72,10 @@ pub record TellsOrder (m : FlatModel) (f g : Mode) (trace long : List (List Valu
 -- they do so where both modes stand at some moment
 abbrev pub EndsTellOrders : Type 0
 EndsTellOrders =
-    (m : FlatModel) (fs : List Mode) (f g : Mode) (trace : List (List Value)) → IsTrue (stands_in_some m f trace) → IsTrue (stands_in_some m g trace) → TellsOrder m f g trace (ordered_told m fs f g trace)
+    (m : FlatModel) (fs : List Mode) (f g : Mode) (trace : List (List Value)) → IsTrue (stands_in_some m f trace) →
+    IsTrue (stands_in_some m g trace) → TellsOrder m f g trace (ordered_told m fs f g trace)
 
 -- the values of the model's own variables come first in each valuation of a staged trace
 abbrev pub OwnValuesAreKept : Type 0
-OwnValuesAreKept = (m : FlatModel) (fs : List Mode) (f g : Mode) (trace : List (List Value)) → IsFlatTrace m trace → map (take (length m.variables)) (ordered_told m fs f g trace) ≡ trace
+OwnValuesAreKept = (m : FlatModel) (fs : List Mode) (f g : Mode) (trace : List (List Value)) → IsFlatTrace m trace →
+    map (take (length m.variables)) (ordered_told m fs f g trace) ≡ trace

@@ -6,7 +6,7 @@ use Rattle.smv_language.specs.ProgramTree.{Text, boolean}
 use Rattle.smv_language.specs.Scope.{state}
 use Rattle.smv_language.specs.Flat.{FlatLeaf, flat_variable, FlatVariable, FlatFormula, FlatModel}
 use Rattle.smv_flat_laws.specs.History.{Mode, added, with_history}
-use Rattle.fault_cause_laws.specs.Added.{with_addition}
+use Rattle.fault_cause_laws.specs.Additions.{with_addition}
 use Rattle.cut_right_laws.specs.Sets.{has_number}
 use Rattle.fault_orders.specs.declared.Relation.{Relation}
 use Rattle.fault_orders.specs.declared.Relation.TheVariants.{Before, After, Together}
@@ -29,7 +29,8 @@ order_at_first bit x y = added (binary op.Within (now_of bit) (binary op.And (no
 
 -- at the next moment it is TRUE where it was, or where the one is then TRUE and the other is not
 abbrev pub order_at_step : ℕ → ℕ → ℕ → FlatFormula
-order_at_step bit x y = added (binary op.Within (later_of bit) (binary op.Or (now_of bit) (binary op.And (later_of x) (not_of (later_of y)))))
+order_at_step bit x y =
+    added (binary op.Within (later_of bit) (binary op.Or (now_of bit) (binary op.And (later_of x) (not_of (later_of y)))))
 
 -- the model with a bit that tells that the one variable was TRUE before the other
 abbrev pub with_order : Text → ℕ → ℕ → FlatModel → FlatModel
@@ -55,7 +56,8 @@ stage m fs first second =
 -- the expression, and of each fault from a number on that it has failed where it is in the set, and else that it has not
 abbrev pub with_set : ℕ → ℕ → ℕ → List ℕ → Tree FlatLeaf → Tree FlatLeaf
 with_set bit i zero set e = e
-with_set bit i (suc more) set e = with_set (suc bit) (suc i) more set (binary op.And e (if has_number set i then now_of bit else not_of (now_of bit)))
+with_set bit i (suc more) set e =
+    with_set (suc bit) (suc i) more set (binary op.And e (if has_number set i then now_of bit else not_of (now_of bit)))
 
 -- what speaks against a claim, where `ahead` has this number
 abbrev pub with_claim : ℕ → Option Relation → Tree FlatLeaf → Tree FlatLeaf

@@ -1,7 +1,6 @@
 //! The expression that a trace of a staged model makes TRUE where it speaks against a claim.
 //!
 //! The main function is [`against`]. The claim itself is spoken of by the two booleans that `staging` adds.
-
 ghost use Rattle.std.specs.Prelude.{◌≡◌, ◌<◌, ◌≤◌, ◌+◌, ◌^◌, length, IfOk, if◌then◌else◌};
 ghost use Rattle.smv_language.specs.Tree.{not_of};
 ghost use Rattle.smv_language.specs.ModelTree.{flat_tree, model_tree};

@@ -2,13 +2,13 @@
 //! other.
 //!
 //! The main function is [`stage`].
-
 ghost use Rattle.std.specs.Prelude.{◌≡◌, ◌≢◌, ◌^◌, ◌<◌, ◌≤◌, length, map, IfOk, IsOk, OnOk};
 ghost use Rattle.smv_language.specs.Tree.{binary as binary_tree, not_of};
 ghost use Rattle.smv_language.specs.declared.expr.Op.TheVariants as op;
 ghost use Rattle.smv_language.specs.ModelTree.{variable_tree, formula_tree, flat_tree, model_tree};
 ghost use Rattle.smv_flat_laws.specs.FaultModes.{mode_of};
-ghost use Rattle.fault_orders.specs.Stage.{stage as stage_of, with_order, order_variable as variable_of, order_at_first as first_of, order_at_step as step_of, now_of, later_of, bit_number as bit_of};
+ghost use Rattle.fault_orders.specs.Stage.{stage as stage_of, with_order, order_variable as variable_of, order_at_first as first_of};
+ghost use Rattle.fault_orders.specs.Stage.{order_at_step as step_of, now_of, later_of, bit_number as bit_of};
 
 use base_values::{Dotted, Name, OutOfMemory};
 use fault_staging::build::{added, binary, opposite};

@@ -18,14 +18,14 @@ use Rattle.fault_instructions.specs.SpellsInstructions.{SpellsConst, const_true,
 use Rattle.smv_expression_reader.specs.Places.{text_in}
 use Rattle.smv_expression_reader.specs.Marks.{Mark, mark_of, s_close, s_close_brace, s_comma, s_semicolon, s_colon}
 use Rattle.smv_expression_reader.specs.MarkView.{is_mark}
-use Rattle.smv_expression_reader.specs.Within.{AreWithin, is_too_deep, are_too_deep, spelling, in_many}
-use Rattle.smv_expression_reader.specs.Reads.{got, deep, none, and_then, answer, expect_at, name_at, expr_at, each_at, rest_of, end_at, has_word, text_at, word_at, int_at}
+use Rattle.smv_expression_reader.specs.ExpressionDepths.{AreWithin, is_too_deep, are_too_deep, spelling, in_many}
+use Rattle.smv_expression_reader.specs.SecondPass.{got, deep, none, and_then, answer, expect_at, name_at, expr_at, each_at, rest_of, end_at, has_word, text_at, word_at, int_at}
 use Rattle.smv_expression_reader.proofs.Marks.{Marked, marked, mark_of_name, word_there}
 use Rattle.smv_expression_reader.proofs.ReadLaws.{read_expr, are_within, within_are}
 use Rattle.smv_expression_reader.proofs.PartsRead.{too_append, then_read, mapped, closes_with, many_read, some_read, no_many, name_read, int_read, answer_got, answer_deep, answer_none}
 use Rattle.fault_reader.specs.InstructionPlaces.{IsInstructions}
-use Rattle.fault_reader.specs.Within.{in_effect, in_guard, in_mode, in_slice, in_extension, in_instructions, HaveInstructionDepths, AreInstructionsTooDeep}
-use Rattle.fault_reader.specs.Reads.{const_at, effect_at, dynamics_at, guard_at, in_braces, texts_at, marked_at, HeadTree, head_tree, head_at, mode_with, mode_at, modes_at, start_at, slice_at, slices_at, extension_at, extensions_at, given_name_at, instructions_of, file_at}
+use Rattle.fault_reader.specs.InstructionDepths.{in_effect, in_guard, in_mode, in_slice, in_extension, in_instructions, HaveInstructionDepths, AreInstructionsTooDeep}
+use Rattle.fault_reader.specs.InstructionParts.{const_at, effect_at, dynamics_at, guard_at, in_braces, texts_at, marked_at, HeadTree, head_tree, head_at, mode_with, mode_at, modes_at, start_at, slice_at, slices_at, extension_at, extensions_at, given_name_at, instructions_of, file_at}
 use Rattle.smv_lexer.proofs.SignLemmas.{not_true}
 use Rattle.fault_instructions.proofs.OneInstructions.{OneToken}
 

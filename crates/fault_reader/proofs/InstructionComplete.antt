@@ -11,15 +11,15 @@ use Rattle.fault_instructions.specs.declared.instructions.Dynamics.{Dynamics}
 use Rattle.fault_instructions.specs.declared.instructions.Start.{Start}
 use Rattle.fault_instructions.specs.Instructions.{EffectTree, ModeTree, SliceTree, ExtensionTree, InstructionTree}
 use Rattle.fault_instructions.specs.SpellsInstructions.{SpellsConst, const_true, const_false, const_int, const_name, SpellsEffect, e_stuck, e_follows, e_inverted, e_random, e_erroneous, e_frozen, e_pick, e_offset, e_ramp, SpellsDynamics, d_permanent, d_transient, SpellsGuard, no_guard, a_guard, IsTokenText, number_text, word_text, sign_of, SpellsMark, no_mark, a_mark, SpellsMode, a_mode, SpellsStart, at_nominal, at_any, SpellsSlice, a_slice, SpellsExtension, an_extension, SpellsInstructions, unnamed, named}
-use Rattle.smv_expression_reader.specs.Recognise.{role_of}
-use Rattle.smv_expression_reader.specs.Recognise as machine
+use Rattle.smv_expression_reader.specs.Recogniser.{role_of}
+use Rattle.smv_expression_reader.specs.Recogniser as machine
 use Rattle.smv_expression_reader.specs.Places.{is_word}
 use Rattle.smv_expression_reader.specs.Marks.{Mark, s_close_brace, mark_of}
 use Rattle.smv_expression_reader.proofs.Accepted.{spelled_accepted}
 use Rattle.smv_expression_reader.proofs.Marks.{Marked, marked, mark_of_name}
 use Rattle.smv_language.proofs.OneTree.{is_none_of}
-use Rattle.fault_reader.specs.InstructionRead.{the_name, the_number, the_open, the_close, the_comma, the_colon, the_semicolon, Sym, is_single, IsMark, IsMode, spelled, expr, after_extensions, after_in_mark, after_constant, next, instructions}
-use Rattle.fault_reader.specs.InstructionRead as s
+use Rattle.fault_reader.specs.InstructionGrammar.{the_name, the_number, the_open, the_close, the_comma, the_colon, the_semicolon, Sym, is_single, IsMark, IsMode, spelled, expr, after_extensions, after_in_mark, after_constant, next, instructions}
+use Rattle.fault_reader.specs.InstructionGrammar as s
 use Rattle.fault_reader.proofs.Through.{That, as_one, as_key, as_other, is_that, is_the_word, Means_of, Through, true_where, live_complete}
 use Rattle.smv_expression_reader.proofs.Meanings.{as_last, Leads, some_leads}
 

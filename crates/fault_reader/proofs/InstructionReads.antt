@@ -11,16 +11,16 @@ use Rattle.fault_instructions.specs.declared.instructions.Dynamics.{Dynamics}
 use Rattle.fault_instructions.specs.declared.instructions.Dynamics.TheVariants.{Permanent}
 use Rattle.fault_instructions.specs.Instructions.{EffectTree, frozen, ModeTree}
 use Rattle.fault_instructions.specs.SpellsInstructions.{SpellsConst, const_true, const_false, const_int, const_name, SpellsEffect, e_stuck, e_follows, e_inverted, e_random, e_erroneous, e_frozen, e_pick, e_offset, e_ramp, SpellsDynamics, d_permanent, d_transient, no_guard, SpellsMark, no_mark, a_mark, SpellsMode, a_mode, at_nominal, unnamed}
-use Rattle.smv_expression_reader.specs.Recognise.{closes, role_of, by_number, by_name, by_other, State, had, stuck, is_whole}
-use Rattle.smv_expression_reader.specs.Recognise as machine
+use Rattle.smv_expression_reader.specs.Recogniser.{closes, role_of, by_number, by_name, by_other, State, had, stuck, is_whole}
+use Rattle.smv_expression_reader.specs.Recogniser as machine
 use Rattle.smv_expression_reader.specs.Places.{is_word}
-use Rattle.smv_expression_reader.specs.Predict.{Fits, IsPredictable, is_some}
+use Rattle.smv_expression_reader.specs.PredictiveReader.{Fits, IsPredictable, is_some}
 use Rattle.smv_expression_reader.specs.Marks.{Mark, a_name, a_number, s_open_brace, s_close_brace, s_colon, s_minus, mark_of}
 use Rattle.smv_expression_reader.proofs.Exact.{completes}
 use Rattle.smv_expression_reader.proofs.FormulasRead.{whole_stops}
 use Rattle.smv_expression_reader.proofs.Marks.{word_there}
-use Rattle.fault_reader.specs.InstructionRead.{the_name, the_number, the_open, the_close, the_comma, the_colon, the_semicolon, Sym, is_single, spelled, empty, expr, live, where_so, after_extensions, after_mark, after_in_mark, after_int, after_constant, is_plain, after_effect, next, follow, shortest, shortest_mode, instructions}
-use Rattle.fault_reader.specs.InstructionRead as s
+use Rattle.fault_reader.specs.InstructionGrammar.{the_name, the_number, the_open, the_close, the_comma, the_colon, the_semicolon, Sym, is_single, spelled, empty, expr, live, where_so, after_extensions, after_mark, after_in_mark, after_int, after_constant, is_plain, after_effect, next, follow, shortest, shortest_mode, instructions}
+use Rattle.fault_reader.specs.InstructionGrammar as s
 use Rattle.fault_reader.proofs.Through.{That, that}
 use Rattle.fault_reader.proofs.InstructionSound.{sounds}
 use Rattle.fault_reader.proofs.InstructionComplete.{completed}

@@ -7,14 +7,14 @@ use Rattle.smv_language.specs.Lexemes.{Lexeme, word, num, sign}
 use Rattle.smv_language.specs.Spells.{plain_int, minus_int}
 use Rattle.smv_language.specs.SpellsProgram.{no_more, one_more}
 use Rattle.fault_instructions.specs.SpellsInstructions.{IsTokenText, number_text, word_text, sign_of, const_true, const_false, const_int, const_name, e_stuck, e_follows, e_inverted, e_random, e_erroneous, e_frozen, e_pick, e_offset, e_ramp, d_permanent, d_transient, a_guard, SpellsMark, no_mark, a_mark, a_mode, at_any, a_slice, an_extension, unnamed, named}
-use Rattle.smv_expression_reader.specs.Recognise.{role_of, is_whole}
-use Rattle.smv_expression_reader.specs.Recognise as machine
+use Rattle.smv_expression_reader.specs.Recogniser.{role_of, is_whole}
+use Rattle.smv_expression_reader.specs.Recogniser as machine
 use Rattle.smv_expression_reader.specs.Places.{is_word, text_in}
 use Rattle.smv_expression_reader.specs.Marks.{Mark, a_name, a_number, s_open_brace, s_close_brace, s_minus, mark_of}
 use Rattle.smv_expression_reader.proofs.Rest.{accepted_spelled}
 use Rattle.smv_expression_reader.proofs.Marks.{Marked, marked, word_there}
-use Rattle.fault_reader.specs.InstructionRead.{the_name, the_number, the_open, the_close, the_comma, the_colon, the_semicolon, Sym, is_single, IsMark, IsMode, spelled, expr, after_extensions, after_mark, after_in_mark, after_int, after_constant, is_plain, after_effect, next, where_so, instructions}
-use Rattle.fault_reader.specs.InstructionRead as s
+use Rattle.fault_reader.specs.InstructionGrammar.{the_name, the_number, the_open, the_close, the_comma, the_colon, the_semicolon, Sym, is_single, IsMark, IsMode, spelled, expr, after_extensions, after_mark, after_in_mark, after_int, after_constant, is_plain, after_effect, next, where_so, instructions}
+use Rattle.fault_reader.specs.InstructionGrammar as s
 use Rattle.fault_reader.proofs.Through.{That, one, key, Means_of, Through, where_true, where_word, if_word, live_sound, that}
 use Rattle.smv_expression_reader.proofs.Meanings.{last, Leads}
 

@@ -2,14 +2,14 @@
 use Rattle.std.proofs.Common.{◌≡◌, ℕ, ◌+◌, Bool, true, false, List, [], ◌∷◌, ◌++◌, Option, Some, None, refl, sym, ap, ◌∙◌}
 use Rattle.std.specs.Prelude.{◌&&◌, ◌||◌, codes, if◌then◌else◌}
 use Rattle.smv_language.specs.Lexemes.{Lexeme}
-use Rattle.smv_expression_reader.specs.Recognise.{Role, Frame, State, stuck, role_of, is_stuck, is_whole, start}
-use Rattle.smv_expression_reader.specs.Recognise as machine
-use Rattle.smv_expression_reader.specs.Predict.{taken, step, all_empty}
+use Rattle.smv_expression_reader.specs.Recogniser.{Role, Frame, State, stuck, role_of, is_stuck, is_whole, start}
+use Rattle.smv_expression_reader.specs.Recogniser as machine
+use Rattle.smv_expression_reader.specs.PredictiveReader.{taken, step, all_empty}
 use Rattle.smv_expression_reader.specs.Places.{is_word}
 use Rattle.smv_expression_reader.specs.Marks.{mark_of}
 use Rattle.smv_expression_reader.specs.Views.{state_with}
-use Rattle.fault_reader.specs.InstructionRead.{Single, Sym, is_single, formula, expr, live, where_so, after_extensions, after_constant, is_plain, instructions}
-use Rattle.fault_reader.specs.InstructionRead as s
+use Rattle.fault_reader.specs.InstructionGrammar.{Single, Sym, is_single, formula, expr, live, where_so, after_extensions, after_constant, is_plain, instructions}
+use Rattle.fault_reader.specs.InstructionGrammar as s
 use Rattle.fault_reader.specs.InstructionPlaces.{after_slices, after_modes, before_semicolon, before_guard, before_close, before_with, before_start, head_view, mode_view, argument_view, word_view, place_view, head_ends, mode_ends, word_ends, ends_at, Fits, stepped}
 use Rattle.smv_expression_reader.specs.Readings.{Goes}
 use Rattle.fault_reader.specs.declared.place.HeadPlace.{HeadPlace}
@@ -20,8 +20,8 @@ use Rattle.fault_reader.specs.declared.place.ArgumentPlace.{ArgumentPlace}
 use Rattle.fault_reader.specs.declared.place.ArgumentPlace.TheVariants as a
 use Rattle.fault_reader.specs.declared.place.WordPlace.{WordPlace}
 use Rattle.fault_reader.specs.declared.place.WordPlace.TheVariants as v
-use Rattle.fault_reader.specs.declared.place.Place.{Place}
-use Rattle.fault_reader.specs.declared.place.Place.TheVariants as p
+use Rattle.fault_reader.specs.declared.place.InstructionPlace.{InstructionPlace}
+use Rattle.fault_reader.specs.declared.place.InstructionPlace.TheVariants as p
 
 -- a choice by a test, before other symbols
 taken_where : (b : Bool) (new rest : List Sym) → taken Sym instructions (where_so b new) rest None ≡ where_so b (new ++ rest)
@@ -202,7 +202,7 @@ word_law (v.Argument place) = argument_law place
 word_law v.Followed = refl
 word_law v.Condition = refl
 
-pub ends_law : (place : Place) (frames : List Frame) (s : List Sym) → place_view place frames ≡ Some s → ends_at place ≡ all_empty Sym instructions s
+pub ends_law : (place : InstructionPlace) (frames : List Frame) (s : List Sym) → place_view place frames ≡ Some s → ends_at place ≡ all_empty Sym instructions s
 ends_law (p.Word place) frames s e = word_law place ∙ some_same (word_view place) s e
 ends_law (p.InFollowed st) frames s e = live_whole (state_with st frames) before_close s e refl
 ends_law (p.InCondition st) frames s e = live_whole (state_with st frames) before_semicolon s e refl
@@ -212,7 +212,7 @@ live_some stuck rest h = cc
 live_some st rest h = (formula st refl ∷ rest, refl)
 
 -- something is expected at each place
-pub fits_goes : (place : Place) (s : List Frame) → Fits place s → Goes Sym instructions (place_view place s)
+pub fits_goes : (place : InstructionPlace) (s : List Frame) → Fits place s → Goes Sym instructions (place_view place s)
 fits_goes (p.Word place) s h = (word_view place, refl)
 fits_goes (p.InFollowed m) s h = live_some (state_with m s) before_close h
 fits_goes (p.InCondition m) s h = live_some (state_with m s) before_semicolon h

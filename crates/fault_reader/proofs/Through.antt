@@ -3,16 +3,16 @@ use Rattle.std.proofs.Common.{◌≡◌, inl, inr, ◌⊎◌, ℕ, Bool, true, f
 use Rattle.std.specs.Prelude.{if◌then◌else◌}
 use Rattle.smv_lexer.specs.declared.token.TokenKind.TheVariants as k
 use Rattle.smv_language.specs.Lexemes.{Lexeme, word, num, sign, is_reserved}
-use Rattle.smv_expression_reader.specs.Recognise.{State, stuck, is_whole}
-use Rattle.smv_expression_reader.specs.Recognise as machine
+use Rattle.smv_expression_reader.specs.Recogniser.{State, stuck, is_whole}
+use Rattle.smv_expression_reader.specs.Recogniser as machine
 use Rattle.smv_expression_reader.specs.Places.{is_word}
-use Rattle.smv_expression_reader.specs.Predict.{Means}
+use Rattle.smv_expression_reader.specs.PredictiveReader.{Means}
 use Rattle.smv_expression_reader.specs.Marks.{Mark, a_name, a_number, s_open, s_close, s_comma, s_semicolon, s_colon, mark_of}
 use Rattle.smv_expression_reader.proofs.Meanings.{Leads}
 use Rattle.smv_expression_reader.proofs.Accepted.{run_stuck}
 use Rattle.smv_expression_reader.proofs.Marks.{Marked, marked, mark_of_name, word_there}
-use Rattle.fault_reader.specs.InstructionRead.{Single, the_name, the_number, the_open, the_close, the_comma, the_colon, the_semicolon, Sym, is_single, spelled, live, where_so, instructions}
-use Rattle.fault_reader.specs.InstructionRead as s
+use Rattle.fault_reader.specs.InstructionGrammar.{Single, the_name, the_number, the_open, the_close, the_comma, the_colon, the_semicolon, Sym, is_single, spelled, live, where_so, instructions}
+use Rattle.fault_reader.specs.InstructionGrammar as s
 use Rattle.smv_language.proofs.ValueLaws.{same_text_refl as same_as_it}
 
 -- single lexemes

@@ -3,9 +3,9 @@ use Rattle.std.specs.Prelude.{◌≡◌, Bool, true, false, List, [], ◌∷◌,
 use Rattle.smv_language.specs.Lexemes.{Lexeme}
 use Rattle.fault_instructions.specs.Instructions.{InstructionTree}
 use Rattle.fault_instructions.specs.SpellsInstructions.{SpellsInstructions}
-use Rattle.smv_expression_reader.specs.declared.reading.Reading.{Reading}
+use Rattle.smv_expression_reader.specs.declared.reading.ReadExtent.{ReadExtent}
 use Rattle.smv_expression_reader.specs.declared.machine.Mode.{Mode}
-use Rattle.smv_expression_reader.specs.Recognise.{Frame, is_stuck}
+use Rattle.smv_expression_reader.specs.Recogniser.{Frame, is_stuck}
 use Rattle.smv_expression_reader.specs.Views.{state_with}
 use Rattle.smv_expression_reader.specs.Readings.{stepped as grammar_stepped, expected_after as grammar_expected, ReadsTo}
 use Rattle.fault_reader.specs.declared.place.Single as c
@@ -18,9 +18,11 @@ use Rattle.fault_reader.specs.declared.place.ArgumentPlace.{ArgumentPlace}
 use Rattle.fault_reader.specs.declared.place.ArgumentPlace.TheVariants as a
 use Rattle.fault_reader.specs.declared.place.WordPlace.{WordPlace}
 use Rattle.fault_reader.specs.declared.place.WordPlace.TheVariants as v
-use Rattle.fault_reader.specs.declared.place.Place.{Place}
-use Rattle.fault_reader.specs.declared.place.Place.TheVariants as p
-use Rattle.fault_reader.specs.InstructionRead.{Single, Sym, single, keyword, the_name, the_number, the_open, the_close, the_comma, the_colon, the_semicolon, file, extensions, slices, slice_start, mode, modes, mode_rest, mark, in_mark, dynamics, effect, constant, int, guard, expr, live, instructions}
+use Rattle.fault_reader.specs.declared.place.InstructionPlace.{InstructionPlace}
+use Rattle.fault_reader.specs.declared.place.InstructionPlace.TheVariants as p
+use Rattle.fault_reader.specs.InstructionGrammar.{Single, Sym, single, keyword, the_name, the_number, the_open, the_close, the_comma}
+use Rattle.fault_reader.specs.InstructionGrammar.{the_colon, the_semicolon, file, extensions, slices, slice_start, mode, modes, mode_rest}
+use Rattle.fault_reader.specs.InstructionGrammar.{mark, in_mark, dynamics, effect, constant, int, guard, expr, live, instructions}
 
 -- the list spells some instructions
 abbrev pub IsInstructions : List Lexeme → Type 0
@@ -129,13 +131,13 @@ after_word None = None
 after_word (Some place) = Some (word_view place)
 
 -- what is expected at a place, where this is open in an expression
-abbrev pub place_view : Place → List Frame → Option (List Sym)
+abbrev pub place_view : InstructionPlace → List Frame → Option (List Sym)
 place_view (p.Word place) s = Some (word_view place)
 place_view (p.InFollowed m) s = live (state_with m s) before_close
 place_view (p.InCondition m) s = live (state_with m s) before_semicolon
 
 -- the same after a step, where the file went on
-abbrev pub after_view : Option Place → List Frame → Option (List Sym)
+abbrev pub after_view : Option InstructionPlace → List Frame → Option (List Sym)
 after_view None s = None
 after_view (Some place) s = place_view place s
 
@@ -148,11 +150,11 @@ abbrev pub expected_after : List Lexeme → Option (List Sym)
 expected_after = grammar_expected Sym instructions file
 
 -- the reading is how far these lexemes can be read
-abbrev pub ListReads : List Lexeme → Reading → Type 0
+abbrev pub ListReads : List Lexeme → ReadExtent → Type 0
 ListReads = ReadsTo Sym instructions file
 
 -- what is open there: nothing, or an expression that goes on
-abbrev pub Fits : Place → List Frame → Type 0
+abbrev pub Fits : InstructionPlace → List Frame → Type 0
 Fits (p.Word place) s = s ≡ []
 Fits (p.InFollowed m) s = is_stuck (state_with m s) ≡ false
 Fits (p.InCondition m) s = is_stuck (state_with m s) ≡ false
@@ -176,7 +178,7 @@ word_ends (v.Mode place) = mode_ends place
 word_ends _ = false
 
 -- the same; inside an expression they may not
-abbrev pub ends_at : Place → Bool
+abbrev pub ends_at : InstructionPlace → Bool
 ends_at (p.Word place) = word_ends place
 ends_at _ = false
 

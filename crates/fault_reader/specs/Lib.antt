@@ -1,4 +1,4 @@
-pub mod Reads
-pub mod Within
-pub mod InstructionRead
+pub mod InstructionParts
+pub mod InstructionDepths
+pub mod InstructionGrammar
 pub mod InstructionPlaces

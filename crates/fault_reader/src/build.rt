@@ -1,13 +1,14 @@
-// The instructions, from the tokens that spell them.
-//
-// Each function goes along with a function on lexemes of `specs/Reads.antt`. What stands behind the word of an effect
-// has a function of its own. Each round of a loop here takes a token at least, so that no loop has more rounds than
-// tokens are left.
+//! The instructions, from the tokens that spell them.
+//!
+//! Each function goes along with a function on lexemes of `specs/InstructionParts.antt`. What stands behind the word of an effect
+//! has a function of its own. Each round of a loop here takes a token at least, so that no loop has more rounds than
+//! tokens are left.
 ghost use Rattle.std.specs.Prelude.{◌≡◌, Err, IfOk, map};
 ghost use Rattle.smv_expression_reader.specs.declared.fault.BuildFault.TheVariants as stop;
-ghost use Rattle.smv_expression_reader.specs.Reads.{got, deep, none};
-ghost use Rattle.fault_instructions.specs.Instructions.{constant_value, effect_tree, guard_tree, mode_tree, slice_tree, extension_tree, instruction_tree};
-ghost use Rattle.fault_reader.specs.Reads as part;
+ghost use Rattle.smv_expression_reader.specs.SecondPass.{got, deep, none};
+ghost use Rattle.fault_instructions.specs.Instructions.{constant_value, effect_tree, guard_tree, mode_tree, slice_tree, extension_tree};
+ghost use Rattle.fault_instructions.specs.Instructions.{instruction_tree};
+ghost use Rattle.fault_reader.specs.InstructionParts as part;
 
 use base_values::{Dotted, Name};
 use fault_instructions::{

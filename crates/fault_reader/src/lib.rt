@@ -8,9 +8,9 @@
 //!
 //! The words of the grammar, such as `MODE` and `Permanent`, are known by their place and are names elsewhere.
 //!
-//! `specs/InstructionRead.antt` has the grammar as one in which a token decides what is still expected, and
-//! `specs/InstructionPlaces.antt` what is expected at each place of the first pass; `specs/Reads.antt` says what the
-//! second pass reads of the tokens, part by part, and `specs/Within.antt` which expressions instructions have, as they
+//! `specs/InstructionGrammar.antt` has the grammar as one in which a token decides what is still expected, and
+//! `specs/InstructionPlaces.antt` what is expected at each place of the first pass; `specs/InstructionParts.antt` says what the
+//! second pass reads of the tokens, part by part, and `specs/InstructionDepths.antt` which expressions instructions have, as they
 //! are spelled: the guards and the values that `Follows` names.
 //!
 //! A text is read twice, as programs are. The first pass (`place`) makes nothing: outside expressions one token decides

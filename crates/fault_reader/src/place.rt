@@ -1,26 +1,29 @@
-// The recogniser of instructions: what may come next, and an expression's own state where one has begun.
-//
-// Outside expressions one token decides what comes, and nothing nests, so a place in the grammar is all
-// that is kept. A word of the grammar is expected only where no name is, and the other way round.
+//! The recogniser of instructions: what may come next, and an expression's own state where one has begun.
+//!
+//! Outside expressions one token decides what comes, and nothing nests, so a place in the grammar is all
+//! that is kept. A word of the grammar is expected only where no name is, and the other way round.
 ghost use Rattle.std.specs.Prelude.{◌≡◌, ◌||◌, ◌&&◌, ◌∷◌, List, [], Some, None, false, codes, IfOk, IfSome};
-ghost use Rattle.smv_expression_reader.specs.Recognise as machine;
-ghost use Rattle.smv_expression_reader.specs.Recognise.{Frame, role_of};
+ghost use Rattle.smv_expression_reader.specs.Recogniser as machine;
+ghost use Rattle.smv_expression_reader.specs.Recogniser.{Frame, role_of};
 ghost use Rattle.smv_expression_reader.specs.Views.{state_with};
-ghost use Rattle.smv_expression_reader.specs.Predict.{step as grammar_step, taken};
+ghost use Rattle.smv_expression_reader.specs.PredictiveReader.{step as grammar_step, taken};
 ghost use Rattle.smv_expression_reader.specs.Marks.{mark_of};
 ghost use Rattle.smv_expression_reader.specs.Places.{is_word};
 ghost use Rattle.fault_reader.specs.declared.place.HeadPlace.TheVariants as head;
 ghost use Rattle.fault_reader.specs.declared.place.ModePlace.TheVariants as mode;
 ghost use Rattle.fault_reader.specs.declared.place.ArgumentPlace.TheVariants as argument;
-ghost use Rattle.fault_reader.specs.InstructionRead.{Sym, where_so, live, is_plain, after_constant, instructions as grammar, is_single as is_single_mark};
-ghost use Rattle.fault_reader.specs.InstructionRead as g;
-ghost use Rattle.fault_reader.specs.InstructionPlaces.{single_view, head_view, mode_view, argument_view, place_view, word_view, after_word, begun_view, after_view, stepped, before_close, before_semicolon, Fits, word_ends, ends_at, ListReads};
+ghost use Rattle.fault_reader.specs.InstructionGrammar.{Sym, where_so, live, is_plain, after_constant, instructions as grammar};
+ghost use Rattle.fault_reader.specs.InstructionGrammar.{is_single as is_single_mark};
+ghost use Rattle.fault_reader.specs.InstructionGrammar as g;
+ghost use Rattle.fault_reader.specs.InstructionPlaces.{single_view, head_view, mode_view, argument_view, place_view, word_view, after_word};
+ghost use Rattle.fault_reader.specs.InstructionPlaces.{begun_view, after_view, stepped, before_close, before_semicolon, Fits, word_ends};
+ghost use Rattle.fault_reader.specs.InstructionPlaces.{ends_at, ListReads};
 
 use base_values::OutOfMemory;
-use smv_expression_reader::frames::Frames;
+use smv_expression_reader::frames::OpenFrames;
 use smv_expression_reader::machine::{Mode, is_stuck, is_whole, step};
 use smv_expression_reader::mark::Mark;
-use smv_expression_reader::reading::Reading;
+use smv_expression_reader::reading::ReadExtent;
 use smv_expression_reader::token::TokenText;
 use std::alloc::Global;
 
@@ -113,7 +116,7 @@ pub enum WordPlace {
 
 /// What comes next.
 #[derive(Clone, Copy, Debug, PartialEq, Eq)]
-pub enum Place {
+pub enum InstructionPlace {
     Word(WordPlace),
     /// In the expression of `Follows`, and in that of a guard.
     InFollowed(Mode),
@@ -427,21 +430,22 @@ fn argument_step(place: ArgumentPlace, token: &TokenText) -> Option<WordPlace>
 }
 
 /// The same as a place.
-fn word(place: Option<WordPlace>) -> Option<Place>
+fn word(place: Option<WordPlace>) -> Option<InstructionPlace>
     ensures same { (s : List Frame) → after_view result s ≡ after_word place }
     ensures fits { (s : List Frame) → s ≡ [] → IfSome result (λ p. Fits p s) }
 {
     match place {
-        Some(place) => Some(Place::Word(place)),
+        Some(place) => Some(InstructionPlace::Word(place)),
         None => None,
     }
 }
 
 /// The state of an expression after its first token, and nothing where none begins so.
 #[tactic(auto, using(crate::proofs::PlaceLaws::live_stuck))]
-fn begin_expression(frames: &mut Frames, token: &TokenText) -> Result<Option<Mode>, OutOfMemory>
+fn begin_expression(frames: &mut OpenFrames, token: &TokenText) -> Result<Option<Mode>, OutOfMemory>
     requires { frames.old ≡ [] }
-    ensures next { IfOk result (λ mode. (rest : List Sym) → begun_view mode frames.new rest ≡ live (machine.step machine.start (role_of token.now)) rest) }
+    ensures next { IfOk result (λ mode. (rest : List Sym) →
+        begun_view mode frames.new rest ≡ live (machine.step machine.start (role_of token.now)) rest) }
     ensures fits { IfOk result (λ mode. IfSome mode (λ m. machine.is_stuck (state_with m frames.new) ≡ false)) }
 {
     let mode = step(Mode::Wants, frames, token.role())?;
@@ -454,26 +458,32 @@ fn begin_expression(frames: &mut Frames, token: &TokenText) -> Result<Option<Mod
 
 /// After the first token of the expression of `Follows`.
 #[tactic(auto, using(crate::proofs::PlaceLaws::expr_step))]
-fn begin_followed(frames: &mut Frames, token: &TokenText) -> Result<Option<Place>, OutOfMemory>
+fn begin_followed(
+    frames: &mut OpenFrames,
+    token: &TokenText,
+) -> Result<Option<InstructionPlace>, OutOfMemory>
     requires { frames.old ≡ [] }
     ensures next { IfOk result (λ place. after_view place frames.new ≡ grammar_step Sym grammar (g.expr ∷ before_close) token.now) }
     ensures fits { IfOk result (λ place. IfSome place (λ p. Fits p frames.new)) }
 {
     match begin_expression(frames, token)? {
-        Some(mode) => Ok(Some(Place::InFollowed(mode))),
+        Some(mode) => Ok(Some(InstructionPlace::InFollowed(mode))),
         None => Ok(None),
     }
 }
 
 /// After the first token of a guard.
 #[tactic(auto, using(crate::proofs::PlaceLaws::expr_step))]
-fn begin_condition(frames: &mut Frames, token: &TokenText) -> Result<Option<Place>, OutOfMemory>
+fn begin_condition(
+    frames: &mut OpenFrames,
+    token: &TokenText,
+) -> Result<Option<InstructionPlace>, OutOfMemory>
     requires { frames.old ≡ [] }
     ensures next { IfOk result (λ place. after_view place frames.new ≡ grammar_step Sym grammar (g.expr ∷ before_semicolon) token.now) }
     ensures fits { IfOk result (λ place. IfSome place (λ p. Fits p frames.new)) }
 {
     match begin_expression(frames, token)? {
-        Some(mode) => Ok(Some(Place::InCondition(mode))),
+        Some(mode) => Ok(Some(InstructionPlace::InCondition(mode))),
         None => Ok(None),
     }
 }
@@ -482,9 +492,9 @@ fn begin_condition(frames: &mut Frames, token: &TokenText) -> Result<Option<Plac
 #[tactic(auto, using(crate::proofs::PlaceLaws::goes_inside, crate::proofs::PlaceLaws::goes_past))]
 fn followed_step(
     mode: Mode,
-    frames: &mut Frames,
+    frames: &mut OpenFrames,
     token: &TokenText,
-) -> Result<Option<Place>, OutOfMemory>
+) -> Result<Option<InstructionPlace>, OutOfMemory>
     requires { machine.is_stuck (state_with mode frames.old) ≡ false }
     ensures next { IfOk result (λ place. after_view place frames.new ≡ stepped (live (state_with mode frames.old) before_close) token.now) }
     ensures fits { IfOk result (λ place. IfSome place (λ p. Fits p frames.new)) }
@@ -496,7 +506,7 @@ fn followed_step(
         let closes = whole && is_single(Single::Close, token);
         Ok(word(mode_if(closes, ModePlace::Guard)))
     } else {
-        Ok(Some(Place::InFollowed(next)))
+        Ok(Some(InstructionPlace::InFollowed(next)))
     }
 }
 
@@ -504,11 +514,12 @@ fn followed_step(
 #[tactic(auto, using(crate::proofs::PlaceLaws::goes_inside, crate::proofs::PlaceLaws::goes_past))]
 fn condition_step(
     mode: Mode,
-    frames: &mut Frames,
+    frames: &mut OpenFrames,
     token: &TokenText,
-) -> Result<Option<Place>, OutOfMemory>
+) -> Result<Option<InstructionPlace>, OutOfMemory>
     requires { machine.is_stuck (state_with mode frames.old) ≡ false }
-    ensures next { IfOk result (λ place. after_view place frames.new ≡ stepped (live (state_with mode frames.old) before_semicolon) token.now) }
+    ensures next { IfOk result (λ place. after_view place frames.new
+        ≡ stepped (live (state_with mode frames.old) before_semicolon) token.now) }
     ensures fits { IfOk result (λ place. IfSome place (λ p. Fits p frames.new)) }
 {
     let whole = is_whole(mode, frames);
@@ -518,16 +529,16 @@ fn condition_step(
         let ends = whole && is_single(Single::Semicolon, token);
         Ok(word(mode_if(ends, ModePlace::Modes)))
     } else {
-        Ok(Some(Place::InCondition(next)))
+        Ok(Some(InstructionPlace::InCondition(next)))
     }
 }
 
 /// The place after a token where no expression has begun, and nothing where no text goes on with it.
 fn word_step(
     place: WordPlace,
-    frames: &mut Frames,
+    frames: &mut OpenFrames,
     token: &TokenText,
-) -> Result<Option<Place>, OutOfMemory>
+) -> Result<Option<InstructionPlace>, OutOfMemory>
     requires { frames.old ≡ [] }
     ensures next { IfOk result (λ new. after_view new frames.new ≡ grammar_step Sym grammar (word_view place) token.now) }
     ensures fits { IfOk result (λ new. IfSome new (λ p. Fits p frames.new)) }
@@ -543,18 +554,18 @@ fn word_step(
 
 /// The place after one token more, and nothing where no text goes on with it.
 fn place_step(
-    place: Place,
-    frames: &mut Frames,
+    place: InstructionPlace,
+    frames: &mut OpenFrames,
     token: &TokenText,
-) -> Result<Option<Place>, OutOfMemory>
+) -> Result<Option<InstructionPlace>, OutOfMemory>
     requires { Fits place frames.old }
     ensures next { IfOk result (λ new. after_view new frames.new ≡ stepped (place_view place frames.old) token.now) }
     ensures fits { IfOk result (λ new. IfSome new (λ p. Fits p frames.new)) }
 {
     match place {
-        Place::Word(place) => word_step(place, frames, token),
-        Place::InFollowed(mode) => followed_step(mode, frames, token),
-        Place::InCondition(mode) => condition_step(mode, frames, token),
+        InstructionPlace::Word(place) => word_step(place, frames, token),
+        InstructionPlace::InFollowed(mode) => followed_step(mode, frames, token),
+        InstructionPlace::InCondition(mode) => condition_step(mode, frames, token),
     }
 }
 
@@ -570,30 +581,30 @@ fn word_may_end(place: WordPlace) -> bool
 }
 
 /// Whether instructions may end here, which no expression's inside does.
-fn may_end(place: Place) -> bool
+fn may_end(place: InstructionPlace) -> bool
     ensures { result ≡ ends_at place }
 {
     match place {
-        Place::Word(place) => word_may_end(place),
-        Place::InFollowed(_) | Place::InCondition(_) => false,
+        InstructionPlace::Word(place) => word_may_end(place),
+        InstructionPlace::InFollowed(_) | InstructionPlace::InCondition(_) => false,
     }
 }
 
 /// How far the tokens can be read as instructions.
-pub fn read_through(alloc: Global, tokens: &[TokenText]) -> Result<Reading, OutOfMemory>
+pub fn read_through(alloc: Global, tokens: &[TokenText]) -> Result<ReadExtent, OutOfMemory>
     ensures { IfOk result (λ reading. ListReads tokens.now reading) }
 {
-    let mut frames = Frames::new(alloc);
-    let mut place = Place::Word(WordPlace::Head(HeadPlace::File));
+    let mut frames = OpenFrames::new(alloc);
+    let mut place = InstructionPlace::Word(WordPlace::Head(HeadPlace::File));
     for (i, token) in tokens.iter().enumerate() {
         match place_step(place, &mut frames, token)? {
             Some(next) => place = next,
-            None => return Ok(Reading::Stopped(i)),
+            None => return Ok(ReadExtent::Stopped(i)),
         }
     }
     if may_end(place) {
-        Ok(Reading::Whole)
+        Ok(ReadExtent::Whole)
     } else {
-        Ok(Reading::Unfinished)
+        Ok(ReadExtent::Unfinished)
     }
 }

@@ -1,11 +1,11 @@
-// The call `instructions`: tokens, then how far they can be read, then the instructions.
+//! The call `instructions`: tokens, then how far they can be read, then the instructions.
 ghost use Rattle.std.specs.Prelude.{◌≡◌, ◌<◌, ◌^◌, IfOk, IfErr, List, length};
 ghost use Rattle.smv_lexer.specs.declared.token.Token.{Token};
 ghost use Rattle.smv_lexer.specs.Tokens.{HasTokens};
 ghost use Rattle.smv_language.specs.Lexemes.{lexemes_of};
 ghost use Rattle.smv_expression_reader.specs.Stops.{FaultMeans};
 ghost use Rattle.fault_reader.specs.InstructionPlaces.{IsInstructions};
-ghost use Rattle.fault_reader.specs.Within.{HaveInstructionDepths, AreInstructionsTooDeep};
+ghost use Rattle.fault_reader.specs.InstructionDepths.{HaveInstructionDepths, AreInstructionsTooDeep};
 ghost use Rattle.fault_instructions.specs.Instructions.{InstructionTree, instruction_tree};
 ghost use Rattle.fault_instructions.specs.SpellsInstructions.{BytesSpellInstructions};
 
@@ -16,7 +16,7 @@ use smv_expression_reader::ParseFault;
 use smv_expression_reader::cursor::Cursor;
 use smv_expression_reader::fault::BuildFault;
 use smv_expression_reader::reader::{split, stop_at};
-use smv_expression_reader::reading::Reading;
+use smv_expression_reader::reading::ReadExtent;
 use smv_expression_reader::token::{TokenText, token_texts};
 use smv_lexer::TokenList;
 use std::alloc::Global;
@@ -35,9 +35,9 @@ fn check(
     ensures fault { IfErr result (λ fault. FaultMeans IsInstructions (AreInstructionsTooDeep bytes.now) bytes.now fault) }
 {
     match read_through(alloc, texts)? {
-        Reading::Whole => Ok(()),
-        Reading::Unfinished => Err(ParseFault::End(bytes.len() as u32)),
-        Reading::Stopped(i) => Err(stop_at(tokens, texts, i)),
+        ReadExtent::Whole => Ok(()),
+        ReadExtent::Unfinished => Err(ParseFault::End(bytes.len() as u32)),
+        ReadExtent::Stopped(i) => Err(stop_at(tokens, texts, i)),
     }
 }
 

@@ -5,11 +5,11 @@ use Rattle.smv_language.specs.ProgramTree.{Text}
 use Rattle.fault_instructions.specs.Instructions.{ModeTree, SliceTree, ExtensionTree}
 use Rattle.fault_rules.specs.Sites.{OwnedSlice, owned, Site, an_extension, a_slice, a_mode, mode_sites, slice_sites, extension_sites}
 use Rattle.fault_rules.specs.FirstBroken.{AllKept, IsFirstBroken}
-use Rattle.fault_rules.specs.Counting.{instances_of, faults_of, is_one_too_many, count_broken_at}
-use Rattle.fault_rules.specs.Counted.{Outcome, start, and_then, next_item, with_mode, counted_mode, counted_modes, counted_slice, counted_slices, counted_extension, counted_extensions}
+use Rattle.fault_rules.specs.CountLimits.{instances_of, faults_of, is_one_too_many, count_broken_at}
+use Rattle.fault_rules.specs.FaultCounts.{Outcome, start, and_then, next_item, with_mode, counted_mode, counted_modes, counted_slice, counted_slices, counted_extension, counted_extensions}
 use Rattle.fault_rules.specs.Faults.{fault_at, first_fault, owned_slices, file_slices}
 use Rattle.fault_rules.specs.declared.count.Counted.{Counted}
-use Rattle.fault_rules.specs.declared.fault.Rule.TheVariants.{TooManyFaults}
+use Rattle.fault_rules.specs.declared.fault.InstructionRule.TheVariants.{TooManyFaults}
 use Rattle.fault_rules.specs.declared.fault.RuleFault.{RuleFault}
 use Rattle.fault_rules.proofs.SiteFaults.{faults_none, faults_some, all_kept, first_broken}
 

@@ -11,28 +11,28 @@ use Rattle.smv_language.specs.Scope.{Place, Role, state, input, frozen_role, Kin
 use Rattle.smv_language.specs.Trace.{IsInstance, Each, AtSome, in_domain}
 use Rattle.fault_instructions.specs.Instructions.{EffectTree, stuck_at, follows, inverted, random, erroneous, frozen, stuck_at_pick, offset, ramp_down, ModeTree, SliceTree}
 use Rattle.fault_instructions.specs.AddedNames.{ModeState, own_name, mode_variable, mode_symbol}
-use Rattle.fault_instructions.specs.Allowed.{fault_of, constant_fault, is_of_kind, inverted_fault}
+use Rattle.fault_instructions.specs.AllowedEffects.{fault_of, constant_fault, is_of_kind, inverted_fault}
 use Rattle.fault_instructions.specs.Types.{IsKnown}
 use Rattle.fault_instructions.specs.declared.fault.EffectFault.{EffectFault}
 use Rattle.fault_instructions.specs.KindTypes.{type_of_kind}
 use Rattle.fault_instructions.specs.Weavable.{Among, IsFinite, IsFreeMember, SymbolsAreFree, IsAllowed}
 use Rattle.fault_instructions.proofs.OwnNames.{own_not_mode}
 use Rattle.fault_rules.specs.Sites.{OwnedSlice, a_slice, a_mode}
-use Rattle.fault_rules.specs.declared.fault.Rule.{Rule}
-use Rattle.fault_rules.specs.declared.fault.Rule.TheVariants.{NoSuchVariable, NotAStateVariable, DoubleSlice, DoubleMode, VariableTaken, NameTaken}
+use Rattle.fault_rules.specs.declared.fault.InstructionRule.{InstructionRule}
+use Rattle.fault_rules.specs.declared.fault.InstructionRule.TheVariants.{NoSuchVariable, NotAStateVariable, DoubleSlice, DoubleMode, VariableTaken, NameTaken}
 use Rattle.fault_rules.specs.Rules.{target_kind, is_not_declared, is_state_variable, is_slice_name, is_mode_name, is_affected_already, is_program_name, state_names, states_before, owns_before, is_taken, is_known, is_local_member, hides_symbol, slice_adds_taken, mode_adds_taken, effect_rules, first_of, broken_at}
-use Rattle.fault_rules.specs.Judged.{IsReadableEffect}
+use Rattle.fault_rules.specs.Prerequisites.{IsReadableEffect}
 use Rattle.fault_rules.proofs.ProgramNames.{among_not}
 use Rattle.fault_rules.proofs.KeptItems.{among_left, among_right, among_map, IsKeptSlice, ModeAfter, mode_at}
 use Rattle.std.proofs.lemmas.Bool.{or_parts as or_false}
 use Rattle.smv_language.proofs.ProgramLaws.{found_named}
 use Rattle.smv_language.specs.Values.{opposite}
 
-first_none : (b : Bool) (r : Rule) (rs : List (Bool × Rule)) → first_of ((b, r) ∷ rs) ≡ None → (b ≡ false) × (first_of rs ≡ None)
+first_none : (b : Bool) (r : InstructionRule) (rs : List (Bool × InstructionRule)) → first_of ((b, r) ∷ rs) ≡ None → (b ≡ false) × (first_of rs ≡ None)
 first_none true r rs h = cc
 first_none false r rs h = (refl, h)
 
-effect_none : (f : Option EffectFault) (rs : List (Bool × Rule)) → first_of (effect_rules f ++ rs) ≡ None → (f ≡ None) × (first_of rs ≡ None)
+effect_none : (f : Option EffectFault) (rs : List (Bool × InstructionRule)) → first_of (effect_rules f ++ rs) ≡ None → (f ≡ None) × (first_of rs ≡ None)
 effect_none None rs h = (refl, h)
 effect_none (Some fault) rs h = cc
 

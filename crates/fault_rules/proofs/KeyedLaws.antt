@@ -9,7 +9,7 @@ use Rattle.indexmap.specs.IndexMap.{insert_entry}
 use Rattle.smv_language.specs.ProgramTree.{Text}
 use Rattle.smv_language.specs.Texts.{same_text, is_among, first_with}
 use Rattle.smv_language.proofs.ValueLaws.{both_true, same_text_equal}
-use Rattle.fault_rules.specs.Keyed.{with_text, with_texts, with_entry, with_entries, is_pair_among, with_pair, with_pairs}
+use Rattle.fault_rules.specs.KeyedLists.{with_text, with_texts, with_entry, with_entries, is_pair_among, with_pair, with_pairs}
 use Rattle.smv_language.proofs.BorrowedTexts.{same_bytes}
 use Rattle.smv_language.proofs.BoolLaws.{if_true, if_false, or_false, or_assoc}
 use Rattle.smv_language.proofs.AmongLaws.{among_joined}

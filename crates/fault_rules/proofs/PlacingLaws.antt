@@ -8,9 +8,9 @@ use Rattle.fault_instructions.specs.KindTypes.{type_of_kind}
 use Rattle.fault_rules.specs.Sites.{OwnedSlice, owned, Site, mode_sites, slice_sites, extension_sites}
 use Rattle.fault_rules.specs.Rules.{target_kind}
 use Rattle.fault_rules.specs.Faults.{sites_of, owned_slices, slices_in}
-use Rattle.fault_rules.specs.Placing.{PlacedSlice, placed_at, placed_from, seen_placed, places_in}
+use Rattle.fault_rules.specs.PlacedSlices.{PlacedSlice, placed_at, placed_from, seen_placed, places_in}
 use Rattle.fault_rules.specs.declared.placed.Placed.{Placed}
-use Rattle.fault_rules.specs.declared.items.Met.{Met}
+use Rattle.fault_rules.specs.declared.items.MetItems.{MetItems}
 use Rattle.fault_rules.proofs.KeyedLaws.{map_push}
 use Rattle.fault_rules.proofs.SiteFaults.{slice_first}
 use Rattle.smv_language.proofs.ListLaws.{drop_here}
@@ -45,7 +45,7 @@ module _ (p : ProgramTree) where
       ap (λ xs. xs ++ placed_from p n' rest) taken ∙ append_assoc now (placed_from p n sites) (placed_from p n' rest) ∙ ap (λ k. now ++ (placed_from p n sites ++ placed_from p k rest)) last
       ∙ ap (λ xs. now ++ xs) (sym (places_joined n sites rest)) ∙ left
 
-  pub slices_placed : (all : List PlacedSlice) (now new : Met) (owner : Text) (xs : List Slice) (i : ℕ) (x : Slice) → i < length xs → x ≡ get_or xs i x →
+  pub slices_placed : (all : List PlacedSlice) (now new : MetItems) (owner : Text) (xs : List Slice) (i : ℕ) (x : Slice) → i < length xs → x ≡ get_or xs i x →
       places_in now ++ placed_from p now.last (slice_sites (slices_in now) owner (map slice_tree (drop i xs))) ≡ all →
       places_in new ≡ places_in now ++ placed_from p now.last (slice_sites (slices_in now) owner (slice_tree x ∷ [])) → slices_in new ≡ slices_in now ++ owned owner (slice_tree x) ∷ [] →
       new.last ≡ now.last + length (slice_sites (slices_in now) owner (slice_tree x ∷ [])) →
@@ -58,7 +58,7 @@ module _ (p : ProgramTree) where
       ∙ ap (λ ys. places_in now ++ placed_from p now.last (slice_sites (slices_in now) owner (map slice_tree ys))) (sym (drop_here xs i x below here)) ∙ left)
       taken last
 
-  pub extensions_placed : (all : List PlacedSlice) (now new : Met) (xs : List Extension) (i : ℕ) (x : Extension) → i < length xs → x ≡ get_or xs i x →
+  pub extensions_placed : (all : List PlacedSlice) (now new : MetItems) (xs : List Extension) (i : ℕ) (x : Extension) → i < length xs → x ≡ get_or xs i x →
       places_in now ++ placed_from p now.last (extension_sites (slices_in now) (map extension_tree (drop i xs))) ≡ all →
       places_in new ≡ places_in now ++ placed_from p now.last (sites_of (slices_in now) (extension_tree x)) → slices_in new ≡ slices_in now ++ owned_slices (extension_tree x) →
       new.last ≡ now.last + length (sites_of (slices_in now) (extension_tree x)) →

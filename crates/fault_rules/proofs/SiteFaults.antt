@@ -10,19 +10,19 @@ use Rattle.fault_instructions.specs.declared.instructions.Slice.{Slice}
 use Rattle.fault_instructions.specs.declared.instructions.Extension.{Extension}
 use Rattle.fault_instructions.specs.Instructions.{ModeTree, SliceTree, ExtensionTree, mode_tree, slice_tree, extension_tree}
 use Rattle.fault_instructions.specs.AddedNames.{own_name, mode_variable, mode_symbol}
-use Rattle.fault_instructions.specs.Allowed.{fault_of}
+use Rattle.fault_instructions.specs.AllowedEffects.{fault_of}
 use Rattle.fault_instructions.specs.KindTypes.{type_of_kind}
 use Rattle.fault_rules.specs.Sites.{OwnedSlice, owned, Site, a_slice, a_mode, mode_sites, slice_sites, extension_sites}
 use Rattle.fault_rules.specs.Rules.{first_of, effect_rules, target_kind, is_not_declared, is_state_variable, is_slice_name, is_mode_name, is_affected_already, is_program_name, is_taken, state_names, states_before, owns_before, slice_adds_taken, hides_symbol, broken_at}
 use Rattle.fault_rules.specs.FirstBroken.{AllKept, IsFirstBroken}
-use Rattle.fault_rules.specs.Keyed.{with_text, with_texts, with_pair, with_pairs, is_pair_among}
+use Rattle.fault_rules.specs.KeyedLists.{with_text, with_texts, with_pair, with_pairs, is_pair_among}
 use Rattle.fault_rules.specs.Locals.{variable, seen_kind}
 use Rattle.fault_rules.specs.Faults.{fault_at, first_fault, owned_slices, file_slices, sites_of, slice_rule, names_of, adds_taken, mode_rule, mode_faults, mode_symbols, placed_tree, slices_in, slice_name, target_pair, IsMet, IsTaken, IsLeft}
-use Rattle.fault_rules.specs.declared.fault.Rule.{Rule}
-use Rattle.fault_rules.specs.declared.fault.Rule.TheVariants.{NoSuchVariable, NotAStateVariable, DoubleSlice, DoubleMode, VariableTaken, NameTaken}
+use Rattle.fault_rules.specs.declared.fault.InstructionRule.{InstructionRule}
+use Rattle.fault_rules.specs.declared.fault.InstructionRule.TheVariants.{NoSuchVariable, NotAStateVariable, DoubleSlice, DoubleMode, VariableTaken, NameTaken}
 use Rattle.fault_rules.specs.declared.fault.RuleFault.{RuleFault}
 use Rattle.fault_rules.specs.declared.placed.Placed.{Placed}
-use Rattle.fault_rules.specs.declared.items.Met.{Met}
+use Rattle.fault_rules.specs.declared.items.MetItems.{MetItems}
 use Rattle.fault_rules.specs.declared.items.SliceNames.{SliceNames}
 use Rattle.fault_rules.proofs.KeyedLaws.{among_with, among_texts, among_pairs, texts_more, pairs_more, map_push}
 use Rattle.smv_language.proofs.ListLaws.{flat_end, drop_here, map_length}
@@ -31,12 +31,12 @@ use Rattle.smv_language.specs.Values.{opposite}
 use Rattle.smv_language.proofs.AmongLaws.{among_joined}
 
 -- items after others
-module _ (told : Site → Option Rule) where
+module _ (told : Site → Option InstructionRule) where
   pub faults_none : (n : ℕ) (ss ts : List Site) → first_fault told n ss ≡ None → first_fault told n (ss ++ ts) ≡ first_fault told (n + length ss) ts
   faults_none n [] ts h = ap (λ k. first_fault told k ts) (omega arith)
   faults_none n (s ∷ ss) ts h = go (told s) h (faults_none (n + 1) ss ts)
     where
-      go : (r : Option Rule) → fault_at r (n + 1) (first_fault told (n + 1) ss) ≡ None →
+      go : (r : Option InstructionRule) → fault_at r (n + 1) (first_fault told (n + 1) ss) ≡ None →
           (first_fault told (n + 1) ss ≡ None → first_fault told (n + 1) (ss ++ ts) ≡ first_fault told (n + 1 + length ss) ts) →
           fault_at r (n + 1) (first_fault told (n + 1) (ss ++ ts)) ≡ first_fault told (n + suc (length ss)) ts
       go None h more = more h ∙ ap (λ k. first_fault told k ts) (omega arith)
@@ -46,7 +46,7 @@ module _ (told : Site → Option Rule) where
   faults_some n [] ts f h = cc
   faults_some n (s ∷ ss) ts f h = go (told s) h (faults_some (n + 1) ss ts f)
     where
-      go : (r : Option Rule) → fault_at r (n + 1) (first_fault told (n + 1) ss) ≡ Some f → (first_fault told (n + 1) ss ≡ Some f → first_fault told (n + 1) (ss ++ ts) ≡ Some f) →
+      go : (r : Option InstructionRule) → fault_at r (n + 1) (first_fault told (n + 1) ss) ≡ Some f → (first_fault told (n + 1) ss ≡ Some f → first_fault told (n + 1) (ss ++ ts) ≡ Some f) →
           fault_at r (n + 1) (first_fault told (n + 1) (ss ++ ts)) ≡ Some f
       go None h more = more h
       go (Some r) h more = h
@@ -55,7 +55,7 @@ module _ (told : Site → Option Rule) where
   all_kept n [] h = tt
   all_kept n (s ∷ ss) h = go (told s) refl h (all_kept (n + 1) ss)
     where
-      go : (r : Option Rule) → told s ≡ r → fault_at r (n + 1) (first_fault told (n + 1) ss) ≡ None → (first_fault told (n + 1) ss ≡ None → AllKept told ss) → AllKept told (s ∷ ss)
+      go : (r : Option InstructionRule) → told s ≡ r → fault_at r (n + 1) (first_fault told (n + 1) ss) ≡ None → (first_fault told (n + 1) ss ≡ None → AllKept told ss) → AllKept told (s ∷ ss)
       go None e h more = (e, more h)
       go (Some r) e h more = cc
 
@@ -73,7 +73,7 @@ module _ (told : Site → Option Rule) where
   found n [] f h = absurd cc
   found n (s ∷ ss) f h = go (told s) refl h (found (n + 1) ss f)
     where
-      go : (r : Option Rule) → told s ≡ r → fault_at r (n + 1) (first_fault told (n + 1) ss) ≡ Some f → (first_fault told (n + 1) ss ≡ Some f → IsFound (n + 1) ss f) → IsFound n (s ∷ ss) f
+      go : (r : Option InstructionRule) → told s ≡ r → fault_at r (n + 1) (first_fault told (n + 1) ss) ≡ Some f → (first_fault told (n + 1) ss ≡ Some f → IsFound (n + 1) ss f) → IsFound n (s ∷ ss) f
       go None e h more =
           let rest : IsFound (n + 1) ss f = more h in
           record {
@@ -111,8 +111,8 @@ module _ (told : Site → Option Rule) where
       }
 
 -- what is left, one piece on
-module _ (p : ProgramTree) (old now : Met) (all sites rest : List Site) (slices more more_left : List OwnedSlice) where
-  pub left_next : (new : Met) → IsLeft p old now all (sites ++ rest) slices (more ++ more_left) → IsTaken p now.last now new sites more → IsLeft p old new all rest slices more_left
+module _ (p : ProgramTree) (old now : MetItems) (all sites rest : List Site) (slices more more_left : List OwnedSlice) where
+  pub left_next : (new : MetItems) → IsLeft p old now all (sites ++ rest) slices (more ++ more_left) → IsTaken p now.last now new sites more → IsLeft p old new all rest slices more_left
   left_next new left taken = record {
     faults = ap (λ k. first_fault (broken_at p) k rest) taken.last ∙ sym (faults_none (broken_at p) now.last sites rest taken.kept) ∙ left.faults;
     last =
@@ -178,7 +178,7 @@ pairs_mapped : (before : List OwnedSlice) (o : OwnedSlice) → is_pair_among (ma
 pairs_mapped [] o = refl
 pairs_mapped (b ∷ before) o = ap (λ a. (same_text b.owner o.owner && same_text b.slice.target o.slice.target) || a) (pairs_mapped before o)
 
-module _ (met : Met) (is : IsMet met) where
+module _ (met : MetItems) (is : IsMet met) where
   pub states_have : (x : Text) → is_among met.states x ≡ is_among (states_before (slices_in met)) x
   states_have x = ap (λ xs. is_among xs x) is.states ∙ among_texts [] (states_before (slices_in met)) x
 
@@ -227,7 +227,7 @@ module _ (met : Met) (is : IsMet met) where
       (λ i. slice_rule (slice_names_have o.slice.name i) (targets_have o i) (adds_same p o i) (hides_symbol (find_module p o.owner) type))
       ∙ sym (typed_rule p o (target_kind p o) type (is_slice_name (slices_in met) o.slice.name) (is_affected_already (slices_in met) o) (slice_adds_taken p (slices_in met) o) h)
 
-module _ (old new : Met) (o : OwnedSlice) (is : IsMet old) (slices_are : slices_in new ≡ slices_in old ++ o ∷ []) where
+module _ (old new : MetItems) (o : OwnedSlice) (is : IsMet old) (slices_are : slices_in new ≡ slices_in old ++ o ∷ []) where
   pub met_after : new.states ≡ with_texts old.states (state_names o.slice.name o.slice.modes) → new.owns ≡ with_text old.owns (own_name o.slice.target) →
       new.slices ≡ with_text old.slices o.slice.name → new.targets ≡ with_pair old.targets (target_pair o) → IsMet new
   met_after states owns slices targets = record {
@@ -249,7 +249,7 @@ mode_count before o earlier (m ∷ ms) = ap suc (mode_count before o (earlier ++
 pub modes_last : (before : List OwnedSlice) (o : OwnedSlice) (ms : List ModeRule) (n last : ℕ) → last ≡ n + length ms → last ≡ n + length (mode_sites before o [] (map mode_tree ms))
 modes_last before o ms n last e = e ∙ ap (λ k. n + k) (sym (mode_count before o [] (map mode_tree ms) ∙ map_length mode_tree ms))
 
-module _ (p : ProgramTree) (old : Met) (is : IsMet old) (o : OwnedSlice) (names : SliceNames) (named : names ≡ names_of o.slice) (states owns : List Text)
+module _ (p : ProgramTree) (old : MetItems) (is : IsMet old) (o : OwnedSlice) (names : SliceNames) (named : names ≡ names_of o.slice) (states owns : List Text)
     (with_states : states ≡ with_texts old.states (names.switch ∷ names.nominal ∷ [])) (with_own : owns ≡ with_text old.owns names.own) where
   places_states : states ≡ with_texts old.states (mode_variable o.slice.name ∷ mode_symbol o.slice.name None ∷ [])
   places_states = with_states ∙ ap (λ (n : SliceNames). with_texts old.states (n.switch ∷ n.nominal ∷ [])) named
@@ -269,7 +269,7 @@ module _ (p : ProgramTree) (old : Met) (is : IsMet old) (o : OwnedSlice) (names 
       mode_faults p owns o.slice.name type states [] n ms ≡ first_fault (broken_at p) n (mode_sites (slices_in old) o [] ms)
   place_faults type n ms t = ap (λ u. mode_faults p owns o.slice.name u states [] n ms) t ∙ modes_are p (slices_in old) o owns owns_same states [] [] ms n states_same (λ x. refl)
 
-  pub place_met : (new : Met) → slices_in new ≡ slices_in old ++ o ∷ [] → new.states ≡ with_texts states (mode_symbols o.slice.name o.slice.modes) → new.owns ≡ owns →
+  pub place_met : (new : MetItems) → slices_in new ≡ slices_in old ++ o ∷ [] → new.states ≡ with_texts states (mode_symbols o.slice.name o.slice.modes) → new.owns ≡ owns →
       new.slices ≡ with_text old.slices o.slice.name → new.targets ≡ with_pair old.targets (target_pair o) → IsMet new
   place_met new slices_are more_states same_owns slices targets =
       met_after old new o is slices_are
@@ -281,7 +281,7 @@ pub placed_more : (old new : List Placed) (placed : Placed) → new ≡ old ++ p
 placed_more old new placed e = ap (map placed_tree) e ∙ map_push placed_tree old placed
 
 -- the loops over slices and over EXTENSIONS, one on
-module _ (p : ProgramTree) (old now : Met) (owner : Text) (all : List Site) (file : List OwnedSlice) (xs : List Slice) (i : ℕ) (x : Slice) (below : i < length xs) (here : x ≡ get_or xs i x) where
+module _ (p : ProgramTree) (old now : MetItems) (owner : Text) (all : List Site) (file : List OwnedSlice) (xs : List Slice) (i : ℕ) (x : Slice) (below : i < length xs) (here : x ≡ get_or xs i x) where
   abbrev later : List SliceTree
   later = map slice_tree (drop (i + 1) xs)
 
@@ -291,7 +291,7 @@ module _ (p : ProgramTree) (old now : Met) (owner : Text) (all : List Site) (fil
       subst (λ sites. IsLeft p old now all sites file (owned owner (slice_tree x) ∷ map (owned owner) later)) (slice_first (slices_in now) owner (slice_tree x) later)
       (subst (λ ys. IsLeft p old now all (slice_sites (slices_in now) owner (map slice_tree ys)) file (map (owned owner) (map slice_tree ys))) (drop_here xs i x below here) left)
 
-  pub slices_next : (new : Met) → IsLeft p old now all (slice_sites (slices_in now) owner (map slice_tree (drop i xs))) file (map (owned owner) (map slice_tree (drop i xs))) →
+  pub slices_next : (new : MetItems) → IsLeft p old now all (slice_sites (slices_in now) owner (map slice_tree (drop i xs))) file (map (owned owner) (map slice_tree (drop i xs))) →
       IsTaken p now.last now new (slice_sites (slices_in now) owner (slice_tree x ∷ [])) (owned owner (slice_tree x) ∷ []) → IsLeft p old new all (slice_sites (slices_in new) owner later) file (map (owned owner) later)
   slices_next new left taken =
       subst (λ before. IsLeft p old new all (slice_sites before owner later) file (map (owned owner) later)) (sym taken.slices_are)
@@ -304,7 +304,7 @@ module _ (p : ProgramTree) (old now : Met) (owner : Text) (all : List Site) (fil
       left_stops p old now all (slice_sites (slices_in now) owner (slice_tree x ∷ [])) (slice_sites (slices_in now ++ owned owner (slice_tree x) ∷ []) owner later) file (owned owner (slice_tree x) ∷ []) (map (owned owner) later) f
       (slices_left left) told
 
-module _ (p : ProgramTree) (old now : Met) (all : List Site) (file : List OwnedSlice) (xs : List Extension) (i : ℕ) (x : Extension) (below : i < length xs) (here : x ≡ get_or xs i x) where
+module _ (p : ProgramTree) (old now : MetItems) (all : List Site) (file : List OwnedSlice) (xs : List Extension) (i : ℕ) (x : Extension) (below : i < length xs) (here : x ≡ get_or xs i x) where
   abbrev others : List ExtensionTree
   others = map extension_tree (drop (i + 1) xs)
 
@@ -312,7 +312,7 @@ module _ (p : ProgramTree) (old now : Met) (all : List Site) (file : List OwnedS
       IsLeft p old now all (sites_of (slices_in now) (extension_tree x) ++ extension_sites (slices_in now ++ owned_slices (extension_tree x)) others) file (owned_slices (extension_tree x) ++ file_slices others)
   extensions_left left = subst (λ ys. IsLeft p old now all (extension_sites (slices_in now) (map extension_tree ys)) file (file_slices (map extension_tree ys))) (drop_here xs i x below here) left
 
-  pub extensions_next : (new : Met) → IsLeft p old now all (extension_sites (slices_in now) (map extension_tree (drop i xs))) file (file_slices (map extension_tree (drop i xs))) →
+  pub extensions_next : (new : MetItems) → IsLeft p old now all (extension_sites (slices_in now) (map extension_tree (drop i xs))) file (file_slices (map extension_tree (drop i xs))) →
       IsTaken p now.last now new (sites_of (slices_in now) (extension_tree x)) (owned_slices (extension_tree x)) → IsLeft p old new all (extension_sites (slices_in new) others) file (file_slices others)
   extensions_next new left taken =
       subst (λ before. IsLeft p old new all (extension_sites before others) file (file_slices others)) (sym taken.slices_are)

@@ -17,7 +17,7 @@ use Rattle.base_values.proofs.ListLaws.{all_more}
 use Rattle.smv_language.proofs.ListLaws.{drop_here}
 use Rattle.fault_instructions.specs.declared.instructions.ModeRule.{ModeRule}
 use Rattle.fault_instructions.specs.Instructions.{mode_tree}
-use Rattle.fault_rules.specs.Keyed.{with_text, with_texts}
+use Rattle.fault_rules.specs.KeyedLists.{with_text, with_texts}
 use Rattle.fault_rules.proofs.KeyedLaws.{map_push}
 use Rattle.fault_rules.specs.Steps.{is_step, step_to, step_from, walk, walk_on, texts_from, text_at, texts_in, texts_after, with_end, is_end_of, AreSteps, IsTree, IsBeginning}
 

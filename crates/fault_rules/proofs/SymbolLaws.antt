@@ -7,16 +7,16 @@ use Rattle.fault_instructions.specs.declared.instructions.ModeRule.{ModeRule}
 use Rattle.fault_instructions.specs.Instructions.{ModeTree, mode_tree}
 use Rattle.smv_language.proofs.ListLaws.{drop_here}
 use Rattle.fault_instructions.specs.AddedNames.{mode_symbol}
-use Rattle.fault_instructions.specs.Allowed.{fault_of}
+use Rattle.fault_instructions.specs.AllowedEffects.{fault_of}
 use Rattle.fault_rules.specs.Rules.{first_of, effect_rules, is_taken, is_program_name}
-use Rattle.fault_rules.specs.Keyed.{with_text}
+use Rattle.fault_rules.specs.KeyedLists.{with_text}
 use Rattle.fault_rules.specs.Faults.{fault_at, rule_of, faults_of, IsKnown}
 use Rattle.fault_rules.specs.Symbols.{has_symbol, AreSymbolsOf, rule_among, faults_among}
-use Rattle.fault_rules.specs.declared.fault.Rule.{Rule}
-use Rattle.fault_rules.specs.declared.fault.Rule.TheVariants.{DoubleMode, NameTaken}
+use Rattle.fault_rules.specs.declared.fault.InstructionRule.{InstructionRule}
+use Rattle.fault_rules.specs.declared.fault.InstructionRule.TheVariants.{DoubleMode, NameTaken}
 use Rattle.fault_rules.specs.declared.fault.RuleFault.{RuleFault}
-use Rattle.fault_rules.specs.declared.modes.Judged.{Judged}
-use Rattle.fault_rules.specs.declared.modes.Symbols.{Symbols}
+use Rattle.fault_rules.specs.declared.modes.JudgedSlice.{JudgedSlice}
+use Rattle.fault_rules.specs.declared.modes.TakenSymbols.{TakenSymbols}
 use Rattle.fault_rules.proofs.KeyedLaws.{among_with}
 use Rattle.fault_rules.proofs.LocalLaws.{program_has}
 use Rattle.smv_language.proofs.BoolLaws.{or_false, or_assoc}
@@ -30,7 +30,7 @@ pub same_after : (x t u : Text) → same_text (x ++ t) (x ++ u) ≡ same_text t 
 same_after [] t u = refl
 same_after (b ∷ x) t u = ap (λ e. e && same_text (x ++ t) (x ++ u)) (itself b) ∙ same_after x t u
 
-module _ (judged : Judged) (start : List Text) (symbols : Symbols) (known : IsKnown judged.known.now) (are : AreSymbolsOf judged start symbols) where
+module _ (judged : JudgedSlice) (start : List Text) (symbols : TakenSymbols) (known : IsKnown judged.known.now) (are : AreSymbolsOf judged start symbols) where
   abbrev symbol_of : Text → Text
   symbol_of x = mode_symbol judged.slice.now.name (Some x)
 
@@ -53,7 +53,7 @@ module _ (judged : Judged) (start : List Text) (symbols : Symbols) (known : IsKn
   rule_alike : (states names : List Text) → Agree states names → (m : ModeTree) → rule_among judged symbols names m ≡ rule_of judged states names m
   rule_alike states names h m = go (is_among names m.name) refl
     where
-      after : Bool → Bool → Option Rule
+      after : Bool → Bool → Option InstructionRule
       after double taken = first_of ((double, DoubleMode) ∷ (effect_rules (fault_of m.effect (declared_tree judged.declared.now)) ++ (taken, NameTaken) ∷ []))
 
       go : (b : Bool) → is_among names m.name ≡ b → after (is_among names m.name) (has_symbol symbols m.name)
@@ -80,7 +80,7 @@ module _ (judged : Judged) (start : List Text) (symbols : Symbols) (known : IsKn
   faults_from_none n ms = faults_alike start [] (λ x. sym (or_false (is_among start (symbol_of x)))) n ms
 
 -- modes, one on
-module _ (judged : Judged) (symbols : Symbols) (names : List Text) (n : ℕ) (ms : List ModeRule) (i : ℕ) (m : ModeRule) (below : i < length ms) (here : m ≡ get_or ms i m) where
+module _ (judged : JudgedSlice) (symbols : TakenSymbols) (names : List Text) (n : ℕ) (ms : List ModeRule) (i : ℕ) (m : ModeRule) (below : i < length ms) (here : m ≡ get_or ms i m) where
   abbrev pub rest : List Text → ℕ → Option RuleFault
   rest ns k = faults_among judged symbols ns k (map mode_tree (drop (i + 1) ms))
 

@@ -15,7 +15,7 @@ use Rattle.fault_instructions.proofs.FoundModules.{found_among}
 use Rattle.fault_rules.specs.Sites.{OwnedSlice, owned, item_sites}
 use Rattle.fault_rules.specs.Rules.{target_kind, is_state_variable, state_names, states_before, owns_before, hides_symbol, broken_at}
 use Rattle.fault_rules.specs.FirstBroken.{AllKept}
-use Rattle.fault_rules.specs.Judged.{IsJudged, IsJudgedMode}
+use Rattle.fault_rules.specs.Prerequisites.{IsJudged, IsJudgedMode}
 use Rattle.fault_rules.proofs.ProgramNames.{any_false, undeclared_there, no_symbol}
 use Rattle.fault_rules.proofs.KeptItems.{among_left, among_right, among_map, among_flat, all_slices, slice_in_file, IsKeptSlice, StandsAfter, kept_at, two_slices, extensions_kept, ModeAfter, mode_at, two_modes}
 use Rattle.fault_rules.proofs.KeptFacts.{SliceKept, slice_facts, ModeKept, mode_facts, IsFree, free, state_among, symbol_kept, not_nominal, state_type, finite_type, free_symbols, effect_allowed, instance_found}

@@ -1,12 +1,14 @@
 -- What names are in their modules, as far as instructions ask.
 use Rattle.std.specs.Prelude.{List, [], ◌++◌, Option, Some, None, map, flat_map}
-use Rattle.smv_language.specs.ProgramTree.{Text, DeclaredTree, boolean, range, members, instance, DeclTree, DefineTree, SectionTree, var, ivar, frozen, define, constants, assign, init, invar, trans, ModuleTree, ProgramTree, declared_tree}
+use Rattle.smv_language.specs.ProgramTree.{Text, DeclaredTree, boolean, range, members, instance, DeclTree, DefineTree, SectionTree, var}
+use Rattle.smv_language.specs.ProgramTree.{ivar, frozen, define, constants, assign, init, invar, trans, ModuleTree, ProgramTree}
+use Rattle.smv_language.specs.ProgramTree.{declared_tree}
 use Rattle.smv_language.specs.Scope.{state, input, frozen_role, Kind, a_formal, a_variable, a_define, an_instance, undeclared}
-use Rattle.fault_rules.specs.Keyed.{with_entries}
-use Rattle.fault_rules.specs.declared.modules.Local.{Local}
-use Rattle.fault_rules.specs.declared.modules.Local.TheVariants as local
-use Rattle.fault_rules.specs.declared.modules.Scope.{Scope}
-use Rattle.fault_rules.specs.declared.modules.Known.{Known}
+use Rattle.fault_rules.specs.KeyedLists.{with_entries}
+use Rattle.fault_rules.specs.declared.modules.LocalName.{LocalName}
+use Rattle.fault_rules.specs.declared.modules.LocalName.TheVariants as local
+use Rattle.fault_rules.specs.declared.modules.ModuleScope.{ModuleScope}
+use Rattle.fault_rules.specs.declared.modules.KnownProgram.{KnownProgram}
 use Rattle.smv_language.specs.Texts.{first_with}
 
 -- a formal, a variable of a VAR section, or something else that is declared
@@ -16,7 +18,7 @@ pub data LocalTree : Type 0 where
   other : LocalTree
 
 -- what a name is, as the code has it
-abbrev pub local_tree : Local → LocalTree
+abbrev pub local_tree : LocalName → LocalTree
 local_tree local.Formal = formal
 local_tree (local.Variable what) = variable (declared_tree what.now)
 local_tree local.Other = other
@@ -79,11 +81,11 @@ abbrev pub scopes_of : ProgramTree → List (Text × List (Text × LocalTree))
 scopes_of p = map scope_of p
 
 -- what the code keeps of a module
-abbrev pub locals_in : Scope → List (Text × LocalTree)
+abbrev pub locals_in : ModuleScope → List (Text × LocalTree)
 locals_in s = map (λ e. (e.0.now, local_tree e.1)) s.locals.entries
 
 -- what the code keeps of all modules
-abbrev pub scopes_in : Known → List (Text × List (Text × LocalTree))
+abbrev pub scopes_in : KnownProgram → List (Text × List (Text × LocalTree))
 scopes_in k = map (λ e. (e.0.now, locals_in e.1)) k.scopes.entries
 
 -- what a name is in a scope, where there is one

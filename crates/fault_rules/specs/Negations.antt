@@ -3,9 +3,11 @@ use Rattle.std.specs.Prelude.{ℤ, negsuc, Bool, true, ◌&&◌}
 use Rattle.std.specs.List.{list_all}
 use Rattle.smv_language.specs.declared.program.Member.{Member}
 use Rattle.smv_language.specs.declared.program.Member.TheVariants as member
-use Rattle.smv_language.specs.ProgramTree.{DeclaredTree, boolean, range, members, instance, DeclTree, SectionTree, var, ivar, frozen as frozen_section, define, constants, assign, init, invar, trans, ModuleTree}
+use Rattle.smv_language.specs.ProgramTree.{DeclaredTree, boolean, range, members, instance, DeclTree, SectionTree, var, ivar}
+use Rattle.smv_language.specs.ProgramTree.{frozen as frozen_section, define, constants, assign, init, invar, trans, ModuleTree}
 use Rattle.smv_language.specs.Values.{Value, truth, number, symbol, at_most}
-use Rattle.fault_instructions.specs.Instructions.{EffectTree, stuck_at, follows, inverted, random, erroneous, frozen, stuck_at_pick, offset, ramp_down, ModeTree, SliceTree, ExtensionTree}
+use Rattle.fault_instructions.specs.Instructions.{EffectTree, stuck_at, follows, inverted, random, erroneous, frozen, stuck_at_pick, offset}
+use Rattle.fault_instructions.specs.Instructions.{ramp_down, ModeTree, SliceTree, ExtensionTree}
 
 -- the number's negation is within 64 bits
 abbrev pub has_negation : ℤ → Bool

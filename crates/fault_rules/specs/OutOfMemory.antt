@@ -1,6 +1,6 @@
 -- Want of memory, as it is told.
 use Rattle.std.specs.Prelude.{◌≡◌}
-use Rattle.fault_rules.specs.declared.fault.Rule.TheVariants.{OutOfMemory}
+use Rattle.fault_rules.specs.declared.fault.InstructionRule.TheVariants.{OutOfMemory}
 use Rattle.fault_rules.specs.declared.fault.RuleFault.{RuleFault}
 
 -- the fault says that memory was wanting

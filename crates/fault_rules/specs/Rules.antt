@@ -3,17 +3,20 @@ use Rattle.std.specs.Prelude.{Bool, true, false, ◌||◌, ◌&&◌, List, [], �
 use Rattle.std.specs.List.{list_any}
 use Rattle.smv_language.specs.declared.program.Member.{Member}
 use Rattle.smv_language.specs.declared.program.Member.TheVariants as member
-use Rattle.smv_language.specs.ProgramTree.{Text, DeclaredTree, boolean, range, members, instance, DeclTree, DefineTree, SectionTree, var, ivar, frozen, define, constants, assign, init, invar, trans, ModuleTree, ProgramTree}
+use Rattle.smv_language.specs.ProgramTree.{Text, DeclaredTree, boolean, range, members, instance, DeclTree, DefineTree, SectionTree, var}
+use Rattle.smv_language.specs.ProgramTree.{ivar, frozen, define, constants, assign, init, invar, trans, ModuleTree, ProgramTree}
 use Rattle.smv_language.specs.Texts.{same_text, is_among}
-use Rattle.smv_language.specs.Scope.{state, input, frozen_role, Kind, a_formal, a_variable, a_define, an_instance, undeclared, find_module, kind_at, is_symbol_of_type}
+use Rattle.smv_language.specs.Scope.{state, input, frozen_role, Kind, a_formal, a_variable, a_define, an_instance, undeclared, find_module}
+use Rattle.smv_language.specs.Scope.{kind_at, is_symbol_of_type}
 use Rattle.fault_instructions.specs.Instructions.{ModeTree}
 use Rattle.fault_instructions.specs.AddedNames.{own_name, mode_variable, mode_symbol}
-use Rattle.fault_instructions.specs.Allowed.{fault_of}
+use Rattle.fault_instructions.specs.AllowedEffects.{fault_of}
 use Rattle.fault_instructions.specs.declared.fault.EffectFault.{EffectFault}
 use Rattle.fault_instructions.specs.KindTypes.{type_of_kind}
 use Rattle.fault_rules.specs.Sites.{OwnedSlice, Site, an_extension, a_slice, a_mode}
-use Rattle.fault_rules.specs.declared.fault.Rule.{Rule}
-use Rattle.fault_rules.specs.declared.fault.Rule.TheVariants.{NoSuchModule, NoSuchVariable, NotAStateVariable, DoubleSlice, DoubleMode, VariableTaken, Effect, NameTaken}
+use Rattle.fault_rules.specs.declared.fault.InstructionRule.{InstructionRule}
+use Rattle.fault_rules.specs.declared.fault.InstructionRule.TheVariants.{NoSuchModule, NoSuchVariable, NotAStateVariable, DoubleSlice}
+use Rattle.fault_rules.specs.declared.fault.InstructionRule.TheVariants.{DoubleMode, VariableTaken, Effect, NameTaken}
 use Rattle.smv_language.specs.Values.{opposite}
 
 -- no module has the name
@@ -133,29 +136,32 @@ slice_adds_taken p before o =
 -- the mode's item adds its symbol, after the names of its slice and of the modes before it
 abbrev pub mode_adds_taken : ProgramTree → List OwnedSlice → OwnedSlice → List ModeTree → ModeTree → Bool
 mode_adds_taken p before o earlier m =
-    is_taken p (states_before before ++ state_names o.slice.name earlier) (owns_before (before ++ o ∷ [])) (mode_symbol o.slice.name (Some m.name))
+    is_taken p (states_before before
+    ++ state_names o.slice.name earlier) (owns_before (before ++ o ∷ [])) (mode_symbol o.slice.name (Some m.name))
 
 -- whether a rule is broken, and the rule
-abbrev pub effect_rules : Option EffectFault → List (Bool × Rule)
+abbrev pub effect_rules : Option EffectFault → List (Bool × InstructionRule)
 effect_rules None = []
 effect_rules (Some fault) = (true, Effect fault) ∷ []
 
 -- the rules at an item, in their order
-abbrev pub rules_at : ProgramTree → Site → List (Bool × Rule)
+abbrev pub rules_at : ProgramTree → Site → List (Bool × InstructionRule)
 rules_at p (an_extension owner) = (is_missing (find_module p owner), NoSuchModule) ∷ []
 rules_at p (a_slice before o) =
-    (is_not_declared (target_kind p o), NoSuchVariable) ∷ (opposite (is_state_variable (target_kind p o)), NotAStateVariable) ∷ (is_slice_name before o.slice.name, DoubleSlice)
+    (is_not_declared (target_kind p o), NoSuchVariable) ∷ (opposite (is_state_variable (target_kind p o)), NotAStateVariable)
+    ∷ (is_slice_name before o.slice.name, DoubleSlice)
     ∷ (is_affected_already before o, VariableTaken)
     ∷ (slice_adds_taken p before o || hides_symbol (find_module p o.owner) (type_of_kind (target_kind p o)), NameTaken)
     ∷ []
 rules_at p (a_mode before o earlier m) =
-    (is_mode_name earlier m.name, DoubleMode) ∷ (effect_rules (fault_of m.effect (type_of_kind (target_kind p o))) ++ (mode_adds_taken p before o earlier m, NameTaken) ∷ [])
+    (is_mode_name earlier m.name, DoubleMode)
+    ∷ (effect_rules (fault_of m.effect (type_of_kind (target_kind p o))) ++ (mode_adds_taken p before o earlier m, NameTaken) ∷ [])
 
 -- the first rule of a list that is broken
-abbrev pub first_of : List (Bool × Rule) → Option Rule
+abbrev pub first_of : List (Bool × InstructionRule) → Option InstructionRule
 first_of [] = None
 first_of (r ∷ rs) = if r.0 then Some r.1 else first_of rs
 
 -- the first rule that an item breaks
-abbrev pub broken_at : ProgramTree → Site → Option Rule
+abbrev pub broken_at : ProgramTree → Site → Option InstructionRule
 broken_at p site = first_of (rules_at p site)

@@ -1,5 +1,6 @@
 -- Trees of texts: each beginning of a text has a place, and steps by a byte lead from place to place.
-use Rattle.std.specs.Prelude.{◌≡◌, ℕ, ◌+◌, ◌≤◌, ◌<◌, ◌^◌, Bool, false, List, [], ◌∷◌, ◌++◌, Option, Some, None, ◌&&◌, nat_eq, length, map, option_map, position, slice_index_or, if◌then◌else◌}
+use Rattle.std.specs.Prelude.{◌≡◌, ℕ, ◌+◌, ◌≤◌, ◌<◌, ◌^◌, Bool, false, List, [], ◌∷◌, ◌++◌, Option, Some, None, ◌&&◌, nat_eq, length, map}
+use Rattle.std.specs.Prelude.{option_map, position, slice_index_or, if◌then◌else◌}
 use Rattle.std.specs.List.{list_any, AllByRecursion, IsDistinct}
 use Rattle.smv_language.specs.ProgramTree.{Text}
 use Rattle.fault_instructions.specs.Instructions.{ModeTree}

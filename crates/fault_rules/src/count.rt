@@ -1,16 +1,16 @@
 //! The limits of faults and modes ([`judge_counts`]): one pass over the items counts, for each mode, the faults that it is
 //! at the instances of its module, and tells the first mode with which there are too many.
-
 ghost use Rattle.std.specs.Prelude.{◌≡◌, ◌≢◌, Ok, Err, IfOk, IfErr, OnOk, map};
 ghost use Rattle.smv_language.specs.Texts.{same_text};
 ghost use Rattle.fault_instructions.specs.Instructions.{instruction_tree, extension_tree, slice_tree, mode_tree};
 ghost use Rattle.fault_rules.specs.Sites.{item_sites};
 ghost use Rattle.fault_rules.specs.FirstBroken.{AllKept, IsFirstBroken};
-ghost use Rattle.fault_rules.specs.Counting.{instances_of as instances_among, count_broken_at};
-ghost use Rattle.fault_rules.specs.Counted.{module_names, counted_mode, counted_modes, counted_slice, counted_slices, counted_extension, counted_extensions};
-ghost use Rattle.fault_rules.specs.declared.fault.Rule.TheVariants as broken;
+ghost use Rattle.fault_rules.specs.CountLimits.{instances_of as instances_among, count_broken_at};
+ghost use Rattle.fault_rules.specs.FaultCounts.{module_names, counted_mode, counted_modes, counted_slice, counted_slices};
+ghost use Rattle.fault_rules.specs.FaultCounts.{counted_extension, counted_extensions};
+ghost use Rattle.fault_rules.specs.declared.fault.InstructionRule.TheVariants as broken;
 
-use crate::fault::{Rule, RuleFault};
+use crate::fault::{InstructionRule, RuleFault};
 use crate::placed::item_after;
 use base_values::Name;
 use fault_instructions::{Extension, Instructions, ModeRule, Slice};
@@ -61,7 +61,8 @@ fn count_extension(
     extension: &Extension,
     before: Counted,
 ) -> Result<Counted, RuleFault>
-    ensures counted { IfOk result (λ counted. counted_extension (module_names instances.now) (extension_tree extension.now) before ≡ Ok counted) }
+    ensures counted { IfOk result (λ counted. counted_extension (module_names instances.now) (extension_tree extension.now) before
+        ≡ Ok counted) }
     ensures told { IfErr result (λ fault. fault.rule ≢ broken.OutOfMemory →
         counted_extension (module_names instances.now) (extension_tree extension.now) before ≡ Err fault) }
 {
@@ -87,7 +88,8 @@ fn instances_of(instances: &[&Name], module: &Name) -> usize
 /// Counts the items and faults of slices.
 fn count_slices(instances: usize, slices: &[Slice], before: Counted) -> Result<Counted, RuleFault>
     ensures counted { IfOk result (λ counted. counted_slices instances (map slice_tree slices.now) before ≡ Ok counted) }
-    ensures told { IfErr result (λ fault. fault.rule ≢ broken.OutOfMemory → counted_slices instances (map slice_tree slices.now) before ≡ Err fault) }
+    ensures told { IfErr result (λ fault. fault.rule ≢ broken.OutOfMemory →
+        counted_slices instances (map slice_tree slices.now) before ≡ Err fault) }
 {
     let mut counted = before;
     for slice in slices {
@@ -99,7 +101,8 @@ fn count_slices(instances: usize, slices: &[Slice], before: Counted) -> Result<C
 /// Counts a slice and its modes.
 fn count_slice(instances: usize, slice: &Slice, before: Counted) -> Result<Counted, RuleFault>
     ensures counted { IfOk result (λ counted. counted_slice instances (slice_tree slice.now) before ≡ Ok counted) }
-    ensures told { IfErr result (λ fault. fault.rule ≢ broken.OutOfMemory → counted_slice instances (slice_tree slice.now) before ≡ Err fault) }
+    ensures told { IfErr result (λ fault. fault.rule ≢ broken.OutOfMemory →
+        counted_slice instances (slice_tree slice.now) before ≡ Err fault) }
 {
     let item = item_after(before.item)?;
     let faults = before.faults;
@@ -109,7 +112,8 @@ fn count_slice(instances: usize, slice: &Slice, before: Counted) -> Result<Count
 /// Counts the modes of a slice.
 fn count_modes(instances: usize, modes: &[ModeRule], before: Counted) -> Result<Counted, RuleFault>
     ensures counted { IfOk result (λ counted. counted_modes instances 0 (map mode_tree modes.now) before ≡ Ok counted) }
-    ensures told { IfErr result (λ fault. fault.rule ≢ broken.OutOfMemory → counted_modes instances 0 (map mode_tree modes.now) before ≡ Err fault) }
+    ensures told { IfErr result (λ fault. fault.rule ≢ broken.OutOfMemory →
+        counted_modes instances 0 (map mode_tree modes.now) before ≡ Err fault) }
 {
     let mut counted = before;
     for (place, _mode) in modes.iter().enumerate() {
@@ -127,7 +131,7 @@ fn count_mode(instances: usize, place: usize, before: Counted) -> Result<Counted
     match before.faults.checked_add(instances) {
         Some(faults) if place < LIMIT && faults <= LIMIT => Ok(Counted { item, faults }),
         _ => Err(RuleFault {
-            rule: Rule::TooManyFaults,
+            rule: InstructionRule::TooManyFaults,
             item,
         }),
     }

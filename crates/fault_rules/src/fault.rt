@@ -1,6 +1,5 @@
 //! The rules that instructions keep about a program, and the first that is broken ([`RuleFault`]). Want of memory counts as
 //! the last rule, and every call turns it into a fault by `From`.
-
 ghost use Rattle.fault_rules.specs.OutOfMemory.{IsWant};
 
 use base_values::OutOfMemory;
@@ -10,7 +9,7 @@ use std::alloc::{AllocError, AllocFailed};
 /// A rule that instructions break. Of two that an item breaks in one group, the one that stands first here
 /// is told.
 #[derive(Clone, Copy, Debug, PartialEq, Eq)]
-pub enum Rule {
+pub enum InstructionRule {
     /// An EXTENSION of a module that the program doesn't have.
     NoSuchModule,
     /// A SLICE that affects no declared name of its module.
@@ -37,7 +36,7 @@ pub enum Rule {
 /// written order: each EXTENSION, SLICE and MODE is one. With `OutOfMemory` the item says nothing.
 #[derive(Clone, Copy, Debug, PartialEq, Eq)]
 pub struct RuleFault {
-    pub rule: Rule,
+    pub rule: InstructionRule,
     pub item: u32,
 }
 
@@ -46,7 +45,7 @@ impl From<OutOfMemory> for RuleFault {
 
     fn from(_refused: OutOfMemory) -> RuleFault {
         RuleFault {
-            rule: Rule::OutOfMemory,
+            rule: InstructionRule::OutOfMemory,
             item: 0,
         }
     }
@@ -57,7 +56,7 @@ impl From<AllocError> for RuleFault {
 
     fn from(_refused: AllocError) -> RuleFault {
         RuleFault {
-            rule: Rule::OutOfMemory,
+            rule: InstructionRule::OutOfMemory,
             item: 0,
         }
     }
@@ -68,7 +67,7 @@ impl<T: Drop> From<AllocFailed<T>> for RuleFault {
 
     fn from(_refused: AllocFailed<T>) -> RuleFault {
         RuleFault {
-            rule: Rule::OutOfMemory,
+            rule: InstructionRule::OutOfMemory,
             item: 0,
         }
     }

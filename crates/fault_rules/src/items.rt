@@ -1,9 +1,8 @@
 //! The rules that are tried at each item of the instructions, in written order. [`placed_slices`] is the main function.
 //!
-//! [`Met`] has what the items so far add, so that each item is judged after those before it: an EXTENSION by its module; a
+//! [`MetItems`] has what the items so far add, so that each item is judged after those before it: an EXTENSION by its module; a
 //! SLICE by its variable, its name, whether the variable is affected already, and the names that it adds, in this order;
 //! and then its modes (`modes`). What is added is noted only for an item that breaks no rule.
-
 ghost use Rattle.std.specs.Prelude.{◌≡◌, ◌≢◌, ◌||◌, ◌++◌, [], ◌∷◌, IfOk, IfErr, OnOk, Some, None, map, option_map};
 ghost use Rattle.std.specs.Result.{result_err};
 ghost use Rattle.std.specs.List.{list_any};
@@ -15,18 +14,20 @@ ghost use Rattle.fault_rules.specs.Sites.{owned, a_slice, item_sites, mode_sites
 ghost use Rattle.fault_rules.specs.Rules.{broken_at, target_kind, is_program_name, is_local_member, hides_symbol as hides_symbol_of};
 ghost use Rattle.fault_rules.specs.FirstBroken.{AllKept, IsFirstBroken};
 ghost use Rattle.fault_rules.specs.Locals.{local_tree, variable};
-ghost use Rattle.fault_rules.specs.Faults.{IsKnown, IsMet, IsTaken, IsFirstAfter, program_known, later_rule as later_rule_of, sites_of, slices_in, names_of, target_rule, is_taken_with, adds_taken as adds_taken_by, owned_slices, file_slices, placed_tree};
-ghost use Rattle.fault_rules.specs.Keyed.{with_text, with_texts, with_pair};
-ghost use Rattle.fault_rules.specs.Placing.{placed_from, seen_placed, places_in};
+ghost use Rattle.fault_rules.specs.Faults.{IsKnown, IsMet, IsTaken, IsFirstAfter, program_known, later_rule as later_rule_of, sites_of};
+ghost use Rattle.fault_rules.specs.Faults.{slices_in, names_of, target_rule, is_taken_with, adds_taken as adds_taken_by, owned_slices};
+ghost use Rattle.fault_rules.specs.Faults.{file_slices, placed_tree};
+ghost use Rattle.fault_rules.specs.KeyedLists.{with_text, with_texts, with_pair};
+ghost use Rattle.fault_rules.specs.PlacedSlices.{placed_from, seen_placed, places_in};
 ghost use Rattle.smv_language.specs.Texts.{same_text, is_among};
-ghost use Rattle.fault_rules.specs.declared.fault.Rule.TheVariants as broken;
+ghost use Rattle.fault_rules.specs.declared.fault.InstructionRule.TheVariants as broken;
 
-use crate::fault::{Rule, RuleFault};
-use crate::modes::{Judged, take_modes};
-use crate::modules::{Known, Local};
+use crate::fault::{InstructionRule, RuleFault};
+use crate::modes::{JudgedSlice, take_modes};
+use crate::modules::{KnownProgram, LocalName};
 use crate::placed::{Placed, item_after};
 use crate::targets::Targets;
-use crate::texts::Texts;
+use crate::texts::TextSet;
 use base_values::{Name, OutOfMemory};
 use fault_instructions::{Extension, Instructions, Slice, mode_variable, nominal_symbol, own_name};
 use smv_language::{Declared, Member, Program};
@@ -35,10 +36,10 @@ use std::alloc::Global;
 /// What the items so far have: the names that they add, slices, the variables that they affect, and the last
 /// item's number. The names of own values stand apart, since two own values may have one name, in two modules.
 #[derive(Drop)]
-pub(crate) struct Met<'a> {
-    pub(crate) states: Texts,
-    pub(crate) owns: Texts,
-    pub(crate) slices: Texts,
+pub(crate) struct MetItems<'a> {
+    pub(crate) states: TextSet,
+    pub(crate) owns: TextSet,
+    pub(crate) slices: TextSet,
     pub(crate) targets: Targets<'a>,
     pub(crate) placed: Vec<Placed<'a>>,
     pub(crate) last: u32,
@@ -60,29 +61,30 @@ pub fn placed_slices<'a>(
     i: &'a Instructions,
 ) -> Result<Vec<Placed<'a>>, RuleFault>
     ensures placed { IfOk result (λ placed. map placed_tree placed.items ≡ file_slices (instruction_tree i.now).extensions) }
-    ensures items { IfOk result (λ placed. map seen_placed placed.items ≡ placed_from (program_tree p.now) 0 (item_sites (instruction_tree i.now))) }
+    ensures items { IfOk result (λ placed. map seen_placed placed.items
+        ≡ placed_from (program_tree p.now) 0 (item_sites (instruction_tree i.now))) }
     ensures kept { OnOk result (AllKept (broken_at (program_tree p.now)) (item_sites (instruction_tree i.now))) }
     ensures first { IfErr result (λ fault. fault.rule ≢ broken.OutOfMemory →
         IsFirstBroken (broken_at (program_tree p.now)) (item_sites (instruction_tree i.now)) fault.rule fault.item) }
 {
-    let known = Known::read(alloc, p)?;
-    let mut met = Met::none(alloc);
+    let known = KnownProgram::read(alloc, p)?;
+    let mut met = MetItems::none(alloc);
     met.take_extensions(alloc, &known, i.extensions.as_slice())?;
     Ok(met.placed)
 }
 
-impl<'a> Met<'a> {
+impl<'a> MetItems<'a> {
     /// Before the first item.
-    fn none(alloc: Global) -> Met<'a>
+    fn none(alloc: Global) -> MetItems<'a>
         ensures met { IsMet result }
         ensures last { result.last ≡ 0 }
         ensures slices { slices_in result ≡ [] }
         ensures places { places_in result ≡ [] }
     {
-        Met {
-            states: Texts::new(alloc),
-            owns: Texts::new(alloc),
-            slices: Texts::new(alloc),
+        MetItems {
+            states: TextSet::new(alloc),
+            owns: TextSet::new(alloc),
+            slices: TextSet::new(alloc),
             targets: Targets::new(alloc),
             placed: Vec::new(alloc),
             last: 0,
@@ -93,7 +95,7 @@ impl<'a> Met<'a> {
     fn take_extensions(
         &mut self,
         alloc: Global,
-        known: &Known<'a>,
+        known: &KnownProgram<'a>,
         extensions: &'a [Extension],
     ) -> Result<(), RuleFault>
         requires known { IsKnown known.now }
@@ -101,7 +103,8 @@ impl<'a> Met<'a> {
         ensures kept { OnOk result (IsTaken (program_known known.now) self.old.last self.old self.new
             (extension_sites (slices_in self.old) (map extension_tree extensions.now)) (file_slices (map extension_tree extensions.now))) }
         ensures places { OnOk result (places_in self.new
-            ≡ places_in self.old ++ placed_from (program_known known.now) self.old.last (extension_sites (slices_in self.old) (map extension_tree extensions.now))) }
+            ≡ places_in self.old ++ placed_from (program_known known.now) self.old.last
+            (extension_sites (slices_in self.old) (map extension_tree extensions.now))) }
         ensures told { IfErr result (IsFirstAfter (program_known known.now) self.old.last
             (extension_sites (slices_in self.old) (map extension_tree extensions.now))) }
     {
@@ -115,7 +118,7 @@ impl<'a> Met<'a> {
     fn take_extension(
         &mut self,
         alloc: Global,
-        known: &Known<'a>,
+        known: &KnownProgram<'a>,
         extension: &'a Extension,
     ) -> Result<(), RuleFault>
         requires known { IsKnown known.now }
@@ -123,13 +126,15 @@ impl<'a> Met<'a> {
         ensures kept { OnOk result (IsTaken (program_known known.now) self.old.last self.old self.new
             (sites_of (slices_in self.old) (extension_tree extension.now)) (owned_slices (extension_tree extension.now))) }
         ensures places { OnOk result (places_in self.new
-            ≡ places_in self.old ++ placed_from (program_known known.now) self.old.last (sites_of (slices_in self.old) (extension_tree extension.now))) }
-        ensures told { IfErr result (IsFirstAfter (program_known known.now) self.old.last (sites_of (slices_in self.old) (extension_tree extension.now))) }
+            ≡ places_in self.old ++ placed_from (program_known known.now) self.old.last
+            (sites_of (slices_in self.old) (extension_tree extension.now))) }
+        ensures told { IfErr result
+            (IsFirstAfter (program_known known.now) self.old.last (sites_of (slices_in self.old) (extension_tree extension.now))) }
     {
         let item = item_after(self.last)?;
         if !known.has_module(&extension.module) {
             return Err(RuleFault {
-                rule: Rule::NoSuchModule,
+                rule: InstructionRule::NoSuchModule,
                 item,
             });
         }
@@ -141,7 +146,7 @@ impl<'a> Met<'a> {
     fn take_slices(
         &mut self,
         alloc: Global,
-        known: &Known<'a>,
+        known: &KnownProgram<'a>,
         owner: &'a Name,
         slices: &'a [Slice],
     ) -> Result<(), RuleFault>
@@ -150,8 +155,11 @@ impl<'a> Met<'a> {
         ensures kept { OnOk result (IsTaken (program_known known.now) self.old.last self.old self.new
             (slice_sites (slices_in self.old) owner.now (map slice_tree slices.now)) (map (owned owner.now) (map slice_tree slices.now))) }
         ensures places { OnOk result (places_in self.new
-            ≡ places_in self.old ++ placed_from (program_known known.now) self.old.last (slice_sites (slices_in self.old) owner.now (map slice_tree slices.now))) }
-        ensures told { IfErr result (IsFirstAfter (program_known known.now) self.old.last (slice_sites (slices_in self.old) owner.now (map slice_tree slices.now))) }
+            ≡ places_in self.old ++ placed_from (program_known known.now) self.old.last
+            (slice_sites (slices_in self.old) owner.now (map slice_tree slices.now))) }
+        ensures told { IfErr result
+            (IsFirstAfter (program_known known.now) self.old.last
+            (slice_sites (slices_in self.old) owner.now (map slice_tree slices.now))) }
     {
         for slice in slices {
             self.take_slice(alloc, known, owner, slice)?;
@@ -163,7 +171,7 @@ impl<'a> Met<'a> {
     fn take_slice(
         &mut self,
         alloc: Global,
-        known: &Known<'a>,
+        known: &KnownProgram<'a>,
         owner: &'a Name,
         slice: &'a Slice,
     ) -> Result<(), RuleFault>
@@ -172,8 +180,11 @@ impl<'a> Met<'a> {
         ensures kept { OnOk result (IsTaken (program_known known.now) self.old.last self.old self.new
             (slice_sites (slices_in self.old) owner.now (slice_tree slice.now ∷ [])) (owned owner.now (slice_tree slice.now) ∷ [])) }
         ensures places { OnOk result (places_in self.new
-            ≡ places_in self.old ++ placed_from (program_known known.now) self.old.last (slice_sites (slices_in self.old) owner.now (slice_tree slice.now ∷ []))) }
-        ensures told { IfErr result (IsFirstAfter (program_known known.now) self.old.last (slice_sites (slices_in self.old) owner.now (slice_tree slice.now ∷ []))) }
+            ≡ places_in self.old ++ placed_from (program_known known.now) self.old.last
+            (slice_sites (slices_in self.old) owner.now (slice_tree slice.now ∷ []))) }
+        ensures told { IfErr result
+            (IsFirstAfter (program_known known.now) self.old.last (slice_sites (slices_in self.old) owner.now (slice_tree slice.now
+            ∷ []))) }
     {
         let item = item_after(self.last)?;
         let names = SliceNames::of(alloc, slice)?;
@@ -194,22 +205,24 @@ impl<'a> Met<'a> {
     fn place(
         &mut self,
         alloc: Global,
-        known: &Known<'a>,
+        known: &KnownProgram<'a>,
         names: &SliceNames,
         placed: &Placed<'a>,
     ) -> Result<(), RuleFault>
         requires known { IsKnown known.now }
         requires met { IsMet self.old }
         requires names { names.now ≡ names_of (slice_tree placed.now.slice.now) }
-        requires declared { declared_tree placed.now.declared.now ≡ type_of_kind (target_kind (program_known known.now) (placed_tree placed.now)) }
+        requires declared { declared_tree placed.now.declared.now
+            ≡ type_of_kind (target_kind (program_known known.now) (placed_tree placed.now)) }
         ensures kept { OnOk result (IsTaken (program_known known.now) placed.now.item self.old self.new
-            (mode_sites (slices_in self.old) (placed_tree placed.now) [] (placed_tree placed.now).slice.modes) (placed_tree placed.now ∷ [])) }
+            (mode_sites (slices_in self.old) (placed_tree placed.now) [] (placed_tree placed.now).slice.modes) (placed_tree placed.now
+            ∷ [])) }
         ensures places { OnOk result (places_in self.new ≡ places_in self.old ++ seen_placed placed.now ∷ []) }
         ensures told { IfErr result (IsFirstAfter (program_known known.now) placed.now.item
             (mode_sites (slices_in self.old) (placed_tree placed.now) [] (placed_tree placed.now).slice.modes)) }
     {
         self.add_slice(names, placed)?;
-        let judged = Judged {
+        let judged = JudgedSlice {
             known,
             owns: &self.owns,
             declared: placed.declared,
@@ -249,11 +262,11 @@ impl<'a> Met<'a> {
     /// What the slice's variable is declared to be, or the first rule that the slice's item breaks.
     fn judge_slice(
         &self,
-        known: &Known<'a>,
+        known: &KnownProgram<'a>,
         owner: &'a Name,
         slice: &'a Slice,
         names: &SliceNames,
-    ) -> Result<&'a Declared, Rule>
+    ) -> Result<&'a Declared, InstructionRule>
         requires known { IsKnown known.now }
         requires met { IsMet self.now }
         requires names { names.now ≡ names_of (slice_tree slice.now) }
@@ -272,29 +285,29 @@ impl<'a> Met<'a> {
     /// The first rule after those on the target that the slice's item breaks.
     fn later_rule(
         &self,
-        known: &Known<'a>,
+        known: &KnownProgram<'a>,
         owner: &'a Name,
         slice: &'a Slice,
         names: &SliceNames,
         declared: &Declared,
-    ) -> Option<Rule>
+    ) -> Option<InstructionRule>
         requires known { IsKnown known.now }
         ensures { result ≡ later_rule_of (program_known known.now) self.now owner.now slice.now names.now (declared_tree declared.now) }
     {
         if self.slices.has(slice.name.text()) {
-            return Some(Rule::DoubleSlice);
+            return Some(InstructionRule::DoubleSlice);
         }
         if self.targets.has(owner, &slice.target) {
-            return Some(Rule::VariableTaken);
+            return Some(InstructionRule::VariableTaken);
         }
         if self.adds_taken(known, names) || hides_symbol(known, owner, declared) {
-            return Some(Rule::NameTaken);
+            return Some(InstructionRule::NameTaken);
         }
         None
     }
 
     /// Whether a name that the slice adds is taken.
-    fn adds_taken(&self, known: &Known<'a>, names: &SliceNames) -> bool
+    fn adds_taken(&self, known: &KnownProgram<'a>, names: &SliceNames) -> bool
         requires { IsKnown known.now }
         ensures { result ≡ adds_taken_by (program_known known.now) self.now.states self.now.owns names.now }
     {
@@ -304,7 +317,7 @@ impl<'a> Met<'a> {
     }
 
     /// Whether the name is taken for that of an own value.
-    fn is_own_taken(&self, known: &Known<'a>, own: &Name) -> bool
+    fn is_own_taken(&self, known: &KnownProgram<'a>, own: &Name) -> bool
         requires { IsKnown known.now }
         ensures { result ≡ (is_program_name (program_known known.now) own.now || is_among self.now.states own.now) }
     {
@@ -312,7 +325,7 @@ impl<'a> Met<'a> {
     }
 
     /// Whether the name is taken, also by the name of an own value that comes with it.
-    fn is_taken(&self, known: &Known<'a>, own: &Name, name: &Name) -> bool
+    fn is_taken(&self, known: &KnownProgram<'a>, own: &Name, name: &Name) -> bool
         requires { IsKnown known.now }
         ensures { result ≡ is_taken_with (program_known known.now) self.now.states self.now.owns own.now name.now }
     {
@@ -344,19 +357,19 @@ impl SliceNames {
 }
 
 /// What the variable that a slice affects is declared to be.
-fn target_of<'a>(local: Option<Local<'a>>) -> Result<&'a Declared, Rule>
+fn target_of<'a>(local: Option<LocalName<'a>>) -> Result<&'a Declared, InstructionRule>
     ensures rule { result_err result ≡ target_rule (option_map local_tree local.entry) }
     ensures declared { IfOk result (λ declared. option_map local_tree local.entry ≡ Some (variable (declared_tree declared.now))) }
 {
     match local {
-        Some(Local::Variable(declared)) => Ok(declared),
-        Some(Local::Other) => Err(Rule::NotAStateVariable),
-        Some(Local::Formal) | None => Err(Rule::NoSuchVariable),
+        Some(LocalName::Variable(declared)) => Ok(declared),
+        Some(LocalName::Other) => Err(InstructionRule::NotAStateVariable),
+        Some(LocalName::Formal) | None => Err(InstructionRule::NoSuchVariable),
     }
 }
 
 /// Whether a symbol of the type is a name of the module, so that a template would mean that.
-fn hides_symbol(known: &Known<'_>, owner: &Name, declared: &Declared) -> bool
+fn hides_symbol(known: &KnownProgram<'_>, owner: &Name, declared: &Declared) -> bool
     requires { IsKnown known.now }
     ensures { result ≡ hides_symbol_of (find_module (program_known known.now) owner.now) (declared_tree declared.now) }
 {
@@ -368,7 +381,7 @@ fn hides_symbol(known: &Known<'_>, owner: &Name, declared: &Declared) -> bool
 
 /// Whether a symbol among the members is a name that the module declares.
 #[tactic(auto, using(fault_instructions::proofs::AllowedLaws::any_more))]
-fn has_local(known: &Known<'_>, owner: &Name, members: &[Member]) -> bool
+fn has_local(known: &KnownProgram<'_>, owner: &Name, members: &[Member]) -> bool
     requires { IsKnown known.now }
     ensures { result ≡ list_any (is_local_member (find_module (program_known known.now) owner.now)) members.now }
 {
@@ -381,7 +394,7 @@ fn has_local(known: &Known<'_>, owner: &Name, members: &[Member]) -> bool
 }
 
 /// Whether the member is a symbol that the module declares as a name.
-fn is_local(known: &Known<'_>, owner: &Name, member: &Member) -> bool
+fn is_local(known: &KnownProgram<'_>, owner: &Name, member: &Member) -> bool
     requires { IsKnown known.now }
     ensures { result ≡ is_local_member (find_module (program_known known.now) owner.now) member.now }
 {

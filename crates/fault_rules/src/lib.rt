@@ -27,10 +27,10 @@ mod targets;
 mod texts;
 
 pub use count::judge_counts;
-pub use fault::{Rule, RuleFault};
+pub use fault::{InstructionRule, RuleFault};
 pub use items::placed_slices;
 pub use laws::kept_is_weavable;
 pub use names::program_names;
 pub use numbers::{extensions_have_negations, modules_have_negations};
 pub use placed::{Placed, item_after};
-pub use texts::Texts;
+pub use texts::TextSet;

@@ -1,17 +1,16 @@
 //! The rules that are tried at the items of modes ([`take_modes`]): a mode's name is new in its slice, its effect may stand
 //! at the variable, and the symbol that it adds is free.
-
 ghost use Rattle.std.specs.Prelude.{◌≡◌, ◌≢◌, ◌+◌, [], IfOk, IfErr, OnOk, Some, None, map, length};
 ghost use Rattle.fault_instructions.specs.Instructions.{mode_tree};
-ghost use Rattle.fault_rules.specs.Keyed.{with_text, with_texts};
+ghost use Rattle.fault_rules.specs.KeyedLists.{with_text, with_texts};
 ghost use Rattle.fault_rules.specs.Faults.{IsKnown, faults_of, mode_symbols};
 ghost use Rattle.fault_rules.specs.Symbols.{AreSymbolsOf, rule_among, has_symbol};
-ghost use Rattle.fault_rules.specs.declared.fault.Rule.TheVariants as broken;
+ghost use Rattle.fault_rules.specs.declared.fault.InstructionRule.TheVariants as broken;
 
-use crate::fault::{Rule, RuleFault};
-use crate::modules::Known;
+use crate::fault::{InstructionRule, RuleFault};
+use crate::modules::KnownProgram;
 use crate::placed::item_after;
-use crate::texts::{After, Texts};
+use crate::texts::{After, TextSet};
 use base_values::Name;
 use fault_instructions::{ModeRule, Slice, allowed};
 use smv_language::Declared;
@@ -20,9 +19,9 @@ use std::alloc::Global;
 /// What the modes of a slice are judged by: the program, the names of own values, and what the slice's
 /// variable is declared to be.
 #[derive(Clone, Copy)]
-pub(crate) struct Judged<'a, 'b> {
-    pub(crate) known: &'a Known<'b>,
-    pub(crate) owns: &'a Texts,
+pub(crate) struct JudgedSlice<'a, 'b> {
+    pub(crate) known: &'a KnownProgram<'b>,
+    pub(crate) owns: &'a TextSet,
     pub(crate) declared: &'a Declared,
     pub(crate) slice: &'a Slice,
 }
@@ -30,13 +29,14 @@ pub(crate) struct Judged<'a, 'b> {
 /// Takes the modes of the slice at this item, with their symbols. The number of the last item.
 pub(crate) fn take_modes(
     alloc: Global,
-    judged: &Judged<'_, '_>,
-    states: &mut Texts,
+    judged: &JudgedSlice<'_, '_>,
+    states: &mut TextSet,
     item: u32,
 ) -> Result<u32, RuleFault>
     requires { IsKnown judged.now.known.now }
     ensures kept { OnOk result (faults_of judged.now states.old [] item (map mode_tree judged.now.slice.now.modes) ≡ None) }
-    ensures states { OnOk result (states.new ≡ with_texts states.old (mode_symbols judged.now.slice.now.name (map mode_tree judged.now.slice.now.modes))) }
+    ensures states { OnOk result (states.new
+        ≡ with_texts states.old (mode_symbols judged.now.slice.now.name (map mode_tree judged.now.slice.now.modes))) }
     ensures last { IfOk result (λ last. last ≡ item + length judged.now.slice.now.modes) }
     ensures told { IfErr result (λ fault. fault.rule ≢ broken.OutOfMemory →
         faults_of judged.now states.old [] item (map mode_tree judged.now.slice.now.modes) ≡ Some fault) }
@@ -49,7 +49,7 @@ pub(crate) fn take_modes(
 
 /// The names among which a slice's symbols would be taken. The slice's own symbols need no look: they differ as their modes do.
 #[derive(Drop)]
-pub(crate) struct Symbols<'a, 's> {
+pub(crate) struct TakenSymbols<'a, 's> {
     pub(crate) known: After<'a, 'a>,
     pub(crate) states: After<'s, 'a>,
     pub(crate) owns: After<'a, 'a>,
@@ -58,8 +58,8 @@ pub(crate) struct Symbols<'a, 's> {
 /// Judges modes in their order, before any symbol of theirs is added. The number of the last item.
 fn judge_each(
     alloc: Global,
-    judged: &Judged<'_, '_>,
-    states: &Texts,
+    judged: &JudgedSlice<'_, '_>,
+    states: &TextSet,
     item: u32,
     modes: &[ModeRule],
 ) -> Result<u32, RuleFault>
@@ -70,7 +70,7 @@ fn judge_each(
         faults_of judged.now states.now [] item (map mode_tree modes.now) ≡ Some fault) }
 {
     let symbols = symbols_of(judged, states);
-    let mut names = Texts::new(alloc);
+    let mut names = TextSet::new(alloc);
     let mut last = item;
     for mode in modes {
         last = judge_mode(judged, &symbols, &mut names, last, mode)?;
@@ -79,12 +79,12 @@ fn judge_each(
 }
 
 /// The names among which the symbols of the slice would be taken.
-fn symbols_of<'a, 's>(judged: &Judged<'a, '_>, states: &'s Texts) -> Symbols<'a, 's>
+fn symbols_of<'a, 's>(judged: &JudgedSlice<'a, '_>, states: &'s TextSet) -> TakenSymbols<'a, 's>
     requires { IsKnown judged.now.known.now }
     ensures { AreSymbolsOf judged.now states.now result }
 {
     let slice = judged.slice.name.text();
-    Symbols {
+    TakenSymbols {
         known: judged.known.names.after(slice),
         states: states.after(slice),
         owns: judged.owns.after(slice),
@@ -93,9 +93,9 @@ fn symbols_of<'a, 's>(judged: &Judged<'a, '_>, states: &'s Texts) -> Symbols<'a,
 
 /// Judges a mode after the item of this number, after the modes of these names. The number of its item.
 fn judge_mode(
-    judged: &Judged<'_, '_>,
-    symbols: &Symbols<'_, '_>,
-    names: &mut Texts,
+    judged: &JudgedSlice<'_, '_>,
+    symbols: &TakenSymbols<'_, '_>,
+    names: &mut TextSet,
     last: u32,
     mode: &ModeRule,
 ) -> Result<u32, RuleFault>
@@ -116,26 +116,26 @@ fn judge_mode(
 
 /// The first rule that a mode's item breaks.
 fn broken_rule(
-    judged: &Judged<'_, '_>,
-    symbols: &Symbols<'_, '_>,
-    names: &Texts,
+    judged: &JudgedSlice<'_, '_>,
+    symbols: &TakenSymbols<'_, '_>,
+    names: &TextSet,
     mode: &ModeRule,
-) -> Option<Rule>
+) -> Option<InstructionRule>
     ensures { result ≡ rule_among judged.now symbols.now names.now (mode_tree mode.now) }
 {
     if names.has(mode.name.text()) {
-        return Some(Rule::DoubleMode);
+        return Some(InstructionRule::DoubleMode);
     }
     if let Err(fault) = allowed(&mode.effect, judged.declared) {
-        return Some(Rule::Effect(fault));
+        return Some(InstructionRule::Effect(fault));
     }
     if symbols.has(&mode.name) {
-        return Some(Rule::NameTaken);
+        return Some(InstructionRule::NameTaken);
     }
     None
 }
 
-impl Symbols<'_, '_> {
+impl TakenSymbols<'_, '_> {
     /// Whether the symbol of the mode of this name is taken.
     fn has(&self, mode: &Name) -> bool
         ensures { result ≡ has_symbol self.now mode.now }

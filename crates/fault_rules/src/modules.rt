@@ -1,19 +1,19 @@
-//! The modules of a program by name, and what names are in them. [`Known::read`] goes through the program once; then
+//! The modules of a program by name, and what names are in them. [`KnownProgram::read`] goes through the program once; then
 //! each question of a rule is one look-up.
-
 ghost use Rattle.std.specs.Prelude.{◌≡◌, [], IfOk, OnOk, map, flat_map, option_map, is_some};
 ghost use Rattle.std.specs.Option.{option_copied};
 ghost use Rattle.smv_language.specs.ProgramTree.{program_tree, module_tree, section_tree, decl_tree, define_tree, declared_tree};
 ghost use Rattle.smv_language.specs.Scope.{find_module, kind_at};
-ghost use Rattle.fault_rules.specs.Keyed.{with_entry, with_entries};
-ghost use Rattle.fault_rules.specs.Locals.{local_tree, declared_local, formal_entry, variable_entry, other_entry, define_entry, section_locals, locals_of, scope_of, locals_in, scopes_in, seen_kind};
+ghost use Rattle.fault_rules.specs.KeyedLists.{with_entry, with_entries};
+ghost use Rattle.fault_rules.specs.Locals.{local_tree, declared_local, formal_entry, variable_entry, other_entry, define_entry};
+ghost use Rattle.fault_rules.specs.Locals.{section_locals, locals_of, scope_of, locals_in, scopes_in, seen_kind};
 ghost use Rattle.fault_rules.specs.Rules.{is_program_name, is_missing, is_local};
 ghost use Rattle.fault_rules.specs.Faults.{IsKnown};
 ghost use Rattle.smv_language.specs.Texts.{first_with};
 ghost use Rattle.smv_language.specs.Values.{opposite};
 
 use crate::names::program_names;
-use crate::texts::Texts;
+use crate::texts::TextSet;
 use base_values::{Name, OutOfMemory};
 use indexmap::IndexMap;
 use smv_language::{Decl, Declared, Define, Module, Program, Section};
@@ -22,7 +22,7 @@ use std::alloc::Global;
 /// What a name is in its own module, as far as instructions ask: a formal, a variable of a VAR section, or
 /// something else that is declared.
 #[derive(Clone, Copy)]
-pub(crate) enum Local<'a> {
+pub(crate) enum LocalName<'a> {
     Formal,
     Variable(&'a Declared),
     Other,
@@ -30,26 +30,26 @@ pub(crate) enum Local<'a> {
 
 /// The names of a module. Of two declarations of a name the first counts.
 #[derive(Drop)]
-pub(crate) struct Scope<'a> {
-    pub(crate) locals: IndexMap<&'a [u8], Local<'a>>,
+pub(crate) struct ModuleScope<'a> {
+    pub(crate) locals: IndexMap<&'a [u8], LocalName<'a>>,
 }
 
 /// A program with its modules by name, and the names that it has. Of two modules of a name the first counts.
 #[derive(Drop)]
-pub(crate) struct Known<'a> {
+pub(crate) struct KnownProgram<'a> {
     pub(crate) program: &'a Program,
-    pub(crate) scopes: IndexMap<&'a [u8], Scope<'a>>,
-    pub(crate) names: Texts,
+    pub(crate) scopes: IndexMap<&'a [u8], ModuleScope<'a>>,
+    pub(crate) names: TextSet,
 }
 
-impl<'a> Known<'a> {
+impl<'a> KnownProgram<'a> {
     /// The modules and the names of a program.
-    pub(crate) fn read(alloc: Global, p: &'a Program) -> Result<Known<'a>, OutOfMemory>
+    pub(crate) fn read(alloc: Global, p: &'a Program) -> Result<KnownProgram<'a>, OutOfMemory>
         ensures program { IfOk result (λ known. known.program.now ≡ p.now) }
         ensures known { IfOk result IsKnown }
     {
         let names = program_names(alloc, p)?;
-        let mut known = Known {
+        let mut known = KnownProgram {
             program: p,
             scopes: IndexMap::new(alloc),
             names,
@@ -75,7 +75,7 @@ impl<'a> Known<'a> {
     }
 
     /// What a name is in the module of a name, where it is declared there.
-    pub(crate) fn local(&self, owner: &Name, name: &Name) -> Option<Local<'a>>
+    pub(crate) fn local(&self, owner: &Name, name: &Name) -> Option<LocalName<'a>>
         requires { IsKnown self.now }
         ensures { option_map local_tree result ≡ seen_kind (kind_at (find_module (program_tree self.now.program.now) owner.now) name.now) }
     {
@@ -94,7 +94,7 @@ impl<'a> Known<'a> {
     }
 
     /// The names of the first module of this name.
-    fn find(&self, owner: &Name) -> Option<&Scope<'a>>
+    fn find(&self, owner: &Name) -> Option<&ModuleScope<'a>>
         ensures { option_map locals_in (option_copied result) ≡ first_with (scopes_in self.now) owner.now }
     {
         self.scopes.get(owner.text())
@@ -122,35 +122,35 @@ impl<'a> Known<'a> {
         if self.scopes.contains_key(module.name.text()) {
             return Ok(());
         }
-        let scope = Scope::of_module(alloc, module)?;
+        let scope = ModuleScope::of_module(alloc, module)?;
         self.scopes.insert(module.name.text(), scope)?;
         Ok(())
     }
 }
 
-impl<'a> Scope<'a> {
+impl<'a> ModuleScope<'a> {
     /// The names of a module.
     #[tactic(auto, using(crate::proofs::KeyedLaws::keyed_rules))]
-    fn of_module(alloc: Global, module: &'a Module) -> Result<Scope<'a>, OutOfMemory>
+    fn of_module(alloc: Global, module: &'a Module) -> Result<ModuleScope<'a>, OutOfMemory>
         ensures { IfOk result (λ scope. locals_in scope ≡ with_entries [] (locals_of (module_tree «module».now))) }
     {
-        let mut scope = Scope::empty(alloc);
+        let mut scope = ModuleScope::empty(alloc);
         scope.add_formals(module.formals.as_slice())?;
         scope.add_sections(module.sections.as_slice())?;
         Ok(scope)
     }
 
     /// No name.
-    fn empty(alloc: Global) -> Scope<'a>
+    fn empty(alloc: Global) -> ModuleScope<'a>
         ensures { locals_in result ≡ [] }
     {
-        Scope {
+        ModuleScope {
             locals: IndexMap::new(alloc),
         }
     }
 
     /// What a name is in the module, where it is declared there.
-    fn local(&self, name: &Name) -> Option<Local<'a>>
+    fn local(&self, name: &Name) -> Option<LocalName<'a>>
         ensures { option_map local_tree result ≡ first_with (locals_in self.now) name.now }
     {
         match self.locals.get(name.text()) {
@@ -160,7 +160,7 @@ impl<'a> Scope<'a> {
     }
 
     /// Adds a name, unless it is there.
-    fn add(&mut self, name: &'a Name, local: Local<'a>) -> Result<(), OutOfMemory>
+    fn add(&mut self, name: &'a Name, local: LocalName<'a>) -> Result<(), OutOfMemory>
         ensures { OnOk result (locals_in self.new ≡ with_entry (locals_in self.old) (name.now, local_tree local.entry)) }
     {
         if self.locals.contains_key(name.text()) {
@@ -176,7 +176,7 @@ impl<'a> Scope<'a> {
         ensures { OnOk result (locals_in self.new ≡ with_entries (locals_in self.old) (map formal_entry formals.now)) }
     {
         for formal in formals {
-            self.add(formal, Local::Formal)?;
+            self.add(formal, LocalName::Formal)?;
         }
         Ok(())
     }
@@ -184,7 +184,8 @@ impl<'a> Scope<'a> {
     /// Adds what sections declare.
     #[tactic(auto, using(crate::proofs::KeyedLaws::keyed_rules))]
     fn add_sections(&mut self, sections: &'a [Section]) -> Result<(), OutOfMemory>
-        ensures { OnOk result (locals_in self.new ≡ with_entries (locals_in self.old) (flat_map section_locals (map section_tree sections.now))) }
+        ensures { OnOk result (locals_in self.new
+            ≡ with_entries (locals_in self.old) (flat_map section_locals (map section_tree sections.now))) }
     {
         for section in sections {
             self.add_section(section)?;
@@ -226,7 +227,7 @@ impl<'a> Scope<'a> {
         ensures { OnOk result (locals_in self.new ≡ with_entries (locals_in self.old) (map other_entry (map decl_tree decls.now))) }
     {
         for decl in decls {
-            self.add(&decl.name, Local::Other)?;
+            self.add(&decl.name, LocalName::Other)?;
         }
         Ok(())
     }
@@ -237,18 +238,20 @@ impl<'a> Scope<'a> {
         ensures { OnOk result (locals_in self.new ≡ with_entries (locals_in self.old) (map define_entry (map define_tree defines.now))) }
     {
         for define in defines {
-            self.add(&define.name, Local::Other)?;
+            self.add(&define.name, LocalName::Other)?;
         }
         Ok(())
     }
 }
 
 /// What a declaration of a VAR section makes of its name.
-fn declared<'a>(what: &'a Declared) -> Local<'a>
+fn declared<'a>(what: &'a Declared) -> LocalName<'a>
     ensures { local_tree result ≡ declared_local (declared_tree what.now) }
 {
     match what {
-        Declared::Instance(_, _) => Local::Other,
-        Declared::Boolean | Declared::Range(_, _) | Declared::Members(_) => Local::Variable(what),
+        Declared::Instance(_, _) => LocalName::Other,
+        Declared::Boolean | Declared::Range(_, _) | Declared::Members(_) => LocalName::Variable(
+            what,
+        ),
     }
 }

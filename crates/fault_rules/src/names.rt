@@ -1,29 +1,29 @@
 //! The names of a program: of its modules, their formals, what they declare, and symbols ([`program_names`]). An added
 //! name must be none of them.
-
 ghost use Rattle.std.specs.Prelude.{◌≡◌, [], IfOk, OnOk, map, flat_map};
 ghost use Rattle.smv_language.specs.ProgramTree.{program_tree, module_tree, section_tree, decl_tree, define_tree, declared_tree};
-ghost use Rattle.fault_rules.specs.Keyed.{with_texts};
-ghost use Rattle.fault_rules.specs.Names.{member_names, type_names, decl_names, define_name, section_names, module_names, program_names as program_names_of};
+ghost use Rattle.fault_rules.specs.KeyedLists.{with_texts};
+ghost use Rattle.fault_rules.specs.Names.{member_names, type_names, decl_names, define_name, section_names, module_names};
+ghost use Rattle.fault_rules.specs.Names.{program_names as program_names_of};
 
-use crate::texts::Texts;
+use crate::texts::TextSet;
 use base_values::{Name, OutOfMemory};
 use smv_language::{Decl, Declared, Define, Member, Module, Program, Section};
 use std::alloc::Global;
 
 /// The names of a program.
 #[tactic(auto, using(crate::proofs::KeyedLaws::keyed_rules))]
-pub fn program_names(alloc: Global, p: &Program) -> Result<Texts, OutOfMemory>
+pub fn program_names(alloc: Global, p: &Program) -> Result<TextSet, OutOfMemory>
     ensures { IfOk result (λ names. names ≡ with_texts [] (program_names_of (program_tree p.now))) }
 {
-    let mut names = Texts::new(alloc);
+    let mut names = TextSet::new(alloc);
     add_modules(&mut names, p.modules.as_slice())?;
     Ok(names)
 }
 
 /// Adds the names of modules.
 #[tactic(auto, using(crate::proofs::KeyedLaws::keyed_rules))]
-fn add_modules(names: &mut Texts, modules: &[Module]) -> Result<(), OutOfMemory>
+fn add_modules(names: &mut TextSet, modules: &[Module]) -> Result<(), OutOfMemory>
     ensures { OnOk result (names.new ≡ with_texts names.old (flat_map module_names (map module_tree modules.now))) }
 {
     for module in modules {
@@ -34,7 +34,7 @@ fn add_modules(names: &mut Texts, modules: &[Module]) -> Result<(), OutOfMemory>
 
 /// Adds the name of a module and those in it.
 #[tactic(auto, using(crate::proofs::KeyedLaws::keyed_rules))]
-fn add_module(names: &mut Texts, module: &Module) -> Result<(), OutOfMemory>
+fn add_module(names: &mut TextSet, module: &Module) -> Result<(), OutOfMemory>
     ensures { OnOk result (names.new ≡ with_texts names.old (module_names (module_tree «module».now))) }
 {
     names.add(module.name.text())?;
@@ -44,7 +44,7 @@ fn add_module(names: &mut Texts, module: &Module) -> Result<(), OutOfMemory>
 
 /// Adds these names.
 #[tactic(auto, using(crate::proofs::KeyedLaws::keyed_rules))]
-fn add_names(names: &mut Texts, more: &[Name]) -> Result<(), OutOfMemory>
+fn add_names(names: &mut TextSet, more: &[Name]) -> Result<(), OutOfMemory>
     ensures { OnOk result (names.new ≡ with_texts names.old more.now) }
 {
     for name in more {
@@ -55,7 +55,7 @@ fn add_names(names: &mut Texts, more: &[Name]) -> Result<(), OutOfMemory>
 
 /// Adds the names of sections.
 #[tactic(auto, using(crate::proofs::KeyedLaws::keyed_rules))]
-fn add_sections(names: &mut Texts, sections: &[Section]) -> Result<(), OutOfMemory>
+fn add_sections(names: &mut TextSet, sections: &[Section]) -> Result<(), OutOfMemory>
     ensures { OnOk result (names.new ≡ with_texts names.old (flat_map section_names (map section_tree sections.now))) }
 {
     for section in sections {
@@ -65,7 +65,7 @@ fn add_sections(names: &mut Texts, sections: &[Section]) -> Result<(), OutOfMemo
 }
 
 /// Adds the names that a section declares or lists.
-fn add_section(names: &mut Texts, section: &Section) -> Result<(), OutOfMemory>
+fn add_section(names: &mut TextSet, section: &Section) -> Result<(), OutOfMemory>
     ensures { OnOk result (names.new ≡ with_texts names.old (section_names (section_tree section.now))) }
 {
     match section {
@@ -80,7 +80,7 @@ fn add_section(names: &mut Texts, section: &Section) -> Result<(), OutOfMemory>
 
 /// Adds the names of declarations.
 #[tactic(auto, using(crate::proofs::KeyedLaws::keyed_rules))]
-fn add_decls(names: &mut Texts, decls: &[Decl]) -> Result<(), OutOfMemory>
+fn add_decls(names: &mut TextSet, decls: &[Decl]) -> Result<(), OutOfMemory>
     ensures { OnOk result (names.new ≡ with_texts names.old (flat_map decl_names (map decl_tree decls.now))) }
 {
     for decl in decls {
@@ -90,7 +90,7 @@ fn add_decls(names: &mut Texts, decls: &[Decl]) -> Result<(), OutOfMemory>
 }
 
 /// Adds the name of a declaration and the symbols of its type.
-fn add_decl(names: &mut Texts, decl: &Decl) -> Result<(), OutOfMemory>
+fn add_decl(names: &mut TextSet, decl: &Decl) -> Result<(), OutOfMemory>
     ensures { OnOk result (names.new ≡ with_texts names.old (decl_names (decl_tree decl.now))) }
 {
     names.add(decl.name.text())?;
@@ -98,7 +98,7 @@ fn add_decl(names: &mut Texts, decl: &Decl) -> Result<(), OutOfMemory>
 }
 
 /// Adds the symbols of a declared type.
-fn add_symbols(names: &mut Texts, what: &Declared) -> Result<(), OutOfMemory>
+fn add_symbols(names: &mut TextSet, what: &Declared) -> Result<(), OutOfMemory>
     ensures { OnOk result (names.new ≡ with_texts names.old (type_names (declared_tree what.now))) }
 {
     match what {
@@ -109,7 +109,7 @@ fn add_symbols(names: &mut Texts, what: &Declared) -> Result<(), OutOfMemory>
 
 /// Adds the members of a type that are symbols.
 #[tactic(auto, using(crate::proofs::KeyedLaws::keyed_rules))]
-fn add_members(names: &mut Texts, members: &[Member]) -> Result<(), OutOfMemory>
+fn add_members(names: &mut TextSet, members: &[Member]) -> Result<(), OutOfMemory>
     ensures { OnOk result (names.new ≡ with_texts names.old (flat_map member_names members.now)) }
 {
     for member in members {
@@ -119,7 +119,7 @@ fn add_members(names: &mut Texts, members: &[Member]) -> Result<(), OutOfMemory>
 }
 
 /// Adds a member that is a symbol.
-fn add_member(names: &mut Texts, member: &Member) -> Result<(), OutOfMemory>
+fn add_member(names: &mut TextSet, member: &Member) -> Result<(), OutOfMemory>
     ensures { OnOk result (names.new ≡ with_texts names.old (member_names member.now)) }
 {
     match member {
@@ -130,7 +130,7 @@ fn add_member(names: &mut Texts, member: &Member) -> Result<(), OutOfMemory>
 
 /// Adds the names of definitions.
 #[tactic(auto, using(crate::proofs::KeyedLaws::keyed_rules))]
-fn add_defines(names: &mut Texts, defines: &[Define]) -> Result<(), OutOfMemory>
+fn add_defines(names: &mut TextSet, defines: &[Define]) -> Result<(), OutOfMemory>
     ensures { OnOk result (names.new ≡ with_texts names.old (map define_name (map define_tree defines.now))) }
 {
     for define in defines {

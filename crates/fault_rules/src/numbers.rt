@@ -1,12 +1,13 @@
 //! That the numbers of a program and of instructions have negations within 64 bits, as all that are read
 //! have: a template writes a negative number as the negation of one.
-
 ghost use Rattle.std.specs.Prelude.{◌≡◌, ◌&&◌, map, All, IsTrue};
 ghost use Rattle.std.specs.List.{list_all};
 ghost use Rattle.smv_language.specs.ProgramTree.{module_tree, section_tree, decl_tree, declared_tree};
 ghost use Rattle.fault_instructions.specs.Instructions.{extension_tree, slice_tree, mode_tree, effect_tree, constant_value};
 ghost use Rattle.fault_instructions.specs.WeaveNumbers.{ModuleHasNegations, ExtensionHasNegations};
-ghost use Rattle.fault_rules.specs.Negations.{has_negation as negates, member_negates, declared_negates, decl_negates, section_negates, module_negates, value_negates, effect_negates, mode_negates, slice_negates, extension_negates};
+ghost use Rattle.fault_rules.specs.Negations.{has_negation as negates, member_negates, declared_negates, decl_negates, section_negates};
+ghost use Rattle.fault_rules.specs.Negations.{module_negates, value_negates, effect_negates, mode_negates, slice_negates};
+ghost use Rattle.fault_rules.specs.Negations.{extension_negates};
 
 use fault_instructions::{Constant, Effect, Extension, ModeRule, Slice};
 use smv_language::{Decl, Declared, Member, Module, Section};

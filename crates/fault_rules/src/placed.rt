@@ -1,6 +1,5 @@
 //! Slices with what the rules found of them ([`Placed`]), as the layer above judges and weaves them, and the numbers of
 //! items.
-
 ghost use Rattle.std.specs.Prelude.{◌≡◌, ◌+◌, ◌^◌, ◌<◌, IfOk, IsOk};
 
 use base_values::{Name, OutOfMemory};

@@ -1,7 +1,6 @@
 //! The variables that slices affect, each with its module: a variable is affected once.
-
 ghost use Rattle.std.specs.Prelude.{◌≡◌, [], OnOk};
-ghost use Rattle.fault_rules.specs.Keyed.{is_pair_among, with_pair};
+ghost use Rattle.fault_rules.specs.KeyedLists.{is_pair_among, with_pair};
 
 use base_values::{Name, OutOfMemory};
 use indexmap::IndexSet;

@@ -1,16 +1,16 @@
-//! Sets of texts, for the names that are taken ([`Texts`]).
+//! Sets of texts, for the names that are taken ([`TextSet`]).
 //!
 //! A set is a tree of the beginnings of its texts. A place stands for a beginning, 0 for the empty one, and a step leads from a place
 //! by a byte to the place of one byte more. So a beginning that many texts share is kept once, and [`After`] asks for texts that
 //! begin alike without going through their beginning again.
-
 ghost use Rattle.std.specs.Prelude.{◌≡◌, ◌++◌, [], ◌∷◌, ◌≤◌, ◌+◌, ◌<◌, ◌^◌, IfOk, IsOk, OnOk, false, is_some, map, length, codes};
 ghost use Rattle.std.specs.List.{list_any};
 ghost use Rattle.smv_language.specs.Texts.{is_among};
 ghost use Rattle.fault_instructions.specs.Instructions.{mode_tree};
-ghost use Rattle.fault_rules.specs.Keyed.{with_text, with_texts};
+ghost use Rattle.fault_rules.specs.KeyedLists.{with_text, with_texts};
 ghost use Rattle.fault_rules.specs.Faults.{mode_symbols};
-ghost use Rattle.fault_rules.specs.Steps.{is_step, step_to, step_from, walk_on, text_at, texts_in, texts_after, with_end, is_end_of, AreSteps, IsTree, Reaches, IsBeginning};
+ghost use Rattle.fault_rules.specs.Steps.{is_step, step_to, step_from, walk_on, text_at, texts_in, texts_after, with_end, is_end_of};
+ghost use Rattle.fault_rules.specs.Steps.{AreSteps, IsTree, Reaches, IsBeginning};
 
 use base_values::{Name, OutOfMemory};
 use fault_instructions::ModeRule;
@@ -21,12 +21,12 @@ use std::marker::Model;
 /// A set of texts, which contracts see as the list of its texts in the order in which each was first added. The step at
 /// an index leads to the place after that index, and `ends` has the places of the set's texts.
 #[derive(Drop)]
-pub struct Texts {
+pub struct TextSet {
     steps: IndexSet<(u32, u8)>,
     ends: IndexSet<u32>,
 }
 
-impl Model for Texts {
+impl Model for TextSet {
     ghost use Rattle.std.specs.Prelude.{List, ℕ, map};
     ghost use Rattle.fault_rules.specs.Steps.{text_at, IsTree};
 
@@ -58,12 +58,12 @@ impl<'a, 't> Model for After<'a, 't> {
         × (after.place ≡ walk after.steps.now.keys 0 (after.text.now ++ codes "#")) };
 }
 
-impl Texts {
+impl TextSet {
     /// No text.
-    pub fn new(alloc: Global) -> Texts
+    pub fn new(alloc: Global) -> TextSet
         ensures { result ≡ [] }
     {
-        Texts {
+        TextSet {
             steps: IndexSet::new(alloc),
             ends: IndexSet::new(alloc),
         }

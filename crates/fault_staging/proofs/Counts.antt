@@ -8,7 +8,7 @@ use Rattle.smv_language.specs.Flat.{FlatLeaf, FlatModel}
 use Rattle.smv_flat_laws.specs.History.{Mode}
 use Rattle.cut_right_laws.specs.Sets.{has_number}
 use Rattle.fault_cause_laws.specs.Causes.{CommonCause}
-use Rattle.fault_cause_laws.specs.Staged.{with_age, with_event, with_hit, with_hits, with_cause, with_each_cause, age_numbers, cause_events, in_window, windows_on, with_own, with_owns, own_events}
+use Rattle.fault_cause_laws.specs.StagedModel.{with_age, with_event, with_hit, with_hits, with_cause, with_each_cause, age_numbers, cause_events, in_window, windows_on, with_own, with_owns, own_events}
 use Rattle.fault_staging.specs.CauseOf.{joined_from, either_tree}
 
 module _ (fs : List Mode) (c : CommonCause) where

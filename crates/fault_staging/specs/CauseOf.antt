@@ -6,7 +6,7 @@ use Rattle.smv_language.specs.ProgramTree.{Path}
 use Rattle.smv_language.specs.Flat.{FlatLeaf, FlatModel}
 use Rattle.smv_flat_laws.specs.History.{Mode}
 use Rattle.fault_cause_laws.specs.Causes.{CommonCause}
-use Rattle.fault_cause_laws.specs.Staged.{joined, joined_after}
+use Rattle.fault_cause_laws.specs.StagedModel.{joined, joined_after}
 use Rattle.fault_staging.specs.declared.cause.Cause.{Cause}
 
 -- the cause in memory as the definitions see it

@@ -1,7 +1,6 @@
 //! Expressions, formulas and variables that are added to a flat model.
 //!
 //! Each function makes one form, and `staging` and `events` put them together. Those of any model are public.
-
 ghost use Rattle.std.specs.Prelude.{◌≡◌, ◌<◌, ◌^◌, ◌∷◌, [], false, IfOk};
 ghost use Rattle.smv_language.specs.declared.expr.Op.TheVariants as op;
 ghost use Rattle.smv_language.specs.declared.program.Member.TheVariants as member;
@@ -10,7 +9,8 @@ ghost use Rattle.smv_language.specs.ProgramTree.{declared_tree, members};
 ghost use Rattle.smv_language.specs.Flat.{flat_symbol};
 ghost use Rattle.smv_flat_laws.specs.History.{added as added_tree};
 ghost use Rattle.smv_language.specs.ModelTree.{variable_tree, formula_tree, flat_tree};
-ghost use Rattle.fault_cause_laws.specs.Staged.{added_variable, value_of, whole as whole_tree, only as only_tree, zero_or_one as zero_or_one_tree};
+ghost use Rattle.fault_cause_laws.specs.StagedModel.{added_variable, value_of, whole as whole_tree, only as only_tree};
+ghost use Rattle.fault_cause_laws.specs.StagedModel.{zero_or_one as zero_or_one_tree};
 
 use base_values::{Dotted, Items, Name, OutOfMemory};
 use smv_language::copy_model::boxed;

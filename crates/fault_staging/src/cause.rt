@@ -1,7 +1,6 @@
 //! Common causes.
 //!
 //! A [`Cause`] is as its file gives it, but that the faults that it strikes go by their numbers.
-
 ghost use Rattle.std.specs.Prelude.{◌≡◌, IfOk};
 
 use base_values::{FaultSet, Items, Name, OutOfMemory};

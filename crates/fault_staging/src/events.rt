@@ -2,14 +2,15 @@
 //!
 //! The main function is [`add_own_events`]: a fault's event is told at the moment at which its mode begins outside every window of a
 //! cause that strikes it.
-
 ghost use Rattle.std.specs.Prelude.{◌≡◌, ◌<◌, ◌≤◌, ◌++◌, suc, length, map, option_map, IfOk, OnOk};
 ghost use Rattle.smv_language.specs.Tree.{choice as choice_tree, leaf};
 ghost use Rattle.smv_language.specs.Flat.{flat_symbol};
 ghost use Rattle.cut_right_laws.specs.Sets.{has_number as has_number_of};
 ghost use Rattle.smv_language.specs.ModelTree.{model_tree, formula_tree, flat_tree, name_of_fault};
 ghost use Rattle.smv_flat_laws.specs.FaultModes.{mode_of};
-ghost use Rattle.fault_cause_laws.specs.Staged.{with_own as own_with, with_owns, own_events, own_at_first as own_first, own_at_step as own_step, stands_of, joined as windows_of, windows_on as windows_on_of, only as only_tree};
+ghost use Rattle.fault_cause_laws.specs.StagedModel.{with_own as own_with, with_owns, own_events, own_at_first as own_first};
+ghost use Rattle.fault_cause_laws.specs.StagedModel.{own_at_step as own_step, stands_of, joined as windows_of, windows_on as windows_on_of};
+ghost use Rattle.fault_cause_laws.specs.StagedModel.{only as only_tree};
 ghost use Rattle.fault_staging.specs.CauseOf.{cause_of, either_tree};
 
 use crate::build::{
@@ -38,7 +39,8 @@ pub(crate) fn add_own_events(
     ensures model { OnOk result (model_tree made.new
         ≡ with_owns (map mode_of faults.now) (map cause_of causes.now) ages.now 1 (map mode_of faults.now) (model_tree made.old)) }
     ensures events { OnOk result (map mode_of events.new
-        ≡ map mode_of events.old ++ own_events (length (model_tree made.old).variables) (length (model_tree made.old).symbols) (map mode_of faults.now)) }
+        ≡ map mode_of events.old
+        ++ own_events (length (model_tree made.old).variables) (length (model_tree made.old).symbols) (map mode_of faults.now)) }
     ensures names { OnOk result (map name_of_fault events.new ≡ map name_of_fault events.old ++ map name_of_fault faults.now) }
 {
     for (i, fault) in faults.iter().enumerate() {
@@ -80,7 +82,7 @@ fn add_own_event(
     made.variables.push(variable)?;
     made.symbols.push(numbered(alloc, b"none#", b"", place)?)?;
     made.symbols.push(numbered(alloc, b"self#", b"", place)?)?;
-    let mark = Marked { own, none, itself };
+    let mark = MarkedFault { own, none, itself };
     made.init
         .push(own_at_first(alloc, faults, causes, ages, number, mark)?)?;
     made.trans
@@ -95,7 +97,7 @@ fn add_own_event(
 /// A fault's event: the number of its variable, and those of the symbols that say that the fault does not begin by itself
 /// and that it does.
 #[derive(Clone, Copy)]
-struct Marked {
+struct MarkedFault {
     own: u32,
     none: u32,
     itself: u32,
@@ -108,7 +110,7 @@ fn own_at_first(
     causes: &[Cause],
     ages: &[u32],
     number: u32,
-    mark: Marked,
+    mark: MarkedFault,
 ) -> Result<Formula, OutOfMemory>
     requires number { (0 < number) × (number ≤ length faults.now) }
     requires ages { length ages.now ≡ length causes.now }
@@ -129,7 +131,7 @@ fn own_at_step(
     causes: &[Cause],
     ages: &[u32],
     number: u32,
-    mark: Marked,
+    mark: MarkedFault,
 ) -> Result<Formula, OutOfMemory>
     requires number { (0 < number) × (number ≤ length faults.now) }
     requires ages { length ages.now ≡ length causes.now }
@@ -146,7 +148,7 @@ fn own_at_step(
 }
 
 /// The symbol that tells the event where a condition is TRUE, and the other one elsewhere.
-fn told(alloc: Global, condition: Expr<Flat>, mark: Marked) -> Result<Expr<Flat>, OutOfMemory>
+fn told(alloc: Global, condition: Expr<Flat>, mark: MarkedFault) -> Result<Expr<Flat>, OutOfMemory>
     ensures { IfOk result (λ e. flat_tree e ≡ choice_tree (flat_tree condition)
         (only_tree (leaf (flat_symbol mark.itself))) (only_tree (leaf (flat_symbol mark.none)))) }
 {

@@ -1,7 +1,6 @@
 //! The names of what causes add.
 //!
 //! [`joined`] puts a word behind a cause's name, and [`numbered`] a word and a number.
-
 ghost use Rattle.std.specs.Prelude.{◌≡◌, ◌++◌, IfOk};
 ghost use Rattle.std.specs.Fmt.{decimal};
 

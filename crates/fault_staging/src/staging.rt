@@ -2,13 +2,16 @@
 //!
 //! The main function is [`with_causes`]. A cause adds its age, its event, and a hit for each fault that it strikes; after all causes
 //! come the events of the faults, from `events`.
-
 ghost use Rattle.std.specs.Prelude.{◌≡◌, ◌<◌, ◌≤◌, ◌++◌, suc, length, map, IfOk, OnOk};
 ghost use Rattle.smv_language.specs.Trace.{Each};
 ghost use Rattle.smv_language.specs.ModelTree.{model_tree, formula_tree, flat_tree, name_of_fault};
 ghost use Rattle.smv_flat_laws.specs.FaultModes.{mode_of};
 ghost use Rattle.fault_cause_laws.specs.Causes.{IsCauseOf};
-ghost use Rattle.fault_cause_laws.specs.Staged.{with_age as age_of, with_event as event_of, with_hit as hit_of, with_hits, with_cause as cause_with, with_each_cause, age_numbers, cause_events, with_causes as causes_with, stands_of, in_window as window_of, age_at_step as age_step, event_at_each as event_each, hit_at_first as hit_first, hit_at_step as hit_step, landed_at_each as landed_each, events_of};
+ghost use Rattle.fault_cause_laws.specs.StagedModel.{with_age as age_of, with_event as event_of, with_hit as hit_of, with_hits};
+ghost use Rattle.fault_cause_laws.specs.StagedModel.{with_cause as cause_with, with_each_cause, age_numbers, cause_events};
+ghost use Rattle.fault_cause_laws.specs.StagedModel.{with_causes as causes_with, stands_of, in_window as window_of};
+ghost use Rattle.fault_cause_laws.specs.StagedModel.{age_at_step as age_step, event_at_each as event_each, hit_at_first as hit_first};
+ghost use Rattle.fault_cause_laws.specs.StagedModel.{hit_at_step as hit_step, landed_at_each as landed_each, events_of};
 ghost use Rattle.fault_staging.specs.CauseOf.{cause_of, told_cause, event_mode};
 
 use crate::build::{
@@ -52,8 +55,10 @@ pub fn with_causes(
     causes: &CauseList,
 ) -> Result<Staged, OutOfMemory>
     requires causes { Each (IsCauseOf (length faults.now)) (map cause_of causes.now) }
-    ensures model { IfOk result (λ s. model_tree s.model ≡ causes_with (model_tree m.now) (map mode_of faults.now) (map cause_of causes.now)) }
-    ensures events { IfOk result (λ s. map mode_of s.events ≡ events_of (model_tree m.now) (map mode_of faults.now) (map cause_of causes.now)) }
+    ensures model { IfOk result (λ s. model_tree s.model
+        ≡ causes_with (model_tree m.now) (map mode_of faults.now) (map cause_of causes.now)) }
+    ensures events { IfOk result (λ s. map mode_of s.events
+        ≡ events_of (model_tree m.now) (map mode_of faults.now) (map cause_of causes.now)) }
     ensures names { IfOk result (λ s. map name_of_fault s.events ≡ map name_of_fault faults.now ++ map told_cause causes.now) }
 {
     let mut model = m.copy()?;
@@ -100,10 +105,13 @@ fn add_causes(
     causes: &[Cause],
 ) -> Result<(), OutOfMemory>
     requires { Each (IsCauseOf (length faults.now)) (map cause_of causes.now) }
-    ensures model { OnOk result (model_tree made.new ≡ with_each_cause (map mode_of faults.now) (model_tree made.old) (map cause_of causes.now)) }
-    ensures ages { OnOk result (ages.new.items ≡ ages.old.items ++ age_numbers (length (model_tree made.old).variables) (map cause_of causes.now)) }
+    ensures model { OnOk result (model_tree made.new
+        ≡ with_each_cause (map mode_of faults.now) (model_tree made.old) (map cause_of causes.now)) }
+    ensures ages { OnOk result (ages.new.items
+        ≡ ages.old.items ++ age_numbers (length (model_tree made.old).variables) (map cause_of causes.now)) }
     ensures events { OnOk result (map mode_of events.new
-        ≡ map mode_of events.old ++ cause_events (length (model_tree made.old).variables) (length (model_tree made.old).symbols) (map cause_of causes.now)) }
+        ≡ map mode_of events.old
+        ++ cause_events (length (model_tree made.old).variables) (length (model_tree made.old).symbols) (map cause_of causes.now)) }
     ensures names { OnOk result (map name_of_fault events.new ≡ map name_of_fault events.old ++ map told_cause causes.now) }
 {
     for cause in causes {
@@ -142,7 +150,8 @@ fn add_hits(
     strikes: &[u32],
 ) -> Result<(), OutOfMemory>
     requires { Each (λ i. (0 < i) × (i ≤ length faults.now)) strikes.now }
-    ensures { OnOk result (model_tree made.new ≡ with_hits (map mode_of faults.now) (cause_of cause.now) age 1 strikes.now (model_tree made.old)) }
+    ensures { OnOk result (model_tree made.new
+        ≡ with_hits (map mode_of faults.now) (cause_of cause.now) age 1 strikes.now (model_tree made.old)) }
 {
     for (k, strike) in strikes.iter().enumerate() {
         add_hit(alloc, made, faults, cause, age, k + 1, *strike)?;
@@ -239,7 +248,8 @@ fn add_hit(
     fault: u32,
 ) -> Result<(), OutOfMemory>
     requires { (0 < fault) × (fault ≤ length faults.now) }
-    ensures { OnOk result (model_tree made.new ≡ hit_of (map mode_of faults.now) (cause_of cause.now) age number fault (model_tree made.old)) }
+    ensures { OnOk result (model_tree made.new
+        ≡ hit_of (map mode_of faults.now) (cause_of cause.now) age number fault (model_tree made.old)) }
 {
     let hit = number_of(made.variables.len())?;
     let name = numbered(alloc, cause.name.text(), b"#hit#", number)?;

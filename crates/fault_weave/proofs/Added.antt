@@ -12,7 +12,7 @@ use Rattle.smv_language.proofs.ValueLaws.{same_text_refl}
 use Rattle.fault_instructions.specs.Instructions.{ModeTree, SliceTree, InstructionTree, is_target, is_affected}
 use Rattle.fault_instructions.specs.AddedNames.{ModeState}
 use Rattle.fault_instructions.specs.AddedNames.{own_name, mode_variable, mode_symbol}
-use Rattle.fault_weave.specs.Woven.{mode_type, slice_sections, woven_section, added_sections, woven}
+use Rattle.fault_weave.specs.WovenProgram.{mode_type, slice_sections, woven_section, added_sections, woven}
 use Rattle.fault_instructions.specs.KindTypes.{type_of_kind}
 use Rattle.fault_instructions.specs.Weavable.{Among}
 use Rattle.fault_instructions.specs.Types.{IsKnown}

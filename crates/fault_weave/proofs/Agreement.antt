@@ -9,7 +9,7 @@ use Rattle.smv_language.specs.Scope.{Place, Key, define_key, actual_key, Role, K
 use Rattle.smv_language.specs.May.{Valuation, values_of_meaning, name_values, May}
 use Rattle.smv_language.specs.Trace.{IsVariable}
 use Rattle.fault_instructions.specs.Instructions.{InstructionTree}
-use Rattle.fault_weave.specs.Woven.{woven, tree_map_both, trees_map_both, branches_map_both}
+use Rattle.fault_weave.specs.WovenProgram.{woven, tree_map_both, trees_map_both, branches_map_both}
 use Rattle.smv_language.specs.Laws.{AllLeaves, AllLeavesOfTrees, AllLeavesOfBranches}
 use Rattle.fault_instructions.specs.Weavable.{NoNext, NoNextInTrees, NoNextInBranches, IsWeavable, IsReadable, HasMeaning}
 use Rattle.fault_weave.proofs.Meanings.{same_meaning}

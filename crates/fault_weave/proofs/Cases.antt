@@ -10,7 +10,7 @@ use Rattle.smv_language.proofs.ValueLaws.{same_text_refl}
 use Rattle.fault_instructions.specs.Instructions.{ModeTree}
 use Rattle.fault_instructions.specs.AddedNames.{ModeState}
 use Rattle.fault_instructions.specs.Templates.{stands}
-use Rattle.fault_weave.specs.Woven.{mode_branches}
+use Rattle.fault_weave.specs.WovenProgram.{mode_branches}
 use Rattle.fault_instructions.specs.Weavable.{Among}
 use Rattle.smv_language.proofs.OneTree.{same_text_equal}
 use Rattle.fault_instructions.specs.EffectLaw.{stands_at}

@@ -13,7 +13,7 @@ use Rattle.fault_instructions.specs.declared.instructions.Start.TheVariants.{Nom
 use Rattle.fault_weave.specs.Faults.{HasFaults}
 use Rattle.fault_instructions.specs.Instructions.{InstructionTree, stuck_at, ramp_down, slices_of}
 use Rattle.fault_instructions.specs.Effects.{Allows}
-use Rattle.fault_weave.specs.Extended.{Moment, FirstSection, DomainSection, EachSection, StepSection, FirstSlice, EachSlice, StepSlice, IsFirst, IsMoment, IsStep, IsExtended, HasFailed}
+use Rattle.fault_weave.specs.ExtensionTraces.{Moment, FirstSection, DomainSection, EachSection, StepSection, FirstSlice, EachSlice, StepSlice, IsFirst, IsMoment, IsStep, IsExtended, HasFailed}
 
 -- MODULE main VAR on : boolean; ASSIGN init(on) := TRUE; next(on) := on;
 abbrev pub lamp_main : ModuleTree

@@ -13,7 +13,7 @@ use Rattle.smv_language.proofs.Monotone.{evaluate_below, name_values_more, same_
 use Rattle.fault_instructions.specs.Instructions.{SliceTree, InstructionTree, slices_of}
 use Rattle.fault_instructions.specs.AddedNames.{ModeState}
 use Rattle.fault_instructions.specs.AddedNames.{own_name, mode_variable, mode_symbol}
-use Rattle.fault_weave.specs.Woven.{mode_type, added_sections, woven}
+use Rattle.fault_weave.specs.WovenProgram.{mode_type, added_sections, woven}
 use Rattle.fault_instructions.specs.KindTypes.{type_of_kind}
 use Rattle.fault_instructions.specs.Weavable.{Among, IsFinite, IsFreeMember, SymbolsAreFree, IsLawfulSlice, IsWeavable}
 use Rattle.fault_instructions.specs.Types.{IsKnown}

@@ -7,7 +7,7 @@ use Rattle.smv_language.specs.Texts.{is_among}
 use Rattle.smv_language.specs.Trace.{IsInstance}
 use Rattle.fault_instructions.specs.Instructions.{SliceTree, InstructionTree, slices_of, is_affected}
 use Rattle.fault_instructions.specs.AddedNames.{own_name, mode_variable}
-use Rattle.fault_weave.specs.Woven.{woven_section, added_sections, woven_module, woven}
+use Rattle.fault_weave.specs.WovenProgram.{woven_section, added_sections, woven_module, woven}
 use Rattle.fault_instructions.specs.KindTypes.{type_of_kind}
 use Rattle.fault_instructions.specs.Weavable.{Among, IsFinite, IsLawfulSlice, IsWeavable}
 use Rattle.fault_weave.proofs.WovenKinds.{kind_woven, IsPlain, plain_no_module, plain_no_actual, added_plain, find_woven, Adds, IsAddedBy, added_or_not}

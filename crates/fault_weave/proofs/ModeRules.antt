@@ -6,7 +6,7 @@ use Rattle.fault_instructions.specs.declared.instructions.Start.{Start}
 use Rattle.fault_instructions.specs.declared.instructions.Start.TheVariants.{Nominal, Any}
 use Rattle.fault_instructions.specs.Instructions.{EffectTree, stuck_at, follows, inverted, random, erroneous, frozen, stuck_at_pick, offset, ramp_down}
 use Rattle.fault_instructions.specs.Templates.{rules, first_rules}
-use Rattle.fault_weave.specs.Woven.{start_rules, mode_rules}
+use Rattle.fault_weave.specs.WovenProgram.{start_rules, mode_rules}
 use Rattle.fault_instructions.proofs.AmongLaws.{each_append}
 use Rattle.smv_language.proofs.BoolLaws.{iff_trans}
 

@@ -6,10 +6,10 @@ use Rattle.smv_language.specs.Scope.{Place, Kind, a_formal, a_variable, a_define
 use Rattle.smv_language.specs.May.{Valuation}
 use Rattle.smv_language.specs.Trace.{IsInstance, Each, EachBoth}
 use Rattle.fault_instructions.specs.Instructions.{SliceTree, InstructionTree, slices_of}
-use Rattle.fault_weave.specs.Extended.{Moment}
+use Rattle.fault_weave.specs.ExtensionTraces.{Moment}
 use Rattle.fault_instructions.specs.AddedNames.{mode_symbol}
 use Rattle.fault_weave.specs.Conservative.{IsSlice, IsCutMoment, IsCut, SameMoment, SameValuation, HasModes, IsOneToOne}
-use Rattle.fault_weave.specs.Woven.{added_sections, woven}
+use Rattle.fault_weave.specs.WovenProgram.{added_sections, woven}
 use Rattle.fault_instructions.specs.Weavable.{Among, IsWeavable}
 use Rattle.fault_weave.proofs.WovenKinds.{kind_or, kind_woven, Adds, IsAddedBy, added_or_not}
 use Rattle.fault_weave.proofs.Added.{contains_among, among_contains}

@@ -5,8 +5,8 @@ use Rattle.smv_language.specs.declared.expr.Expr.{Expr}
 use Rattle.smv_language.specs.Tree.{Tree, tree_then, branch_then, trees_from, branches_from}
 use Rattle.smv_language.specs.ProgramTree.{Text, Path}
 use Rattle.std.specs.Prelude.{Bool}
-use Rattle.smv_language.specs.Written.{tree_of, trees_of, branches_of, branch_trees}
-use Rattle.fault_weave.specs.Woven.{rename, tree_map_both, trees_map_both, branches_map_both}
+use Rattle.smv_language.specs.ExpressionTree.{tree_of, trees_of, branches_of, branch_trees}
+use Rattle.fault_weave.specs.WovenProgram.{rename, tree_map_both, trees_map_both, branches_map_both}
 
 -- a name of several parts stays
 pub rename_other : (affected : Text → Bool) (name : Path) → (length name ≡ 1 → ⊥) → rename affected name ≡ name

@@ -9,7 +9,7 @@ use Rattle.smv_language.specs.ProgramTree.{Text, Path, Formula, SectionTree}
 use Rattle.fault_instructions.specs.declared.instructions.Extension.{Extension}
 use Rattle.fault_instructions.specs.Instructions.{ModeTree, SliceTree, ExtensionTree, extension_tree, slices_from}
 use Rattle.fault_instructions.specs.Templates.{stands}
-use Rattle.fault_weave.specs.Woven.{mode_branches, own_slices}
+use Rattle.fault_weave.specs.WovenProgram.{mode_branches, own_slices}
 
 -- the branches of a case over modes, from a list
 mode_branches_from : (slice : Text) (f : ModeTree → Formula) (last : Formula) (ms : List ModeTree) →

@@ -16,11 +16,11 @@ use Rattle.fault_instructions.specs.declared.instructions.Dynamics.{Dynamics}
 use Rattle.fault_instructions.specs.declared.instructions.Dynamics.TheVariants.{Permanent, Transient}
 use Rattle.fault_instructions.specs.declared.instructions.Start.{Start}
 use Rattle.fault_instructions.specs.declared.instructions.Start.TheVariants.{Nominal, Any}
-use Rattle.fault_weave.specs.Extended as extended
-use Rattle.fault_weave.specs.Extended.{Moment, IsExtended, FirstSlice, StepSlice}
+use Rattle.fault_weave.specs.ExtensionTraces as extended
+use Rattle.fault_weave.specs.ExtensionTraces.{Moment, IsExtended, FirstSlice, StepSlice}
 use Rattle.fault_instructions.specs.AddedNames.{own_name, mode_variable, mode_symbol}
 use Rattle.fault_weave.specs.Conservative.{IsSlice, IsStateOf, IsCutMoment, IsCut}
-use Rattle.fault_weave.specs.Woven.{mode_type, slice_sections, woven_module, woven}
+use Rattle.fault_weave.specs.WovenProgram.{mode_type, slice_sections, woven_module, woven}
 use Rattle.fault_instructions.specs.Weavable.{Among, IsLawfulMode, IsWeavable}
 use Rattle.fault_instructions.specs.Types.{IsKnown}
 use Rattle.fault_instructions.proofs.AmongLaws.{each_at}

@@ -17,7 +17,7 @@ use Rattle.fault_instructions.specs.AddedNames.{ModeState}
 use Rattle.fault_instructions.specs.AddedNames.{own_name, mode_variable, mode_symbol}
 use Rattle.fault_weave.specs.Conservative.{IsExtensionOf}
 use Rattle.fault_instructions.specs.Templates.{named}
-use Rattle.fault_weave.specs.Woven.{woven_module, woven}
+use Rattle.fault_weave.specs.WovenProgram.{woven_module, woven}
 use Rattle.fault_instructions.specs.Weavable.{Among, IsLawfulInstance, IsLawfulSlice, IsWeavable}
 use Rattle.fault_instructions.specs.Types.{IsKnown}
 use Rattle.fault_weave.proofs.Examples.{lamp_main, lamp, dark, only_main}

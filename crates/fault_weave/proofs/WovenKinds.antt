@@ -8,7 +8,7 @@ use Rattle.fault_instructions.specs.declared.instructions.Start.{Start}
 use Rattle.fault_instructions.specs.declared.instructions.Start.TheVariants.{Nominal, Any}
 use Rattle.fault_instructions.specs.Instructions.{EffectTree, stuck_at, follows, inverted, random, erroneous, stuck_at_pick, offset, ramp_down, frozen as frozen_effect, ModeTree, SliceTree, InstructionTree, is_affected}
 use Rattle.fault_instructions.specs.AddedNames.{own_name, mode_variable}
-use Rattle.fault_weave.specs.Woven.{mode_type, start_rules, mode_rules, slice_sections, woven_section, added_sections, woven_module, woven}
+use Rattle.fault_weave.specs.WovenProgram.{mode_type, start_rules, mode_rules, slice_sections, woven_section, added_sections, woven_module, woven}
 use Rattle.fault_instructions.specs.KindTypes.{type_of_kind}
 use Rattle.fault_instructions.specs.Templates.{rules, first_rules}
 use Rattle.fault_instructions.specs.Weavable.{Among, IsFinite}

@@ -11,12 +11,12 @@ use Rattle.smv_language.specs.May.{Valuation, May}
 use Rattle.smv_language.specs.Trace.{Each, IsInstance, in_domain, is_member, Declares, FirstSection, EachSection, DomainSection}
 use Rattle.fault_instructions.specs.Instructions.{EffectTree, stuck_at, follows, inverted, random, erroneous, frozen as e_frozen, stuck_at_pick, offset, ramp_down, SliceTree, InstructionTree, slices_of, is_affected}
 use Rattle.fault_instructions.specs.AddedNames.{ModeState}
-use Rattle.fault_weave.specs.Extended as extended
-use Rattle.fault_weave.specs.Extended.{Moment, EachSlice, BothDeclared}
+use Rattle.fault_weave.specs.ExtensionTraces as extended
+use Rattle.fault_weave.specs.ExtensionTraces.{Moment, EachSlice, BothDeclared}
 use Rattle.fault_weave.specs.Moves.{Starts}
 use Rattle.fault_instructions.specs.AddedNames.{own_name, mode_variable, mode_symbol}
 use Rattle.fault_weave.specs.Conservative.{IsSlice, IsStateOf, IsCutMoment}
-use Rattle.fault_weave.specs.Woven.{mode_type, mode_rules, slice_sections, slice_rules, woven_section, added_sections, woven_module, woven}
+use Rattle.fault_weave.specs.WovenProgram.{mode_type, mode_rules, slice_sections, slice_rules, woven_section, added_sections, woven_module, woven}
 use Rattle.fault_instructions.specs.KindTypes.{type_of_kind}
 use Rattle.fault_instructions.specs.Templates.{rules}
 use Rattle.fault_instructions.specs.Weavable.{Among, IsFinite, IsLawfulDecl, IsLawfulSection, IsWeavable}

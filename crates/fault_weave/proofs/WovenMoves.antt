@@ -20,7 +20,7 @@ use Rattle.fault_instructions.specs.Effects.{IsRamp}
 use Rattle.fault_weave.specs.Moves.{Starts, Moves, Stays, Guarded}
 use Rattle.fault_instructions.specs.AddedNames.{own_name, mode_variable, mode_symbol}
 use Rattle.fault_instructions.specs.Templates.{named, stands, frozen_rule, pick_rule, ramp_rule, frozen_first, ramp_first, rules, first_rules}
-use Rattle.fault_weave.specs.Woven.{start_tree, mode_rules, set_one, guard_formula, entries_from, entries, stay_branch, slice_rules, slice_sections, moves_tree, woven}
+use Rattle.fault_weave.specs.WovenProgram.{start_tree, mode_rules, set_one, guard_formula, entries_from, entries, stay_branch, slice_rules, slice_sections, moves_tree, woven}
 use Rattle.fault_instructions.specs.Weavable.{Among, IsAllowed, IsRangeEffect, IsLawfulMode, IsLawfulGuard, IsWeavable}
 use Rattle.fault_instructions.specs.Types.{IsKnown}
 use Rattle.fault_instructions.proofs.Equivalence.{iff_refl, iff_both}

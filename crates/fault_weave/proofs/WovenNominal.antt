@@ -14,10 +14,10 @@ use Rattle.fault_instructions.specs.Instructions.{ModeTree, SliceTree, Instructi
 use Rattle.fault_instructions.specs.declared.instructions.Start.{Start}
 use Rattle.fault_instructions.specs.declared.instructions.Start.TheVariants.{Nominal, Any}
 use Rattle.fault_weave.specs.Moves.{Starts, Moves}
-use Rattle.fault_weave.specs.Extended as extended
-use Rattle.fault_weave.specs.Extended.{Moment, own_reading, target_value, FirstSlice, EachSlice, StepSlice, Effected, entered, IsExtended}
+use Rattle.fault_weave.specs.ExtensionTraces as extended
+use Rattle.fault_weave.specs.ExtensionTraces.{Moment, own_reading, target_value, FirstSlice, EachSlice, StepSlice, Effected, entered, IsExtended}
 use Rattle.fault_weave.specs.Conservative.{IsSlice, IsFaultless, IsHidden, IsExtensionOf}
-use Rattle.fault_weave.specs.Woven.{woven}
+use Rattle.fault_weave.specs.WovenProgram.{woven}
 use Rattle.fault_instructions.specs.Weavable.{Among, HasMeaning, IsReadable, IsLawfulTarget, IsLawfulAssignment, IsLawfulDecl, IsLawfulSection, IsWeavable}
 use Rattle.fault_instructions.proofs.Equivalence.{iff_refl, iff_both}
 use Rattle.fault_instructions.proofs.AmongLaws.{each_iff, each_at, each_all}

@@ -11,11 +11,11 @@ use Rattle.smv_language.specs.May.{Valuation, name_values, Reading, reading, May
 use Rattle.smv_language.specs.Trace.{Keeps, IsInstance, FirstAssigned, EachAssigned, NextAssigned, FirstSection, EachSection, StepSection}
 use Rattle.smv_language.proofs.Monotone.{Extends, evaluate_below, name_values_more}
 use Rattle.fault_instructions.specs.Instructions.{SliceTree, InstructionTree, slices_of, is_affected}
-use Rattle.fault_weave.specs.Extended as extended
-use Rattle.fault_weave.specs.Extended.{Moment, with_own, own_reading}
+use Rattle.fault_weave.specs.ExtensionTraces as extended
+use Rattle.fault_weave.specs.ExtensionTraces.{Moment, with_own, own_reading}
 use Rattle.fault_instructions.specs.AddedNames.{own_name}
 use Rattle.fault_weave.specs.Conservative.{IsSlice, IsCutMoment}
-use Rattle.fault_weave.specs.Woven.{rename, same_path, tree_map_both, woven_assignment, woven_section, woven}
+use Rattle.fault_weave.specs.WovenProgram.{rename, same_path, tree_map_both, woven_assignment, woven_section, woven}
 use Rattle.fault_instructions.specs.Weavable.{Among, HasMeaning, IsReadable, IsLawfulTarget, IsLawfulAssignment, IsLawfulSection, IsWeavable, IsLawfulDecl}
 use Rattle.fault_instructions.proofs.Equivalence.{iff_refl}
 use Rattle.fault_instructions.proofs.AmongLaws.{each_iff, each_map, each_at}

@@ -11,7 +11,7 @@ use Rattle.smv_language.proofs.ValueLaws.{same_text_refl}
 use Rattle.fault_instructions.specs.Instructions.{EffectTree, stuck_at, follows, inverted, random, erroneous, frozen, stuck_at_pick, offset, ramp_down, ModeTree, SliceTree, InstructionTree, slices_of}
 use Rattle.fault_instructions.specs.AddedNames.{ModeState}
 use Rattle.fault_instructions.specs.AddedNames.{own_name, mode_variable, mode_symbol}
-use Rattle.fault_weave.specs.Woven.{mode_rules, slice_rules, slice_sections, read_tree, woven}
+use Rattle.fault_weave.specs.WovenProgram.{mode_rules, slice_rules, slice_sections, read_tree, woven}
 use Rattle.fault_instructions.specs.KindTypes.{type_of_kind}
 use Rattle.fault_instructions.specs.Templates.{named, stands, branch, erroneous_rule, rules}
 use Rattle.fault_instructions.specs.Weavable.{Among, IsAllowed, IsBoolean, IsRangeEffect, IsLawfulMode, IsWeavable}

@@ -12,10 +12,10 @@ use Rattle.fault_instructions.specs.Instructions.{ModeTree, SliceTree, Instructi
 use Rattle.fault_instructions.specs.AddedNames.{ModeState}
 use Rattle.fault_instructions.specs.Effects.{Allows}
 use Rattle.fault_weave.specs.Moves.{Starts, Moves}
-use Rattle.fault_weave.specs.Extended as extended
-use Rattle.fault_weave.specs.Extended.{Moment, EachSlice, Effected, StepSlice, FirstSlice, entered, type_of, IsExtended}
+use Rattle.fault_weave.specs.ExtensionTraces as extended
+use Rattle.fault_weave.specs.ExtensionTraces.{Moment, EachSlice, Effected, StepSlice, FirstSlice, entered, type_of, IsExtended}
 use Rattle.fault_weave.specs.Conservative.{IsCutMoment, IsCut}
-use Rattle.fault_weave.specs.Woven.{slice_sections, woven_section, woven_module, woven}
+use Rattle.fault_weave.specs.WovenProgram.{slice_sections, woven_section, woven_module, woven}
 use Rattle.fault_instructions.specs.KindTypes.{type_of_kind}
 use Rattle.fault_instructions.specs.Weavable.{Among, IsLawfulSection, IsWeavable}
 use Rattle.fault_instructions.specs.Types.{IsKnown}

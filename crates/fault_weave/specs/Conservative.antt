@@ -7,7 +7,7 @@ use Rattle.smv_language.specs.May.{Valuation}
 use Rattle.smv_language.specs.Trace.{IsInstance, IsVariable, IsTrace, Each, AtSome, EachBoth}
 use Rattle.fault_instructions.specs.Instructions.{InstructionTree, SliceTree, slices_of}
 use Rattle.fault_instructions.specs.AddedNames.{ModeState, own_name, mode_variable, mode_symbol}
-use Rattle.fault_weave.specs.Extended.{Moment, IsExtended}
+use Rattle.fault_weave.specs.ExtensionTraces.{Moment, IsExtended}
 
 module _ (p : ProgramTree) (i : InstructionTree) where
   -- a slice of the module of an instance
@@ -38,7 +38,8 @@ module _ (p : ProgramTree) (i : InstructionTree) where
   -- the read values alone
   abbrev pub IsHidden : List Moment → List Valuation → Type 0
   IsHidden trace vs =
-      EachBoth (λ (mo : Moment) (v : Valuation). (at : Place) (x : Text) (role : Role) (type : DeclaredTree) → IsVariable p at x role type → v at x ≡ mo.read at x) trace vs
+      EachBoth (λ (mo : Moment) (v : Valuation). (at : Place) (x : Text) (role : Role) (type : DeclaredTree) →
+      IsVariable p at x role type → v at x ≡ mo.read at x) trace vs
 
   -- the program means the extension of the other by the instructions
   pub record IsExtensionOf (w : ProgramTree) : Type 0 where

@@ -13,7 +13,14 @@ pub record Fault : Type 0 where
 -- the names of a module's instances, in the order of their declarations
 abbrev pub instance_names_in : List DeclTree → List Text
 instance_names_in [] = []
-instance_names_in (d ∷ ds) = elim d.what [ boolean ↦ instance_names_in ds | range lo hi ↦ instance_names_in ds | members ms ↦ instance_names_in ds | instance m actuals ↦ d.name ∷ instance_names_in ds ]
+instance_names_in (d ∷ ds) =
+    elim d.what [
+      | boolean ↦ instance_names_in ds
+      | range lo hi ↦ instance_names_in ds
+      | members ms ↦ instance_names_in ds
+      | instance m
+          actuals ↦ d.name ∷ instance_names_in ds
+    ]
 
 -- the instances that the sections of a module declare
 abbrev pub instance_names : List SectionTree → List Text

@@ -1,7 +1,7 @@
 pub mod Moves
 pub mod Faults
-pub mod Extended
+pub mod ExtensionTraces
 pub mod Conservative
-pub mod Woven
+pub mod WovenProgram
 pub mod WeaveLaws
 pub mod Lookups

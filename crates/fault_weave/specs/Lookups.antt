@@ -3,7 +3,8 @@
 use Rattle.std.specs.Prelude.{Bool, ◌&&◌, List, [], ◌∷◌, Option, Some, None, if◌then◌else◌}
 use Rattle.smv_language.specs.Texts.{same_text}
 use Rattle.fault_instructions.specs.Instructions.{ExtensionTree, is_target}
-use Rattle.smv_language.specs.ProgramTree.{Text, DeclaredTree, boolean, range, members, instance, DeclTree, DefineTree, SectionTree, var, ivar, frozen, define, constants, assign, init, invar, trans}
+use Rattle.smv_language.specs.ProgramTree.{Text, DeclaredTree, boolean, range, members, instance, DeclTree, DefineTree, SectionTree, var}
+use Rattle.smv_language.specs.ProgramTree.{ivar, frozen, define, constants, assign, init, invar, trans}
 
 -- the type of a variable; an instance counts as boolean
 abbrev pub variable_type : DeclaredTree → DeclaredTree

@@ -2,7 +2,7 @@
 use Rattle.smv_language.specs.ProgramTree.{ProgramTree}
 use Rattle.fault_instructions.specs.Instructions.{InstructionTree}
 use Rattle.fault_weave.specs.Conservative.{IsExtensionOf, IsOneToOne}
-use Rattle.fault_weave.specs.Woven.{woven}
+use Rattle.fault_weave.specs.WovenProgram.{woven}
 use Rattle.fault_instructions.specs.Weavable.{IsWeavable}
 
 -- the woven program is the extension of the program by the instructions

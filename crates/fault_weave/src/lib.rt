@@ -2,9 +2,9 @@
 //!
 //! Each slice of a module adds the own value of its variable and its own state to the module: where
 //! no mode stands the variable reads its own value, and else what the mode's effect allows. What the
-//! woven program is to mean stands in `specs/Extended.antt`: the extended traces of a program under
+//! woven program is to mean stands in `specs/ExtensionTraces.antt`: the extended traces of a program under
 //! instructions, over its own text, with read and own values and modes. That it means this is a law
-//! about the text that the weave makes: [`woven_extends`]. The text, `woven` in `specs/Woven.antt`, is
+//! about the text that the weave makes: [`woven_extends`]. The text, `woven` in `specs/WovenProgram.antt`, is
 //! made by [`woven_program`]; what programs and instructions a weave takes stands in
 //! `specs/Weavable.antt` of `fault_instructions`, and the list of faults in `specs/Faults.antt`.
 //!

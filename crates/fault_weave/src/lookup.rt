@@ -1,14 +1,15 @@
 //! What the weave asks of a program and its instructions: whether a slice affects a variable ([`is_affected`]), and which
 //! type a module declares for a name ([`target_type`]). Each answer goes once through the lists that it is about.
-
 ghost use Rattle.std.specs.Prelude.{◌≡◌, IfOk, map, option_map};
 ghost use Rattle.std.specs.List.{list_any};
 ghost use Rattle.smv_language.specs.Texts.{same_text};
 ghost use Rattle.smv_language.specs.ProgramTree.{module_tree, section_tree, decl_tree, define_tree, declared_tree};
 ghost use Rattle.smv_language.specs.Scope.{kind_in, kind_in_sections};
-ghost use Rattle.fault_instructions.specs.Instructions.{instruction_tree, extension_tree, slices_from, slice_tree, is_affected as is_affected_in, is_target as is_target_of};
+ghost use Rattle.fault_instructions.specs.Instructions.{instruction_tree, extension_tree, slices_from, slice_tree};
+ghost use Rattle.fault_instructions.specs.Instructions.{is_affected as is_affected_in, is_target as is_target_of};
 ghost use Rattle.fault_instructions.specs.KindTypes.{type_of_kind};
-ghost use Rattle.fault_weave.specs.Lookups.{affects as affects_in, variable_type as variable_type_of, type_in_decls, type_in_defines, type_in_section};
+ghost use Rattle.fault_weave.specs.Lookups.{affects as affects_in, variable_type as variable_type_of, type_in_decls, type_in_defines};
+ghost use Rattle.fault_weave.specs.Lookups.{type_in_section};
 
 use base_values::{Name, OutOfMemory};
 use fault_instructions::{Extension, Instructions, Slice};

@@ -1,12 +1,12 @@
 //! Names of own values in the nominal text: targets of assignments, single names in an INIT, and single names under
 //! `next` in a TRANS. [`renamed_sections`] is the main function. There the text says what a variable is by itself;
 //! everywhere else it reads the variable, and the name stays.
-
 ghost use Rattle.std.specs.Prelude.{◌≡◌, [], ◌∷◌, IfOk, map};
-ghost use Rattle.smv_language.specs.Written.{tree_of, trees_of, branches_of};
+ghost use Rattle.smv_language.specs.ExpressionTree.{tree_of, trees_of, branches_of};
 ghost use Rattle.smv_language.specs.ProgramTree.{section_tree, assignment_tree};
 ghost use Rattle.fault_instructions.specs.Instructions.{instruction_tree, is_affected as is_affected_in};
-ghost use Rattle.fault_weave.specs.Woven.{rename, renaming, tree_map_both, trees_map_both, branches_map_both, woven_assignment, woven_section};
+ghost use Rattle.fault_weave.specs.WovenProgram.{rename, renaming, tree_map_both, trees_map_both, branches_map_both, woven_assignment};
+ghost use Rattle.fault_weave.specs.WovenProgram.{woven_section};
 
 use crate::lookup::is_affected;
 use base_values::{Dotted, Items, Name, OutOfMemory};
@@ -38,7 +38,8 @@ fn renamed_section(
     owner: &Name,
     section: &Section,
 ) -> Result<Section, OutOfMemory>
-    ensures { IfOk result (λ made. section_tree made ≡ woven_section (is_affected_in (instruction_tree i.now) owner.now) (section_tree section.now)) }
+    ensures { IfOk result (λ made. section_tree made
+        ≡ woven_section (is_affected_in (instruction_tree i.now) owner.now) (section_tree section.now)) }
 {
     match section {
         Section::Assign(list) => {

@@ -4,16 +4,20 @@
 //!
 //! A state is nominal or one of the slice's modes. From nominal it may stay or enter a mode whose guard is TRUE, and a
 //! permanent mode is never left. The text of each branch and rule is that of `fault_instructions`, effect by effect.
-
 ghost use Rattle.std.specs.Prelude.{◌≡◌, true, [], ◌∷◌, ◌++◌, IfOk, OnOk, map, Some, None};
 ghost use Rattle.smv_language.specs.Tree.{choice as choice_of, case_of, truth, branches_from};
-ghost use Rattle.smv_language.specs.Written.{tree_of, branch_trees};
+ghost use Rattle.smv_language.specs.ExpressionTree.{tree_of, branch_trees};
 ghost use Rattle.smv_language.specs.ProgramTree.{declared_tree, decl_tree, assignment_tree, section_tree};
 ghost use Rattle.fault_instructions.specs.Instructions.{effect_tree, guard_tree, mode_tree, slice_tree};
-ghost use Rattle.fault_instructions.specs.AddedNames.{own_name as own_name_of, mode_variable as mode_variable_of, mode_symbol as mode_symbol_of};
-ghost use Rattle.fault_instructions.specs.Templates.{named, stands as stands_tree, branch as branch_of, rules as rules_of, first_rules as first_rules_of};
+ghost use Rattle.fault_instructions.specs.AddedNames.{own_name as own_name_of, mode_variable as mode_variable_of};
+ghost use Rattle.fault_instructions.specs.AddedNames.{mode_symbol as mode_symbol_of};
+ghost use Rattle.fault_instructions.specs.Templates.{named, stands as stands_tree, branch as branch_of, rules as rules_of};
+ghost use Rattle.fault_instructions.specs.Templates.{first_rules as first_rules_of};
 ghost use Rattle.fault_instructions.specs.Numbers.{TypeHasNegations};
-ghost use Rattle.fault_weave.specs.Woven.{set_one, guard_formula, entries as entries_tree, stay_branch as stay_tree, moves_tree, read_tree, mode_type, slice_variables as slice_variables_of, slice_assignments as slice_assignments_of, slice_rules, start_tree, start_rules, mode_rules as mode_rules_of};
+ghost use Rattle.fault_weave.specs.WovenProgram.{set_one, guard_formula, entries as entries_tree, stay_branch as stay_tree, moves_tree};
+ghost use Rattle.fault_weave.specs.WovenProgram.{read_tree, mode_type, slice_variables as slice_variables_of};
+ghost use Rattle.fault_weave.specs.WovenProgram.{slice_assignments as slice_assignments_of, slice_rules, start_tree, start_rules};
+ghost use Rattle.fault_weave.specs.WovenProgram.{mode_rules as mode_rules_of};
 ghost use Rattle.fault_instructions.specs.WeaveNumbers.{ModeHasNegations, SliceHasNegations};
 
 use base_values::{Dotted, Items, Name, OutOfMemory};
@@ -93,7 +97,11 @@ pub fn slice_assignments(alloc: Global, d: &Declared, s: &Slice) -> Result<Assig
 /// The assignment that says how the state begins.
 fn first_state(alloc: Global, s: &Slice) -> Result<Assignment, OutOfMemory>
     ensures { IfOk result (λ made. assignment_tree made
-        ≡ record { when = Moment.First; target = mode_variable_of s.now.name ∷ []; value = start_tree s.now.name s.now.start (map mode_tree s.now.modes) }) }
+        ≡ record {
+          when = Moment.First;
+          target = mode_variable_of s.now.name ∷ [];
+          value = start_tree s.now.name s.now.start (map mode_tree s.now.modes);
+        }) }
 {
     let state = mode_variable(alloc, &s.name)?;
     let target = Dotted::new(alloc, state)?;

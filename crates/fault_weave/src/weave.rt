@@ -1,10 +1,9 @@
 //! The weave of a program ([`woven_program`]): module by module, its own sections with the names of own values (`rename`),
 //! and behind them those of each slice that affects it (`slices`).
-
 ghost use Rattle.std.specs.Prelude.{◌≡◌, ◌++◌, IfOk, OnOk, All, map, flat_map};
 ghost use Rattle.smv_language.specs.ProgramTree.{program_tree, module_tree, section_tree};
 ghost use Rattle.fault_instructions.specs.Instructions.{instruction_tree, slice_tree, is_affected};
-ghost use Rattle.fault_weave.specs.Woven.{woven, woven_tree, woven_section, added_sections, slice_sections, own_slices};
+ghost use Rattle.fault_weave.specs.WovenProgram.{woven, woven_tree, woven_section, added_sections, slice_sections, own_slices};
 ghost use Rattle.fault_instructions.specs.Instructions.{extension_tree};
 ghost use Rattle.fault_instructions.specs.WeaveNumbers.{ExtensionHasNegations, SliceHasNegations, ModuleHasNegations};
 
@@ -18,7 +17,7 @@ use std::alloc::Global;
 
 /// The program woven with the instructions: in each module that a slice affects, the names of own values
 /// where the nominal text says what a variable is, and at its end the sections of each slice.
-#[tactic(auto, unfolding(crate::specs::Woven::woven_tree))]
+#[tactic(auto, unfolding(crate::specs::WovenProgram::woven_tree))]
 pub fn woven_program(alloc: Global, p: &Program, i: &Instructions) -> Result<Program, OutOfMemory>
     requires types { All ModuleHasNegations p.now.modules }
     requires effects { All ExtensionHasNegations i.now.extensions }
@@ -46,7 +45,7 @@ fn woven_modules(
 }
 
 /// A module with its name and formals, and woven sections.
-#[tactic(auto, unfolding(crate::specs::Woven::woven_tree))]
+#[tactic(auto, unfolding(crate::specs::WovenProgram::woven_tree))]
 fn woven_module(alloc: Global, i: &Instructions, m: &Module) -> Result<Module, OutOfMemory>
     requires types { ModuleHasNegations m.now }
     requires effects { All ExtensionHasNegations i.now.extensions }
@@ -105,7 +104,8 @@ fn add_extension(
     requires types { ModuleHasNegations m.now }
     requires effects { ExtensionHasNegations extension.now }
     ensures { OnOk result (map section_tree sections.new
-        ≡ map section_tree sections.old ++ flat_map (slice_sections (module_tree m.now)) (own_slices (extension_tree extension.now) m.now.name)) }
+        ≡ map section_tree sections.old
+        ++ flat_map (slice_sections (module_tree m.now)) (own_slices (extension_tree extension.now) m.now.name)) }
 {
     if has_text(&extension.module, &m.name) {
         return add_slices(alloc, m, extension.slices.as_slice(), sections);
@@ -142,7 +142,8 @@ fn add_slice(
 ) -> Result<(), OutOfMemory>
     requires types { ModuleHasNegations m.now }
     requires effects { SliceHasNegations s.now }
-    ensures { OnOk result (map section_tree sections.new ≡ map section_tree sections.old ++ slice_sections (module_tree m.now) (slice_tree s.now)) }
+    ensures { OnOk result (map section_tree sections.new
+        ≡ map section_tree sections.old ++ slice_sections (module_tree m.now) (slice_tree s.now)) }
 {
     let declared = target_type(m, &s.target)?;
     let variables = slice_variables(alloc, &declared, s)?;

@@ -2,7 +2,7 @@
 use Rattle.std.proofs.Common.{◌≡◌, List, Option, Some, None, refl, sym, ◌∙◌, ap}
 use Rattle.smv_language.specs.ProgramTree.{Text, Formula, ModuleTree}
 use Rattle.smv_language.specs.Scope.{Kind, a_formal, a_variable, a_define, an_instance, undeclared, kind_at, module_at}
-use Rattle.fault_weave.specs.Woven.{woven}
+use Rattle.fault_weave.specs.WovenProgram.{woven}
 use Rattle.fault_instructions.specs.Weavable.{HasMeaning}
 use Rattle.fault_woven_laws.specs.WovenNamesLaws.{WovenActualsMean}
 use Rattle.fault_woven_laws.proofs.Looking.{Over, kind_over, still_means}

@@ -9,7 +9,7 @@ use Rattle.smv_language.specs.Trace.{Each, IsInstance, IsVariable}
 use Rattle.fault_instructions.specs.Instructions.{ModeTree, SliceTree, InstructionTree, slices_of}
 use Rattle.fault_instructions.specs.AddedNames.{mode_variable}
 use Rattle.fault_instructions.specs.Templates.{rules}
-use Rattle.fault_weave.specs.Woven.{start_tree, start_rules, mode_rules, mode_type, moves_tree, read_tree, slice_sections, added_sections, woven}
+use Rattle.fault_weave.specs.WovenProgram.{start_tree, start_rules, mode_rules, mode_type, moves_tree, read_tree, slice_sections, added_sections, woven}
 use Rattle.fault_instructions.specs.KindTypes.{type_of_kind}
 use Rattle.fault_instructions.specs.Weavable.{Among, IsLawfulSlice, IsWeavable}
 use Rattle.fault_weave.proofs.LeafValues.{mode_variable_kind, read_variable}
@@ -22,8 +22,8 @@ use Rattle.smv_flat_laws.specs.Items.{Item, items_of_section}
 use Rattle.smv_flat_laws.specs.Rules.{IsWalkable}
 use Rattle.smv_flat_laws.specs.Model.{plain, now_among, next_among, IsFlatOf}
 use Rattle.smv_flat_laws.proofs.Conditions.{each_flat, each_join}
-use Rattle.smv_type_laws.specs.Judged.{Class, truth_class, symbol_class, Kind, Judged, judge}
-use Rattle.smv_type_laws.specs.Declared.{judged_declared, class_declared}
+use Rattle.smv_type_laws.specs.ExpressionKinds.{Class, truth_class, symbol_class, Kind, Judged, judge}
+use Rattle.smv_type_laws.specs.DeclaredKinds.{judged_declared, class_declared}
 use Rattle.smv_type_laws.specs.Models.{kind_of_leaf, judged_in, broken_condition, breaches}
 use Rattle.fault_extend_laws.specs.Expressions.{AllUsesKept}
 use Rattle.fault_woven_laws.proofs.Rightly.{Rightly, condition_right, same_right}

@@ -8,7 +8,7 @@ use Rattle.smv_language.specs.declared.program.Member.TheVariants as member
 use Rattle.smv_language.specs.Tree.{Branches, truth as is_truth, number as is_number, not_of, negate, binary, choice, trees_from}
 use Rattle.smv_language.specs.ProgramTree.{Text, Path, Formula, DeclaredTree, boolean, range, members, instance}
 use Rattle.smv_language.specs.Trace.{Each, value_of_member}
-use Rattle.smv_flat_laws.specs.Resolved.{leaves_in, branches_leaves, trees_leaves, has_next, branches_have_next, trees_have_next}
+use Rattle.smv_flat_laws.specs.NameResolution.{leaves_in, branches_leaves, trees_leaves, has_next, branches_have_next, trees_have_next}
 use Rattle.smv_flat_laws.proofs.Conditions.{each_join}
 use Rattle.fault_instructions.specs.declared.instructions.Dynamics.{Dynamics}
 use Rattle.fault_instructions.specs.declared.instructions.Dynamics.TheVariants.{Permanent, Transient}
@@ -16,7 +16,7 @@ use Rattle.fault_instructions.specs.declared.instructions.Start.TheVariants.{Any
 use Rattle.fault_instructions.specs.Instructions.{ModeTree}
 use Rattle.fault_instructions.specs.AddedNames.{mode_symbol}
 use Rattle.fault_instructions.specs.Templates.{named, number_tree, value_tree, member_trees, domain_tree, clipped_tree, greater_tree, stands}
-use Rattle.fault_weave.specs.Woven.{start_tree, mode_branches, set_one, guard_formula, entries_from, stay_branch}
+use Rattle.fault_weave.specs.WovenProgram.{start_tree, mode_branches, set_one, guard_formula, entries_from, stay_branch}
 use Rattle.fault_instructions.specs.Weavable.{Among}
 use Rattle.fault_woven_laws.proofs.WovenNamesLeaves.{join_three}
 use Rattle.std.proofs.lemmas.Bool.{or_from as neither_one}

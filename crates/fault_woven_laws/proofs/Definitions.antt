@@ -7,20 +7,20 @@ use Rattle.smv_language.specs.ProgramTree.{Text, Path, Formula, DeclaredTree, Mo
 use Rattle.smv_language.specs.Scope.{Place, Role, Key, define_key, actual_key, Kind as NameKind, a_formal, a_variable, a_define, an_instance, undeclared, kind_in, kind_at as name_kind_at, kind_in_sections, module_at, actual_of_kind, Meaning, a_variable_at, an_expression_at, an_instance_at, a_symbol, Means}
 use Rattle.smv_language.specs.Trace.{Each, IsInstance, IsVariable}
 use Rattle.fault_instructions.specs.Instructions.{SliceTree, InstructionTree, slices_of}
-use Rattle.fault_weave.specs.Woven.{added_sections, woven}
+use Rattle.fault_weave.specs.WovenProgram.{added_sections, woven}
 use Rattle.fault_instructions.specs.KindTypes.{type_of_kind}
 use Rattle.fault_instructions.specs.Weavable.{Among, IsFinite, IsLawfulSlice, IsWeavable}
 use Rattle.fault_weave.proofs.WovenKinds.{kind_or, IsPlain, added_plain}
 use Rattle.fault_weave.proofs.Meanings.{Kept, kind_kept, module_woven, same_meaning}
 use Rattle.fault_weave.proofs.LeafValues.{kind_at_woven, read_variable}
 use Rattle.smv_language.specs.Flat.{FlatLeaf, flat_variable, flat_symbol, flat_definition, FlatFormula, FlatModel}
-use Rattle.smv_flat_laws.specs.Resolved.{leaves_in, Definition, StandsFor, IsLeafOf, Resolver, IsSound, IsResolved, IsBefore}
+use Rattle.smv_flat_laws.specs.NameResolution.{leaves_in, Definition, StandsFor, IsLeafOf, Resolver, IsSound, IsResolved, IsBefore}
 use Rattle.smv_flat_laws.specs.Rules.{expression_of_kind, expression_in, expression_of, IsWalkable}
 use Rattle.smv_flat_laws.specs.Model.{IsVariableNumber, IsDefinitionOf, IsFlatOf}
 use Rattle.smv_flat_laws.proofs.Lists.{each_more}
 use Rattle.smv_flat_laws.proofs.Resolving.{same_meaning as one_meaning}
 use Rattle.smv_flat_laws.proofs.Variables.{both_at}
-use Rattle.smv_type_laws.specs.Judged.{judge}
+use Rattle.smv_type_laws.specs.ExpressionKinds.{judge}
 use Rattle.smv_type_laws.specs.Models.{kind_at, judged_definitions, kind_of_leaf, judged_in}
 use Rattle.smv_type_laws.proofs.ModelLaws.{judge_agrees, all_leaves_more}
 use Rattle.fault_woven_laws.proofs.Leaves.{kind_given, HasLeaf, HasKnown, resolved_judged, known_leaves, has_leaves, declared_so, variable_kind, definition_judged, all_both}

@@ -10,8 +10,8 @@ use Rattle.smv_language.specs.Trace.{Each, is_member, in_domain, value_of_member
 use Rattle.smv_language.proofs.ValueLaws.{both_true, same_text_equal, same_int_equal}
 use Rattle.fault_instructions.specs.Templates.{value_tree, member_trees, domain_tree}
 use Rattle.smv_type_laws.specs.Intervals.{Interval, just, fits_number, fits}
-use Rattle.smv_type_laws.specs.Judged.{Class, number_class, symbol_class, Kind, mixed_enum, double_member, empty_range, rule_if, unless_class, wide, where_kept, first_class, kinds_in, judge, judge_trees}
-use Rattle.smv_type_laws.specs.Declared.{member_kind, has_double, judged_declared, class_declared}
+use Rattle.smv_type_laws.specs.ExpressionKinds.{Class, number_class, symbol_class, Kind, mixed_enum, double_member, empty_range, rule_if, unless_class, wide, where_kept, first_class, kinds_in, judge, judge_trees}
+use Rattle.smv_type_laws.specs.DeclaredKinds.{member_kind, has_double, judged_declared, class_declared}
 use Rattle.smv_type_laws.proofs.Parts.{none_first, none_second, not_if, class_kept, wide_bounded}
 use Rattle.fault_woven_laws.proofs.Rightly.{Rightly, set_right, span_right}
 use Rattle.fault_woven_laws.proofs.Numbers.{numbers_right, between_fits, number_judged}

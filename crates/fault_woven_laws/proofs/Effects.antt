@@ -14,13 +14,13 @@ use Rattle.fault_instructions.specs.Instructions.{EffectTree, stuck_at, follows,
 use Rattle.fault_instructions.specs.AddedNames.{ModeState, own_name, mode_variable, mode_symbol}
 use Rattle.fault_instructions.specs.Types.{IsKnown}
 use Rattle.fault_instructions.specs.Templates.{named, number_tree, clipped_tree, branch, greater_tree, stands, stands_next, stays_tree, rules, first_rules}
-use Rattle.fault_weave.specs.Woven.{start_rules}
+use Rattle.fault_weave.specs.WovenProgram.{start_rules}
 use Rattle.fault_instructions.specs.declared.fault.EffectFault.{EffectFault}
 use Rattle.fault_instructions.specs.declared.fault.EffectFault.TheVariants.{Outside}
-use Rattle.fault_instructions.specs.Allowed.{is_small, offset_fits, ramp_fits, fault_unless, is_of_kind, fault_of}
+use Rattle.fault_instructions.specs.AllowedEffects.{is_small, offset_fits, ramp_fits, fault_unless, is_of_kind, fault_of}
 use Rattle.smv_type_laws.specs.Intervals.{Interval, just, sum_of, difference_of, fits}
-use Rattle.smv_type_laws.specs.Judged.{Class, truth_class, number_class, symbol_class, Kind, Judged, judged_number, judge}
-use Rattle.smv_type_laws.specs.Declared.{judged_declared, class_declared}
+use Rattle.smv_type_laws.specs.ExpressionKinds.{Class, truth_class, number_class, symbol_class, Kind, Judged, judged_number, judge}
+use Rattle.smv_type_laws.specs.DeclaredKinds.{judged_declared, class_declared}
 use Rattle.fault_woven_laws.proofs.Rightly.{Rightly, not_right, connective_right, order_right, same_right, choice_right, choice_alone}
 use Rattle.fault_woven_laws.proofs.Numbers.{numbers_in, numbers_right, small_fits, between_fits, number_judged, sum_judged, difference_judged}
 use Rattle.fault_woven_laws.proofs.Domains.{range_kept, range_kind, MembersKnown, domain_right, value_right}

@@ -7,7 +7,7 @@ use Rattle.smv_language.specs.Scope.{state}
 use Rattle.smv_language.specs.Tree.{Tree, leaf, number, binary}
 use Rattle.smv_language.specs.Flat.{FlatLeaf, flat_variable, FlatModel}
 use Rattle.smv_flat_laws.specs.History.{Mode, with_history}
-use Rattle.smv_type_laws.specs.Judged.{not_boolean}
+use Rattle.smv_type_laws.specs.ExpressionKinds.{not_boolean}
 use Rattle.smv_type_laws.specs.Models.{top_fault}
 use Rattle.fault_woven_laws.specs.Tops.{IsJudgedAlike, IsTopOf}
 

@@ -9,19 +9,19 @@ use Rattle.smv_language.specs.ProgramTree.{Path, Formula, ProgramTree}
 use Rattle.smv_language.specs.Scope.{Place}
 use Rattle.smv_language.specs.Flat.{FlatLeaf, FlatVariable, FlatModel}
 use Rattle.smv_flat_laws.specs.History.{Mode, bit_variables, with_history}
-use Rattle.smv_flat_laws.specs.Resolved.{leaves_in, has_next, trees_have_next, branches_have_next, Resolver, IsSound, IsResolved}
+use Rattle.smv_flat_laws.specs.NameResolution.{leaves_in, has_next, trees_have_next, branches_have_next, Resolver, IsSound, IsResolved}
 use Rattle.smv_flat_laws.specs.Rules.{next_here, input_here, IsAccepted, GivesInput}
 use Rattle.smv_flat_laws.specs.Model.{IsFlatOf}
 use Rattle.smv_flat_laws.proofs.Lists.{leaves_map}
 use Rattle.smv_type_laws.specs.Costs.{cost_of}
-use Rattle.smv_type_laws.specs.Judged.{truth_class, Judged, KindRule, not_boolean, unless_class}
+use Rattle.smv_type_laws.specs.ExpressionKinds.{truth_class, Judged, KindRule, not_boolean, unless_class}
 use Rattle.smv_type_laws.specs.Laws.{IsKnown, ReadsOwn, IsClosed}
 use Rattle.smv_type_laws.specs.Models.{kind_of_leaf, judged_in, broken_condition, least_after, least, size_fault, top_fault}
 use Rattle.smv_type_laws.proofs.ClosedLaws.{models_closed}
 use Rattle.smv_type_laws.proofs.ModelLaws.{all_leaves_more}
 use Rattle.smv_type_laws.proofs.Parts.{none_second}
 use Rattle.smv_type_laws.proofs.TreeLaws.{no_set}
-use Rattle.fault_weave.specs.Woven.{woven}
+use Rattle.fault_weave.specs.WovenProgram.{woven}
 use Rattle.sat_encoding_laws.specs.Inputs.{names_input, reading_after, reads_input}
 use Rattle.sat_encoding_laws.specs.Encodable.{is_input_name}
 use Rattle.sat_encoding_laws.proofs.FlatInputs.{none_any, given_each, leaf_input}

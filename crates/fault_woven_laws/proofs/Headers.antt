@@ -15,7 +15,7 @@ use Rattle.smv_flat_laws.proofs.Conditions.{each_join}
 use Rattle.smv_flat_laws.proofs.Lists.{each_of_map, each_map, each_more, map_joined}
 use Rattle.fault_instructions.specs.Instructions.{SliceTree, InstructionTree, slices_of, is_affected}
 use Rattle.fault_instructions.specs.AddedNames.{own_name, mode_variable}
-use Rattle.fault_weave.specs.Woven.{woven_module, woven}
+use Rattle.fault_weave.specs.WovenProgram.{woven_module, woven}
 use Rattle.fault_instructions.specs.Weavable.{Among}
 use Rattle.fault_weave.proofs.WovenKinds.{find_woven}
 use Rattle.fault_instructions.proofs.AmongLaws.{each_at}

@@ -9,8 +9,8 @@ use Rattle.smv_language.specs.Flat.{FlatLeaf, flat_variable, flat_symbol, flat_d
 use Rattle.smv_flat_laws.specs.History.{Mode, stands_now, stands_next, bit_variables, bits_at_first, bits_at_step, bit_at_first, bit_at_step, with_history}
 use Rattle.smv_flat_laws.proofs.Conditions.{each_join}
 use Rattle.smv_flat_laws.proofs.Lists.{length_end}
-use Rattle.smv_type_laws.specs.Judged.{Class, truth_class, symbol_class, Judged, judge}
-use Rattle.smv_type_laws.specs.Declared.{judged_declared}
+use Rattle.smv_type_laws.specs.ExpressionKinds.{Class, truth_class, symbol_class, Judged, judge}
+use Rattle.smv_type_laws.specs.DeclaredKinds.{judged_declared}
 use Rattle.smv_type_laws.specs.Laws.{IsKnown, ReadsOwn, AreInOrder, ReadOwn, IsClosed}
 use Rattle.smv_type_laws.specs.Models.{kind_at, leaf_kind, judged_variables, judged_after, judged_definitions, kind_of_leaf, judged_in, broken_condition, breaches_at, condition_breaches, breaches}
 use Rattle.smv_type_laws.proofs.ModelLaws.{IsRight, judge_agrees, all_leaves_more}

@@ -7,15 +7,15 @@ use Rattle.smv_language.specs.Scope.{Place, find_module}
 use Rattle.smv_language.specs.Trace.{Each, IsInstance, EachBoth}
 use Rattle.smv_language.specs.Flat.{FlatLeaf, FlatInstance, FlatVariable, FlatFormula, FlatModel}
 use Rattle.smv_flat_laws.specs.Items.{Item, NumberedItem, items_of, items_named, instances_of}
-use Rattle.smv_flat_laws.specs.Resolved.{Resolver}
+use Rattle.smv_flat_laws.specs.NameResolution.{Resolver}
 use Rattle.smv_flat_laws.specs.Rules.{IsWalkable}
 use Rattle.smv_flat_laws.specs.Model.{Condition, Written, written_at, conditions, IsConditionTree, IsFormulaOf}
 use Rattle.smv_flat_laws.proofs.Conditions.{each_iff, each_at, each_from, each_flat, each_mapped}
 use Rattle.smv_flat_laws.proofs.Places.{are_instances}
 use Rattle.smv_flat_laws.proofs.Sections.{AreInstances, items_are}
 use Rattle.smv_flat_laws.proofs.Walkable.{main_is_there}
-use Rattle.smv_type_laws.specs.Judged.{Judged}
-use Rattle.smv_type_laws.specs.Declared.{judged_declared}
+use Rattle.smv_type_laws.specs.ExpressionKinds.{Judged}
+use Rattle.smv_type_laws.specs.DeclaredKinds.{judged_declared}
 use Rattle.smv_type_laws.specs.Models.{judged_definitions, judged_variables, judged_in, broken_condition, breaches_at, variable_breaches, definition_breaches, condition_breaches, breaches}
 use Rattle.smv_type_laws.proofs.ModelLaws.{IsRight, after_length}
 use Rattle.smv_type_laws.proofs.Parts.{none_first, none_second}

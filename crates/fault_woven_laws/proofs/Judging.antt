@@ -5,12 +5,12 @@ use Rattle.smv_language.specs.Tree.{Tree}
 use Rattle.smv_language.specs.ProgramTree.{Formula, ProgramTree}
 use Rattle.smv_language.specs.Scope.{Place}
 use Rattle.fault_instructions.specs.Instructions.{InstructionTree}
-use Rattle.fault_weave.specs.Woven.{woven}
+use Rattle.fault_weave.specs.WovenProgram.{woven}
 use Rattle.smv_language.specs.Flat.{FlatLeaf, FlatModel}
 use Rattle.smv_flat_laws.specs.History.{Mode, with_history}
-use Rattle.smv_flat_laws.specs.Resolved.{Resolver, IsSound, IsResolved}
+use Rattle.smv_flat_laws.specs.NameResolution.{Resolver, IsSound, IsResolved}
 use Rattle.smv_type_laws.specs.Costs.{cost_of}
-use Rattle.smv_type_laws.specs.Judged.{KindRule, Judged}
+use Rattle.smv_type_laws.specs.ExpressionKinds.{KindRule, Judged}
 use Rattle.smv_type_laws.specs.Laws.{IsKnown, ReadsOwn}
 use Rattle.smv_type_laws.specs.Models.{kind_of_leaf, judged_in, broken_condition, least, size_fault}
 use Rattle.smv_type_laws.proofs.ClosedLaws.{own_by, models_closed}

@@ -9,18 +9,18 @@ use Rattle.smv_language.specs.Scope.{Place, state, a_variable, kind_declared, ki
 use Rattle.smv_language.specs.Trace.{Each, IsInstance, IsVariable}
 use Rattle.fault_instructions.specs.Instructions.{SliceTree, InstructionTree, slices_of, is_affected}
 use Rattle.fault_instructions.specs.AddedNames.{own_name}
-use Rattle.fault_weave.specs.Woven.{tree_map_both, rename, same_path, woven}
+use Rattle.fault_weave.specs.WovenProgram.{tree_map_both, rename, same_path, woven}
 use Rattle.fault_instructions.specs.KindTypes.{type_of_kind}
 use Rattle.fault_instructions.specs.Weavable.{Among, IsFinite, IsLawfulSlice, IsWeavable}
 use Rattle.fault_weave.proofs.Added.{affected_slice}
 use Rattle.fault_weave.proofs.LeafValues.{own_variable}
 use Rattle.smv_language.specs.Flat.{FlatLeaf, flat_variable, FlatModel}
 use Rattle.smv_flat_laws.specs.Items.{Item, a_declaration, a_definition, an_assignment, some_constants, an_init, an_invar, a_trans}
-use Rattle.smv_flat_laws.specs.Resolved.{IsResolved}
+use Rattle.smv_flat_laws.specs.NameResolution.{IsResolved}
 use Rattle.smv_flat_laws.specs.Rules.{IsWalkable}
 use Rattle.smv_flat_laws.specs.Model.{Condition, plain, now_among, next_among, assigned_first, assigned_each, assigned_step, first_conditions, each_conditions, step_conditions, IsVariableNumber, IsFlatOf}
-use Rattle.smv_type_laws.specs.Judged.{Kind, Judged, judged_same}
-use Rattle.smv_type_laws.specs.Declared.{judged_declared}
+use Rattle.smv_type_laws.specs.ExpressionKinds.{Kind, Judged, judged_same}
+use Rattle.smv_type_laws.specs.DeclaredKinds.{judged_declared}
 use Rattle.smv_type_laws.specs.Models.{kind_of_leaf, judged_in, broken_condition}
 use Rattle.fault_woven_laws.proofs.Leaves.{kind_given, HasLeaf, resolved_judged, has_leaves, declared_so, variable_kind}
 use Rattle.fault_woven_laws.proofs.Definitions.{variable_there, variable_woven, same_kind, written_agrees}

@@ -8,7 +8,7 @@ use Rattle.smv_language.specs.Scope.{Place, Role, find_module}
 use Rattle.smv_language.specs.Trace.{Each, IsVariable}
 use Rattle.smv_language.specs.Flat.{FlatLeaf, flat_variable, flat_symbol, flat_definition, FlatVariable, FlatFormula, FlatModel}
 use Rattle.smv_flat_laws.specs.Items.{Visit, visits, variables_of}
-use Rattle.smv_flat_laws.specs.Resolved.{leaves_in, IsResolved, IsBefore}
+use Rattle.smv_flat_laws.specs.NameResolution.{leaves_in, IsResolved, IsBefore}
 use Rattle.smv_flat_laws.specs.Rules.{IsWalkable}
 use Rattle.smv_flat_laws.specs.Model.{IsVariableOf, IsVariableNumber, IsFlatOf}
 use Rattle.smv_flat_laws.proofs.Conditions.{each_at}
@@ -17,8 +17,8 @@ use Rattle.smv_flat_laws.proofs.Places.{has_main}
 use Rattle.smv_flat_laws.proofs.Resolving.{Known, names_known, each_leaf}
 use Rattle.smv_flat_laws.proofs.Variables.{both_at_second}
 use Rattle.smv_flat_laws.proofs.Walkable.{main_is_there}
-use Rattle.smv_type_laws.specs.Judged.{Kind, Judged, truth_class, judge}
-use Rattle.smv_type_laws.specs.Declared.{judged_declared}
+use Rattle.smv_type_laws.specs.ExpressionKinds.{Kind, Judged, truth_class, judge}
+use Rattle.smv_type_laws.specs.DeclaredKinds.{judged_declared}
 use Rattle.smv_type_laws.specs.Models.{kind_at, leaf_kind, judged_variables, judged_after, judged_definitions, kind_of_leaf, judged_in}
 use Rattle.smv_type_laws.proofs.ClosedLaws.{all_leaves}
 use Rattle.smv_type_laws.proofs.Mapped.{judge_mapped}

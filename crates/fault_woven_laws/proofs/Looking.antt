@@ -9,7 +9,7 @@ use Rattle.smv_flat_laws.specs.Looks.{Look, at_actual, plain_of, step_formal, st
 use Rattle.smv_flat_laws.specs.Rules.{HasNoValue, nothing, only_an_instance, expression_of_kind, expression_in, expression_of, Needs, Leads, is_input_kind, MeansInput, GivesInput}
 use Rattle.fault_instructions.specs.Instructions.{SliceTree, InstructionTree, slices_of}
 use Rattle.fault_instructions.specs.AddedNames.{own_name, mode_variable}
-use Rattle.fault_weave.specs.Woven.{mode_type, slice_sections, added_sections, woven_module, woven}
+use Rattle.fault_weave.specs.WovenProgram.{mode_type, slice_sections, added_sections, woven_module, woven}
 use Rattle.fault_instructions.specs.KindTypes.{type_of_kind}
 use Rattle.fault_instructions.specs.Weavable.{IsFinite, HasMeaning, IsWeavable}
 use Rattle.fault_weave.proofs.WovenKinds.{kind_woven, slice_kind}

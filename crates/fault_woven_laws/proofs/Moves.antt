@@ -13,11 +13,11 @@ use Rattle.fault_instructions.specs.Instructions.{ModeTree, SliceTree}
 use Rattle.fault_instructions.specs.AddedNames.{mode_symbol, own_name}
 use Rattle.fault_instructions.specs.Types.{IsKnown}
 use Rattle.fault_instructions.specs.Templates.{named, branch}
-use Rattle.smv_type_laws.specs.Judged.{Class, truth_class, symbol_class, Kind, ends_in_true, judge, judge_trees, judge_conditions, judge_values}
-use Rattle.fault_weave.specs.Woven.{start_tree, mode_branches, set_one, guard_formula, entries_from, entries, stay_branch, moves_tree, read_tree}
+use Rattle.smv_type_laws.specs.ExpressionKinds.{Class, truth_class, symbol_class, Kind, ends_in_true, judge, judge_trees, judge_conditions, judge_values}
+use Rattle.fault_weave.specs.WovenProgram.{start_tree, mode_branches, set_one, guard_formula, entries_from, entries, stay_branch, moves_tree, read_tree}
 use Rattle.fault_woven_laws.proofs.Rightly.{Rightly, set_right, union_right, choice_right, case_right}
 use Rattle.fault_woven_laws.proofs.Effects.{SliceKinds, ModeKinds, own_right, symbol_right, stands_right, branch_right}
-use Rattle.smv_type_laws.specs.Declared.{class_declared}
+use Rattle.smv_type_laws.specs.DeclaredKinds.{class_declared}
 
 branches_end : (slice : Text) (f : ModeTree → Formula) (last : Formula) (ms : List ModeTree) → ends_in_true (mode_branches slice f last ms) ≡ true
 branches_end slice f last [] = refl

@@ -1,8 +1,8 @@
 -- An expression that breaks no rule of names at an instance breaks none there over the woven program.
-use Rattle.smv_flat_laws.specs.Resolved.{leaves_in}
+use Rattle.smv_flat_laws.specs.NameResolution.{leaves_in}
 use Rattle.smv_flat_laws.specs.Rules.{no_such_name, next_here, input_here, HasNoValue, GivesInput}
 use Rattle.smv_flat_laws.proofs.Lists.{each_more}
-use Rattle.fault_weave.specs.Woven.{woven}
+use Rattle.fault_weave.specs.WovenProgram.{woven}
 use Rattle.fault_woven_laws.proofs.Looking.{Valued, Quiet, still_valued, still_quiet}
 use Rattle.fault_woven_laws.proofs.Orders.{none_some}
 use Rattle.fault_woven_laws.specs.WovenTopsLaws.{WovenKeepsValues}

@@ -14,7 +14,7 @@ use Rattle.smv_language.specs.Scope.{Place, state, a_variable, undeclared, kind_
 use Rattle.smv_language.specs.Trace.{Each, AtSome, IsInstance, in_domain, is_member}
 use Rattle.smv_language.proofs.ValueLaws.{same_text_refl, same_text_equal}
 use Rattle.smv_flat_laws.specs.Items.{a_declaration, an_assignment, an_init, a_trans}
-use Rattle.smv_flat_laws.specs.Resolved.{leaves_in, has_next}
+use Rattle.smv_flat_laws.specs.NameResolution.{leaves_in, has_next}
 use Rattle.smv_flat_laws.specs.Rules.{Rule, no_such_name, next_here, input_here, HasNoValue, may_be_assigned, next_under_next, leaves_under, GivesInput}
 use Rattle.smv_flat_laws.proofs.Lists.{each_more}
 use Rattle.fault_instructions.specs.declared.instructions.Start.{Start}
@@ -23,7 +23,7 @@ use Rattle.fault_instructions.specs.Instructions.{EffectTree, stuck_at, follows,
 use Rattle.fault_instructions.specs.AddedNames.{ModeState, own_name, mode_variable, mode_symbol}
 use Rattle.fault_instructions.specs.Types.{IsKnown}
 use Rattle.fault_instructions.specs.Templates.{named, number_tree, value_tree, branch, greater_tree, stands, erroneous_rule, frozen_rule, pick_rule, ramp_rule, frozen_first, ramp_first}
-use Rattle.fault_weave.specs.Woven.{mode_type, start_tree, entries, stay_branch, moves_tree, read_tree, guard_formula, woven}
+use Rattle.fault_weave.specs.WovenProgram.{mode_type, start_tree, entries, stay_branch, moves_tree, read_tree, guard_formula, woven}
 use Rattle.fault_instructions.specs.KindTypes.{type_of_kind}
 use Rattle.fault_instructions.specs.Weavable.{Among, IsFinite, IsFreeMember, SymbolsAreFree, IsAllowed, IsLawfulMode, IsLawfulSlice, IsWeavable}
 use Rattle.fault_instructions.proofs.AmongLaws.{each_at}

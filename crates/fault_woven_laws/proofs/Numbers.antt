@@ -7,10 +7,10 @@ use Rattle.smv_language.specs.Tree.{number as is_number, negate, binary}
 use Rattle.smv_language.specs.ProgramTree.{Path}
 use Rattle.smv_language.specs.Values.{number, at_most, is_between}
 use Rattle.smv_language.proofs.ValueLaws.{both_true, not_less}
-use Rattle.fault_instructions.specs.Allowed.{is_small}
+use Rattle.fault_instructions.specs.AllowedEffects.{is_small}
 use Rattle.fault_instructions.specs.Templates.{number_tree}
 use Rattle.smv_type_laws.specs.Intervals.{Interval, just, sum_of, difference_of, fits_number, fits}
-use Rattle.smv_type_laws.specs.Judged.{number_class, Kind, too_wide, rule_if, wide, one_value, Judged, judged_number, judged_negative, judge}
+use Rattle.smv_type_laws.specs.ExpressionKinds.{number_class, Kind, too_wide, rule_if, wide, one_value, Judged, judged_number, judged_negative, judge}
 use Rattle.fault_woven_laws.proofs.Rightly.{Rightly}
 
 -- numbers of this interval, with no rule broken

@@ -7,12 +7,12 @@ use Rattle.smv_language.specs.ProgramTree.{Text, Path, Formula, DeclaredTree, bo
 use Rattle.smv_language.specs.Scope.{Place, Role, state, Kind, a_formal, a_variable, a_define, an_instance, undeclared, kind_declared, kind_in, kind_at, module_at, find_module, plain_name, define_key, actual_key}
 use Rattle.smv_language.specs.Trace.{AtSome, IsInstance}
 use Rattle.smv_flat_laws.specs.Items.{Item, a_declaration, a_definition, an_assignment, some_constants, an_init, an_invar, a_trans}
-use Rattle.smv_flat_laws.specs.Resolved.{leaves_in}
+use Rattle.smv_flat_laws.specs.NameResolution.{leaves_in}
 use Rattle.smv_flat_laws.specs.Rules.{HasNoValue, SomeHasNoValue, ActualHasNoMeaning, BreaksNames, may_be_assigned, is_target, ActualLoops, LoopsInside, BreaksLoops, leaves_under, is_later, breaks_next, GivesInput, inputs_judged, BreaksInputs, BreaksTarget}
 use Rattle.smv_flat_laws.proofs.Lists.{each_more}
 use Rattle.fault_instructions.specs.Instructions.{SliceTree, InstructionTree, slices_of, is_affected}
 use Rattle.fault_instructions.specs.AddedNames.{own_name}
-use Rattle.fault_weave.specs.Woven.{rename, same_path, tree_map_both, woven_module, woven}
+use Rattle.fault_weave.specs.WovenProgram.{rename, same_path, tree_map_both, woven_module, woven}
 use Rattle.fault_instructions.specs.KindTypes.{type_of_kind}
 use Rattle.fault_instructions.specs.Weavable.{Among, IsFinite, IsWeavable}
 use Rattle.fault_weave.proofs.WovenKinds.{find_woven}

@@ -12,7 +12,7 @@ use Rattle.smv_flat_laws.specs.Rules.{may_be_assigned, is_target, at_one_time, A
 use Rattle.smv_flat_laws.proofs.Lists.{each_more, each_map}
 use Rattle.fault_instructions.specs.Instructions.{SliceTree, InstructionTree, slices_of, is_affected}
 use Rattle.fault_instructions.specs.AddedNames.{own_name, mode_variable}
-use Rattle.fault_weave.specs.Woven.{rename, woven_module}
+use Rattle.fault_weave.specs.WovenProgram.{rename, woven_module}
 use Rattle.fault_instructions.specs.Weavable.{Among, IsLawfulSlice, IsWeavable}
 use Rattle.fault_instructions.proofs.AmongLaws.{each_at}
 use Rattle.fault_weave.proofs.Added.{own_name_same, mode_variable_same, affected_slice, target_affected}

@@ -5,13 +5,13 @@ use Rattle.smv_language.specs.Tree.{Tree, Trees, Branches, truth as is_truth, nu
 use Rattle.smv_language.specs.Laws.{AllLeaves, AllLeavesOfTrees, AllLeavesOfBranches}
 use Rattle.smv_language.specs.ProgramTree.{Text, DeclaredTree, ProgramTree}
 use Rattle.smv_language.specs.Scope.{Place, Role, a_variable, undeclared, kind_at as name_kind_at, module_at, Meaning, a_variable_at, a_symbol, means_in, is_symbol}
-use Rattle.fault_weave.specs.Woven.{tree_map_both, trees_map_both, branches_map_both}
+use Rattle.fault_weave.specs.WovenProgram.{tree_map_both, trees_map_both, branches_map_both}
 use Rattle.smv_language.specs.Flat.{FlatModel}
-use Rattle.smv_flat_laws.specs.Resolved.{StandsFor, IsLeafOf, Resolver, IsSound}
+use Rattle.smv_flat_laws.specs.NameResolution.{StandsFor, IsLeafOf, Resolver, IsSound}
 use Rattle.smv_flat_laws.specs.Rules.{IsWalkable}
 use Rattle.smv_flat_laws.specs.Model.{IsFlatOf}
-use Rattle.smv_type_laws.specs.Judged.{Kind, symbol_class, is_word_true, ends_in_true, judge, judge_trees, judge_conditions, judge_values}
-use Rattle.smv_type_laws.specs.Declared.{judged_declared}
+use Rattle.smv_type_laws.specs.ExpressionKinds.{Kind, symbol_class, is_word_true, ends_in_true, judge, judge_trees, judge_conditions, judge_values}
+use Rattle.smv_type_laws.specs.DeclaredKinds.{judged_declared}
 use Rattle.smv_type_laws.specs.Models.{kind_of_leaf}
 use Rattle.fault_woven_laws.proofs.Leaves.{kind_given, HasLeaf, variable_kind}
 use Rattle.fault_woven_laws.proofs.Definitions.{variable_there, for_variable, for_symbol}

@@ -10,12 +10,12 @@ use Rattle.smv_language.specs.Texts.{is_among}
 use Rattle.smv_language.specs.Scope.{Place, Key, Meaning, a_variable_at, an_expression_at, an_instance_at, a_symbol}
 use Rattle.smv_language.specs.Trace.{Each, IsInstance, IsVariable}
 use Rattle.fault_instructions.specs.Instructions.{InstructionTree, is_affected}
-use Rattle.fault_weave.specs.Woven.{added_sections, woven_module, woven}
+use Rattle.fault_weave.specs.WovenProgram.{added_sections, woven_module, woven}
 use Rattle.fault_weave.proofs.WovenMoments.{all_instances}
 use Rattle.smv_language.specs.Flat.{FlatLeaf, flat_variable, flat_symbol, flat_definition, FlatVariable, FlatFormula, FlatModel}
 use Rattle.smv_flat_laws.specs.Items.{Item, a_declaration, a_definition, an_assignment, some_constants, an_init, an_invar, a_trans, items_of_section, items_of}
 use Rattle.smv_flat_laws.specs.Model.{first_appearances, symbols_of_item, symbols_of, Root, roots_of, IsDefinitionOf}
-use Rattle.smv_flat_laws.specs.Resolved.{Definition, StandsFor, IsLeafOf, Resolver, IsSound, IsResolved}
+use Rattle.smv_flat_laws.specs.NameResolution.{Definition, StandsFor, IsLeafOf, Resolver, IsSound, IsResolved}
 use Rattle.smv_flat_laws.specs.Rules.{expression_of}
 use Rattle.smv_flat_laws.proofs.Conditions.{each_at, each_from}
 use Rattle.smv_flat_laws.proofs.Listed.{root_written}

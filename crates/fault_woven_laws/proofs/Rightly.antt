@@ -2,7 +2,7 @@
 use Rattle.std.proofs.Common.{◌≡◌, Bool, true, false, not, ◌&&◌, ◌||◌, List, [], ◌∷◌, ◌++◌, flat_map, Option, Some, None, int_lt, ℤ, refl, ap, sym, ◌∙◌}
 use Rattle.smv_language.specs.Trace.{Each}
 use Rattle.smv_type_laws.specs.Intervals.{Interval, fits}
-use Rattle.smv_type_laws.specs.Judged.{Class, truth_class, number_class, symbol_class, Kind, KindRule, mismatch, not_boolean, set_here, case_end, empty_range, too_wide, same_class, rule_if, unless_class, wide, joined, one_value, some_values, Judged, judged_not, judged_connective, judged_order, judged_same, judged_union, judged_choice, judged_case, judged_set, judged_span, first_class, hull_of, unlike_first, kinds_in, broken_in, some_set}
+use Rattle.smv_type_laws.specs.ExpressionKinds.{Class, truth_class, number_class, symbol_class, Kind, KindRule, mismatch, not_boolean, set_here, case_end, empty_range, too_wide, same_class, rule_if, unless_class, wide, joined, one_value, some_values, Judged, judged_not, judged_connective, judged_order, judged_same, judged_union, judged_choice, judged_case, judged_set, judged_span, first_class, hull_of, unlike_first, kinds_in, broken_in, some_set}
 use Rattle.smv_type_laws.specs.Models.{broken_condition}
 
 -- it breaks no rule, and has the class

@@ -10,9 +10,9 @@ use Rattle.smv_language.proofs.ValueLaws.{same_text_equal, same_text_refl}
 use Rattle.fault_instructions.specs.Instructions.{ModeTree, SliceTree, ExtensionTree, slices_from}
 use Rattle.fault_instructions.specs.AddedNames.{mode_symbol}
 use Rattle.fault_instructions.proofs.AddedNameLaws.{mode_symbol_same, nominal_symbol_same}
-use Rattle.smv_type_laws.specs.Judged.{symbol_class, mixed_enum, double_member, rule_if, unless_class, wide}
-use Rattle.smv_type_laws.specs.Declared.{member_kind, is_member_again, has_double, judged_declared}
-use Rattle.fault_weave.specs.Woven.{mode_type}
+use Rattle.smv_type_laws.specs.ExpressionKinds.{symbol_class, mixed_enum, double_member, rule_if, unless_class, wide}
+use Rattle.smv_type_laws.specs.DeclaredKinds.{member_kind, is_member_again, has_double, judged_declared}
+use Rattle.fault_weave.specs.WovenProgram.{mode_type}
 use Rattle.fault_instructions.specs.Weavable.{Among}
 use Rattle.fault_rules.specs.Sites.{OwnedSlice, owned, Site, a_slice, a_mode, mode_sites, slice_sites, extension_sites}
 use Rattle.fault_rules.specs.Rules.{broken_at}

@@ -13,8 +13,8 @@ use Rattle.smv_language.specs.Trace.{Each, IsInstance, IsVariable}
 use Rattle.smv_language.proofs.ValueLaws.{same_text_refl}
 use Rattle.fault_instructions.specs.Instructions.{ModeTree, SliceTree, InstructionTree, slices_of}
 use Rattle.fault_instructions.specs.AddedNames.{own_name, mode_variable, mode_symbol}
-use Rattle.fault_instructions.specs.Allowed.{fault_of}
-use Rattle.fault_weave.specs.Woven.{mode_type, woven}
+use Rattle.fault_instructions.specs.AllowedEffects.{fault_of}
+use Rattle.fault_weave.specs.WovenProgram.{mode_type, woven}
 use Rattle.fault_instructions.specs.KindTypes.{type_of_kind}
 use Rattle.fault_instructions.specs.Weavable.{Among, IsFreeMember, SymbolsAreFree, IsLawfulSlice, IsWeavable}
 use Rattle.fault_weave.proofs.Declared.{or_true, variable_symbol}
@@ -32,8 +32,8 @@ use Rattle.smv_flat_laws.specs.Model.{IsFlatOf}
 use Rattle.smv_flat_laws.proofs.Conditions.{each_at, each_flat}
 use Rattle.smv_flat_laws.proofs.Reaches.{each_left, each_right}
 use Rattle.smv_flat_laws.proofs.Variables.{variables_are}
-use Rattle.smv_type_laws.specs.Judged.{Class, truth_class, Kind, KindRule, mismatch, not_boolean, unless_class, Judged, judge}
-use Rattle.smv_type_laws.specs.Declared.{judged_declared, class_declared}
+use Rattle.smv_type_laws.specs.ExpressionKinds.{Class, truth_class, Kind, KindRule, mismatch, not_boolean, unless_class, Judged, judge}
+use Rattle.smv_type_laws.specs.DeclaredKinds.{judged_declared, class_declared}
 use Rattle.smv_type_laws.specs.Models.{judged_in, least, breaches}
 use Rattle.smv_type_laws.proofs.Flags.{same_judged}
 use Rattle.smv_type_laws.proofs.Parts.{none_first, none_second, class_kept}

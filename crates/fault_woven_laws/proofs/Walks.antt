@@ -12,7 +12,7 @@ use Rattle.smv_flat_laws.proofs.Reaches.{each_left, each_right}
 use Rattle.smv_flat_laws.proofs.Conditions.{each_join}
 use Rattle.smv_flat_laws.proofs.Places.{VisitFacts}
 use Rattle.fault_instructions.specs.Instructions.{InstructionTree, is_affected, slices_of}
-use Rattle.fault_weave.specs.Woven.{woven_module, woven}
+use Rattle.fault_weave.specs.WovenProgram.{woven_module, woven}
 use Rattle.fault_instructions.specs.Weavable.{IsFinite}
 use Rattle.fault_weave.proofs.WovenKinds.{find_woven}
 use Rattle.fault_woven_laws.proofs.WovenNamesItems.{woven_item, added_items, woven_items, added_flat, of_slices, items_numbered, items_none}

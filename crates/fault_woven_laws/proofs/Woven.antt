@@ -13,7 +13,7 @@ use Rattle.smv_flat_laws.proofs.Lists.{each_of_map, each_map, each_more}
 use Rattle.smv_flat_laws.proofs.Places.{VisitFacts, all_visit_facts, are_instances}
 use Rattle.smv_flat_laws.proofs.Walkable.{accepted_walkable, main_is_there}
 use Rattle.fault_instructions.specs.Instructions.{InstructionTree, slices_of, is_affected}
-use Rattle.fault_weave.specs.Woven.{woven_module, woven}
+use Rattle.fault_weave.specs.WovenProgram.{woven_module, woven}
 use Rattle.fault_weave.proofs.WovenKinds.{find_woven}
 use Rattle.fault_instructions.proofs.AmongLaws.{each_at as each_among}
 use Rattle.fault_woven_laws.specs.WovenNamesLaws.{OnlyLimits, WithinLimits, IsExtendable, WovenKeepsNames, WovenBreaksLimitsAlone, WovenIsAccepted}

@@ -6,15 +6,15 @@ use Rattle.smv_language.specs.Scope.{state}
 use Rattle.smv_language.specs.Trace.{Each, AtSome, IsVariable, in_domain}
 use Rattle.fault_instructions.specs.Instructions.{InstructionTree, slices_of}
 use Rattle.fault_instructions.specs.AddedNames.{mode_variable}
-use Rattle.fault_weave.specs.Woven.{mode_type, woven}
+use Rattle.fault_weave.specs.WovenProgram.{mode_type, woven}
 use Rattle.fault_instructions.specs.Weavable.{Among}
 use Rattle.fault_weave.proofs.Added.{among_contains}
 use Rattle.fault_weave.proofs.LeafValues.{mode_variable_kind}
 use Rattle.smv_language.specs.Flat.{FlatModel}
 use Rattle.smv_flat_laws.specs.History.{Mode, with_history}
 use Rattle.smv_flat_laws.proofs.Lists.{each_more}
-use Rattle.smv_type_laws.specs.Judged.{KindRule, too_large}
-use Rattle.smv_type_laws.specs.Declared.{judged_declared}
+use Rattle.smv_type_laws.specs.ExpressionKinds.{KindRule, too_large}
+use Rattle.smv_type_laws.specs.DeclaredKinds.{judged_declared}
 use Rattle.smv_type_laws.specs.Models.{Breach, breaches, IsFault, at_an_item, of_its_size}
 use Rattle.smv_type_laws.proofs.ClosedLaws.{models_closed}
 use Rattle.fault_woven_laws.specs.Modes.{HasSymbols, IsSliceMode}

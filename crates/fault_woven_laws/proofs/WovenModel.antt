@@ -12,7 +12,7 @@ use Rattle.fault_instructions.specs.declared.instructions.Start.TheVariants.{Nom
 use Rattle.fault_instructions.specs.Instructions.{EffectTree, stuck_at, follows, inverted, random, erroneous, stuck_at_pick, offset, ramp_down, frozen as frozen_effect, ModeTree, SliceTree, InstructionTree, slices_of, is_affected}
 use Rattle.fault_instructions.specs.AddedNames.{own_name}
 use Rattle.fault_instructions.specs.Templates.{rules, first_rules}
-use Rattle.fault_weave.specs.Woven.{mode_type, start_rules, mode_rules, slice_sections, added_sections, woven}
+use Rattle.fault_weave.specs.WovenProgram.{mode_type, start_rules, mode_rules, slice_sections, added_sections, woven}
 use Rattle.fault_instructions.specs.KindTypes.{type_of_kind}
 use Rattle.fault_instructions.specs.Weavable.{Among, IsFinite, IsLawfulMode, IsWeavable}
 use Rattle.fault_instructions.proofs.AmongLaws.{each_all}
@@ -24,7 +24,7 @@ use Rattle.fault_rules.specs.Rules.{broken_at}
 use Rattle.fault_rules.specs.FirstBroken.{AllKept}
 use Rattle.smv_language.specs.Flat.{flat_variable, FlatInstance, FlatVariable, FlatFormula, FlatModel}
 use Rattle.smv_flat_laws.specs.Items.{Item, a_declaration, a_definition, an_assignment, some_constants, an_init, an_invar, a_trans, NumberedItem, items_of_section, items_of, items_named, instances_of}
-use Rattle.smv_flat_laws.specs.Resolved.{Definition, Resolver}
+use Rattle.smv_flat_laws.specs.NameResolution.{Definition, Resolver}
 use Rattle.smv_flat_laws.specs.Rules.{IsWalkable}
 use Rattle.smv_flat_laws.specs.Model.{Condition, kept, kept_declared, first_conditions, each_conditions, step_conditions, kept_conditions, Written, conditions, Root, root_of_actual, roots_of_actuals, roots_of_type, roots_of_item, roots_of, IsDefinitionOf, IsFlatOf}
 use Rattle.smv_flat_laws.proofs.Conditions.{each_at, each_from, each_flat, each_join}
@@ -33,8 +33,8 @@ use Rattle.smv_flat_laws.proofs.Lists.{each_more, each_map, get_within}
 use Rattle.smv_flat_laws.proofs.Places.{In}
 use Rattle.smv_flat_laws.proofs.Reaches.{each_left, each_right}
 use Rattle.smv_flat_laws.proofs.Variables.{both_at}
-use Rattle.smv_type_laws.specs.Judged.{Judged}
-use Rattle.smv_type_laws.specs.Declared.{judged_declared}
+use Rattle.smv_type_laws.specs.ExpressionKinds.{Judged}
+use Rattle.smv_type_laws.specs.DeclaredKinds.{judged_declared}
 use Rattle.smv_type_laws.specs.Models.{judged_variables, judged_definitions, judged_in, broken_condition, breaches}
 use Rattle.smv_type_laws.proofs.ModelLaws.{IsRight, after_length}
 use Rattle.fault_extend_laws.specs.Expressions.{AllUsesKept}

@@ -15,7 +15,7 @@ use Rattle.fault_instructions.specs.declared.instructions.Start.TheVariants.{Nom
 use Rattle.fault_instructions.specs.Instructions.{EffectTree, stuck_at, follows, inverted, random, erroneous, stuck_at_pick, offset, ramp_down, frozen as frozen_effect, ModeTree, SliceTree, InstructionTree, slices_of, is_affected}
 use Rattle.fault_instructions.specs.AddedNames.{own_name, mode_variable}
 use Rattle.fault_instructions.specs.Templates.{erroneous_rule, frozen_rule, pick_rule, ramp_rule, frozen_first, ramp_first, rules, first_rules}
-use Rattle.fault_weave.specs.Woven.{tree_map_both, rename, same_path, woven_assignment, woven_section, mode_type, start_tree, start_rules, mode_rules, moves_tree, read_tree, slice_rules, slice_sections, added_sections, woven_module}
+use Rattle.fault_weave.specs.WovenProgram.{tree_map_both, rename, same_path, woven_assignment, woven_section, mode_type, start_tree, start_rules, mode_rules, moves_tree, read_tree, slice_rules, slice_sections, added_sections, woven_module}
 use Rattle.fault_instructions.specs.KindTypes.{type_of_kind}
 use Rattle.fault_instructions.specs.Weavable.{Among}
 

@@ -2,12 +2,12 @@
 use Rattle.std.proofs.Common.{◌≡◌, false, ◌||◌, List, [], ◌++◌, refl}
 use Rattle.smv_language.specs.Tree.{Tree, Trees, Branches, truth as is_truth, number as is_number, leaf, not_of, negate, next_of, binary, choice, case_of, set_of, span, no_tree, tree_then, no_branch, branch_then}
 use Rattle.smv_language.specs.Trace.{Each}
-use Rattle.smv_flat_laws.specs.Resolved.{leaves_in, trees_leaves, branches_leaves, has_next, trees_have_next, branches_have_next}
+use Rattle.smv_flat_laws.specs.NameResolution.{leaves_in, trees_leaves, branches_leaves, has_next, trees_have_next, branches_have_next}
 use Rattle.smv_flat_laws.specs.Rules.{next_under_next, trees_next_under, branches_next_under, leaves_under, trees_leaves_under, branches_leaves_under}
 use Rattle.smv_flat_laws.proofs.Reaches.{each_left, each_right}
 use Rattle.smv_flat_laws.proofs.Conditions.{each_join}
 use Rattle.smv_flat_laws.proofs.Lists.{each_more}
-use Rattle.fault_weave.specs.Woven.{tree_map_both, trees_map_both, branches_map_both}
+use Rattle.fault_weave.specs.WovenProgram.{tree_map_both, trees_map_both, branches_map_both}
 use Rattle.std.proofs.lemmas.Bool.{or_parts as neither}
 
 -- of three parts

@@ -3,7 +3,7 @@ use Rattle.std.specs.Prelude.{◌≡◌, ℕ, List, [], Some, slice_get}
 use Rattle.smv_language.specs.ProgramTree.{Text, ProgramTree}
 use Rattle.smv_language.specs.Trace.{Each}
 use Rattle.fault_instructions.specs.Instructions.{InstructionTree}
-use Rattle.fault_weave.specs.Woven.{woven}
+use Rattle.fault_weave.specs.WovenProgram.{woven}
 use Rattle.fault_instructions.specs.Weavable.{IsWeavable}
 use Rattle.fault_rules.specs.Sites.{item_sites}
 use Rattle.fault_rules.specs.Rules.{broken_at}
@@ -13,7 +13,7 @@ use Rattle.smv_flat_laws.specs.FlatTrace.{IsModeOf}
 use Rattle.smv_flat_laws.specs.History.{Mode, with_history}
 use Rattle.smv_flat_laws.specs.Model.{IsFlatOf}
 use Rattle.smv_flat_laws.specs.Rules.{IsWalkable}
-use Rattle.smv_type_laws.specs.Judged.{KindRule, too_large}
+use Rattle.smv_type_laws.specs.ExpressionKinds.{KindRule, too_large}
 use Rattle.smv_type_laws.specs.Laws.{IsClosed}
 use Rattle.smv_type_laws.specs.Models.{breaches, IsFault}
 use Rattle.fault_extend_laws.specs.Expressions.{AllUsesKept}
@@ -37,19 +37,23 @@ WovenBreaksNone = (p : ProgramTree) (m : FlatModel) (i : InstructionTree) (w : F
 
 -- the variables of its modes have symbols
 abbrev pub ModesHaveSymbols : Type 0
-ModesHaveSymbols = (p : ProgramTree) (m : FlatModel) (i : InstructionTree) (w : FlatModel) → AreWoven p m i w → (f : Mode) → IsSliceMode p i w f → HasSymbols w f
+ModesHaveSymbols = (p : ProgramTree) (m : FlatModel) (i : InstructionTree) (w : FlatModel) → AreWoven p m i w → (f : Mode) →
+    IsSliceMode p i w f → HasSymbols w f
 
 -- and where their symbols are the model's, they are modes of it, whose history can be told
 abbrev pub SliceModesAreModes : Type 0
 SliceModesAreModes =
-    (p : ProgramTree) (m : FlatModel) (i : InstructionTree) (w : FlatModel) → AreWoven p m i w → (f : Mode) → IsSliceMode p i w f → (x : Text) → slice_get w.symbols f.symbol ≡ Some x → IsModeOf w f
+    (p : ProgramTree) (m : FlatModel) (i : InstructionTree) (w : FlatModel) → AreWoven p m i w → (f : Mode) → IsSliceMode p i w f →
+    (x : Text) → slice_get w.symbols f.symbol ≡ Some x → IsModeOf w f
 
 -- a model with the history of such modes breaks no rule at an item where the model breaks none
 abbrev pub HistoryBreaksNone : Type 0
-HistoryBreaksNone = (m : FlatModel) (fs : List Mode) → IsClosed m → Each (HasSymbols m) fs → breaches m ≡ [] → breaches (with_history m fs) ≡ []
+HistoryBreaksNone = (m : FlatModel) (fs : List Mode) → IsClosed m → Each (HasSymbols m) fs → breaches m ≡ [] →
+    breaches (with_history m fs) ≡ []
 
 -- so the one fault of kinds that the woven program's flat model may have, with its history or without, is that of its size
 abbrev pub WovenBreaksSizeAlone : Type 0
 WovenBreaksSizeAlone =
-    (p : ProgramTree) (m : FlatModel) (i : InstructionTree) (w : FlatModel) → AreWoven p m i w → (fs : List Mode) → Each (IsSliceMode p i w) fs → (rule : KindRule) (item : ℕ) →
+    (p : ProgramTree) (m : FlatModel) (i : InstructionTree) (w : FlatModel) → AreWoven p m i w → (fs : List Mode) →
+    Each (IsSliceMode p i w) fs → (rule : KindRule) (item : ℕ) →
     (IsFault w rule item → (rule ≡ too_large) × (item ≡ 0)) × (IsFault (with_history w fs) rule item → (rule ≡ too_large) × (item ≡ 0))

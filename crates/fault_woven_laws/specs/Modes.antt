@@ -8,8 +8,8 @@ use Rattle.fault_weave.specs.Conservative.{IsSlice}
 use Rattle.smv_language.specs.Flat.{FlatVariable, FlatModel}
 use Rattle.smv_flat_laws.specs.History.{Mode}
 use Rattle.smv_flat_laws.specs.Model.{IsVariableNumber}
-use Rattle.smv_type_laws.specs.Judged.{symbol_class}
-use Rattle.smv_type_laws.specs.Declared.{judged_declared}
+use Rattle.smv_type_laws.specs.ExpressionKinds.{symbol_class}
+use Rattle.smv_type_laws.specs.DeclaredKinds.{judged_declared}
 
 -- the mode's variable is one of the model's, and its type has symbols
 pub record HasSymbols (m : FlatModel) (f : Mode) : Type 0 where

@@ -4,11 +4,11 @@ use Rattle.smv_language.specs.Tree.{Tree}
 use Rattle.smv_language.specs.ProgramTree.{Formula, ProgramTree}
 use Rattle.smv_language.specs.Scope.{Place}
 use Rattle.fault_instructions.specs.Instructions.{InstructionTree}
-use Rattle.fault_weave.specs.Woven.{woven}
+use Rattle.fault_weave.specs.WovenProgram.{woven}
 use Rattle.fault_instructions.specs.Weavable.{IsWeavable}
 use Rattle.smv_language.specs.Flat.{FlatLeaf, FlatModel}
 use Rattle.smv_flat_laws.specs.Model.{IsFlatOf}
-use Rattle.smv_flat_laws.specs.Resolved.{has_next}
+use Rattle.smv_flat_laws.specs.NameResolution.{has_next}
 use Rattle.smv_flat_laws.specs.ResolvedAt.{IsResolvedAt}
 use Rattle.smv_flat_laws.specs.Rules.{IsWalkable}
 use Rattle.smv_type_laws.specs.Costs.{cost_of}
@@ -24,7 +24,8 @@ pub record HaveFlatModels (p : ProgramTree) (m : FlatModel) (i : InstructionTree
   pub woven_flat : IsFlatOf (woven p i) w
 
 -- what an expression at an instance is over the one model and over the other
-pub record IsReadAs (p : ProgramTree) (m : FlatModel) (i : InstructionTree) (w : FlatModel) (at : Place) (e : Formula) (tree woven_tree : Tree FlatLeaf) : Type 0 where
+pub record IsReadAs (p : ProgramTree) (m : FlatModel) (i : InstructionTree) (w : FlatModel) (at : Place) (e : Formula)
+    (tree woven_tree : Tree FlatLeaf) : Type 0 where
   pub before : IsResolvedAt p m at e tree
   pub after : IsResolvedAt (woven p i) w at e woven_tree
 

@@ -6,7 +6,7 @@ use Rattle.smv_flat_laws.specs.Items.{instances_of}
 use Rattle.smv_flat_laws.specs.Looks.{ActualsMean}
 use Rattle.smv_flat_laws.specs.Rules.{Rule, too_many, Site, sites, Breaks, IsFirstBroken, IsAccepted}
 use Rattle.fault_instructions.specs.Instructions.{InstructionTree}
-use Rattle.fault_weave.specs.Woven.{woven}
+use Rattle.fault_weave.specs.WovenProgram.{woven}
 use Rattle.fault_instructions.specs.Weavable.{IsWeavable}
 use Rattle.fault_rules.specs.Sites.{item_sites}
 use Rattle.fault_rules.specs.Rules.{broken_at}
@@ -36,11 +36,13 @@ WovenKeepsNames = (p : ProgramTree) (i : InstructionTree) → IsExtendable p i �
 
 -- so that, where it breaks one, it is a limit
 abbrev pub WovenBreaksLimitsAlone : Type 0
-WovenBreaksLimitsAlone = (p : ProgramTree) (i : InstructionTree) → IsExtendable p i → (rule : Rule) (item : ℕ) → IsFirstBroken (woven p i) rule item → rule ≡ too_many
+WovenBreaksLimitsAlone = (p : ProgramTree) (i : InstructionTree) → IsExtendable p i → (rule : Rule) (item : ℕ) →
+    IsFirstBroken (woven p i) rule item → rule ≡ too_many
 
 -- and that, where it breaks no limit, it is accepted
 abbrev pub WovenIsAccepted : Type 0
-WovenIsAccepted = (p : ProgramTree) (i : InstructionTree) → IsExtendable p i → Each (WithinLimits (woven p i)) (sites (woven p i)) → IsAccepted (woven p i)
+WovenIsAccepted = (p : ProgramTree) (i : InstructionTree) → IsExtendable p i → Each (WithinLimits (woven p i)) (sites (woven p i)) →
+    IsAccepted (woven p i)
 
 -- its actuals mean something where those of the program do
 abbrev pub WovenActualsMean : Type 0

@@ -39,9 +39,13 @@
 //! ```
 #![tactic(auto)]
 
-ghost use Rattle.fault_woven_laws.specs.Laws.{WovenBreaksNone, ModesHaveSymbols, SliceModesAreModes, HistoryBreaksNone, WovenBreaksSizeAlone};
-ghost use Rattle.fault_woven_laws.specs.WovenNamesLaws.{WovenKeepsNames, WovenBreaksLimitsAlone, WovenIsAccepted, WovenActualsMean, WovenInstancesAreSame};
-ghost use Rattle.fault_woven_laws.specs.WovenTopsLaws.{WovenKeepsValues, WovenResolves, WovenJudgesAlike, HistoryJudgesAlike, WovenRefusesNone, ResolvedIsReadable, WovenMeansTheSame, TopsAreOfExtensions, TopsFitModels};
+ghost use Rattle.fault_woven_laws.specs.Laws.{WovenBreaksNone, ModesHaveSymbols, SliceModesAreModes, HistoryBreaksNone};
+ghost use Rattle.fault_woven_laws.specs.Laws.{WovenBreaksSizeAlone};
+ghost use Rattle.fault_woven_laws.specs.WovenNamesLaws.{WovenKeepsNames, WovenBreaksLimitsAlone, WovenIsAccepted, WovenActualsMean};
+ghost use Rattle.fault_woven_laws.specs.WovenNamesLaws.{WovenInstancesAreSame};
+ghost use Rattle.fault_woven_laws.specs.WovenTopsLaws.{WovenKeepsValues, WovenResolves, WovenJudgesAlike, HistoryJudgesAlike};
+ghost use Rattle.fault_woven_laws.specs.WovenTopsLaws.{WovenRefusesNone, ResolvedIsReadable, WovenMeansTheSame, TopsAreOfExtensions};
+ghost use Rattle.fault_woven_laws.specs.WovenTopsLaws.{TopsFitModels};
 
 /// Where a program's flat model breaks no rule of kinds at an item, and no item or expression of the
 /// instructions breaks a rule, the woven program's flat model breaks none at an item.

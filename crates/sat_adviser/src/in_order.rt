@@ -60,7 +60,8 @@ impl Adviser for InOrder {
     // No literal has a variable of 2^63 or more.
     fn ready(&mut self, vars: u64) -> Result<(), OutOfMemory>
         ensures ok { IsOk result }
-        ensures first { self.new ≡ record { answers = negations (min vars (2 ^ 63 - 1)); place = 0; told = self.old.told; asked = self.old.asked } }
+        ensures first { self.new
+            ≡ record { answers = negations (min vars (2 ^ 63 - 1)); place = 0; told = self.old.told; asked = self.old.asked } }
         ensures room { vars < 2 ^ 62 → length self.new.answers ≡ vars }
     {
         self.vars = vars.min(9223372036854775807) as usize;

@@ -1,5 +1,4 @@
 //! What a search has come to, as its panel tells it to an adviser. Nothing rests on it: it is there to be shown.
-
 /// What a search has come to.
 #[derive(Drop)]
 pub enum News<'s> {

@@ -130,7 +130,8 @@ impl Panel {
         requires { vars < 2 ^ 62 }
         ensures room { OnOk result (map (λ b. (⟦<dyn Adviser as Adviser>⟧ b.vtable).room b.value) self.new.advisers.items
             ≡ map (option_map (λ _. vars)) (map (λ b. (⟦<dyn Adviser as Adviser>⟧ b.vtable).room b.value) self.old.advisers.items)) }
-        ensures some_ready { OnErr result (AreSomeReady vars (map (λ b. (⟦<dyn Adviser as Adviser>⟧ b.vtable).room b.value) self.old.advisers.items)
+        ensures some_ready { OnErr result
+            (AreSomeReady vars (map (λ b. (⟦<dyn Adviser as Adviser>⟧ b.vtable).room b.value) self.old.advisers.items)
             (map (λ b. (⟦<dyn Adviser as Adviser>⟧ b.vtable).room b.value) self.new.advisers.items)) }
         ensures vars { OnOk result (self.new.vars ≡ vars) }
         ensures vars_stay { OnErr result (self.new.vars ≡ self.old.vars) }
@@ -246,7 +247,11 @@ impl Panel {
     /// Makes the next adviser present, after the last one the first, with no misses.
     pub fn rotate(&mut self)
         ensures { self.new
-            ≡ record self.old { present = place_after self.old.present (length self.old.advisers.items); misses = 0; rotated = next_count self.old.rotated } }
+            ≡ record self.old {
+              present = place_after self.old.present (length self.old.advisers.items);
+              misses = 0;
+              rotated = next_count self.old.rotated;
+            } }
     {
         self.present = place_after(self.present, self.advisers.len());
         self.misses = 0;

@@ -28,4 +28,7 @@ first_from d (x ∷ xs) = x
 -- the first of the counters, for more than n, turned over
 unfoldable pub at_most_gates : List Literal → ℕ → Circuit → Circuit × Literal
 at_most_gates lits n s =
-    after (fold_gates count_step lits (zeros (n + 1) ++ constant_lit true ∷ []) s) (λ counters t. (t, opposite (first_from (constant_lit false) counters)))
+    after (fold_gates count_step lits (zeros (n + 1) ++ constant_lit true ∷ []) s) (λ counters t. (
+      t,
+      opposite (first_from (constant_lit false) counters),
+    ))

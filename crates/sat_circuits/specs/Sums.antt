@@ -43,4 +43,5 @@ equal_step p agree s = after (xor_gate p.0 p.1 s) (λ t u. and_gate agree (oppos
 
 -- whether a is b, at the greater of their widths
 unfoldable pub equal_gates : List Literal → List Literal → Circuit → Circuit × Literal
-equal_gates a b s = fold_gates equal_step (zip (fit (max (length a) (length b)) a) (fit (max (length a) (length b)) b)) (constant_lit true) s
+equal_gates a b s = fold_gates equal_step (zip (fit (max (length a) (length b)) a) (fit (max (length a) (length b)) b)) (constant_lit true)
+    s

@@ -163,7 +163,8 @@ impl Gates {
         requires right { IsBelow self.old.free b }
         requires room { self.old.free < 2 ^ 31 - 1 }
         ensures exact { IfOk result (λ l. mux_gate c a b self.old ≡ (self.new, l)) }
-        ensures value { IfOk result (λ l. GivesBool self.old self.new l (λ v. if literal_value v c then literal_value v a else literal_value v b)) }
+        ensures value { IfOk result
+            (λ l. GivesBool self.old self.new l (λ v. if literal_value v c then literal_value v a else literal_value v b)) }
         ensures next { OnOk result (self.new.free ≡ self.old.free + 1) }
         ensures err { OnErr result (StopsWithin self.old self.new (mux_gate c a b self.old).0) }
     {

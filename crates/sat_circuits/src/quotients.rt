@@ -1,10 +1,12 @@
 //! Quotients and remainders of words, rounded toward zero.
-ghost use Rattle.std.specs.Prelude.{◌≡◌, ◌≢◌, ◌+◌, ◌-◌, ◌*◌, ◌^◌, ◌<◌, ◌≤◌, ◌∷◌, IfOk, OnOk, OnErr, length, max, pos, take, reverse, int_div, int_rem, if◌then◌else◌};
+ghost use Rattle.std.specs.Prelude.{◌≡◌, ◌≢◌, ◌+◌, ◌-◌, ◌*◌, ◌^◌, ◌<◌, ◌≤◌, ◌∷◌, IfOk, OnOk, OnErr, length, max, pos, take, reverse};
+ghost use Rattle.std.specs.Prelude.{int_div, int_rem, if◌then◌else◌};
 ghost use Rattle.sat_clauses.specs.Models.{literal_value, IsBelow};
 ghost use Rattle.sat_circuits.specs.Meaning.{AllBelow, Means, StopsWithin};
 ghost use Rattle.sat_circuits.specs.Bits.{IsCutTo};
 ghost use Rattle.sat_circuits.specs.Words.{IsOfWidth, IsSized, IsWordOf, word_value};
-ghost use Rattle.sat_circuits.specs.Quotients.{choose_gates, negate_where_gates, magnitude_gates, divide_bit, long_division_gates, magnitudes_gates, divide_gates, remainder_gates};
+ghost use Rattle.sat_circuits.specs.Quotients.{choose_gates, negate_where_gates, magnitude_gates, divide_bit, long_division_gates};
+ghost use Rattle.sat_circuits.specs.Quotients.{magnitudes_gates, divide_gates, remainder_gates};
 
 use crate::compare::is_less;
 use crate::gates::Gates;

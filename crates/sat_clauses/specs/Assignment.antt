@@ -1,6 +1,7 @@
 -- Assignments that leave variables free: for each variable its value, or None where it is free.
 -- The place 0 is no variable's.
-use Rattle.std.specs.Prelude.{ℕ, ◌+◌, ◌<◌, Bool, false, not, List, length, Option, Some, None, unwrap_or, is_none, slice_index_or, slice_set, replicate}
+use Rattle.std.specs.Prelude.{ℕ, ◌+◌, ◌<◌, Bool, false, not, List, length, Option, Some, None, unwrap_or, is_none, slice_index_or}
+use Rattle.std.specs.Prelude.{slice_set, replicate}
 use Rattle.std.specs.Option.{option_map}
 use Rattle.sat_clauses.specs.Literal.{Literal, signed}
 

@@ -2,15 +2,15 @@
 use Rattle.std.specs.Prelude.{◌+◌, ◌≤◌, List, All, length, map, slice_range, vec_len, vec_capacity}
 use Rattle.sat_clauses.specs.Literal.{Literal}
 use Rattle.sat_clauses.specs.DeriveStoreRecord.{Store}
-use Rattle.sat_clauses.specs.declared.clause_store.Span.{Span}
+use Rattle.sat_clauses.specs.declared.clause_store.LiteralSpan.{LiteralSpan}
 use Rattle.sat_clauses.specs.declared.clause_store.ClauseStore.TheInside.{Inside}
 
 -- the literals from one end of the span to the other
-abbrev pub spanned : List Literal → Span → List Literal
+abbrev pub spanned : List Literal → LiteralSpan → List Literal
 spanned lits span = slice_range lits span.start span.end
 
 -- the span begins no later than it ends, within the list
-abbrev pub LiesIn : List Literal → Span → Type 0
+abbrev pub LiesIn : List Literal → LiteralSpan → Type 0
 LiesIn lits span = (span.start ≤ span.end) × (span.end ≤ length lits)
 
 -- the clauses are what the spans cut out of the one list of literals

@@ -1,7 +1,8 @@
 -- How a trail keeps an assignment.
-use Rattle.std.specs.Prelude.{◌≡◌, ◌≢◌, ℕ, ◌+◌, ◌<◌, ◌≤◌, None, All, Contains, length, count_by, is_none, slice_index_or, vec_len, vec_capacity}
+use Rattle.std.specs.Prelude.{◌≡◌, ◌≢◌, ℕ, ◌+◌, ◌<◌, ◌≤◌, None, All, Contains, length, count_by, is_none, slice_index_or, vec_len}
+use Rattle.std.specs.Prelude.{vec_capacity}
 use Rattle.sat_clauses.specs.Assignment.{Assignment}
-use Rattle.sat_clauses.specs.declared.checker_trail.Trail.TheInside.{Inside}
+use Rattle.sat_clauses.specs.declared.checker_trail.CheckerTrail.TheInside.{Inside}
 
 -- contracts see the assignment alone
 abbrev pub assignment_of : Inside → Assignment

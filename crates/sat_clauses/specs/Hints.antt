@@ -1,5 +1,6 @@
 -- Which clause follows from numbered clauses by hints, and how hints fail.
-use Rattle.std.specs.Prelude.{◌≡◌, ◌≢◌, ◌⊎◌, ℕ, ◌+◌, ◌-◌, ◌==◌, if◌then◌else◌, List, [], ◌∷◌, ◌++◌, length, All, Contains, Option, Some, None, fold, slice_get}
+use Rattle.std.specs.Prelude.{◌≡◌, ◌≢◌, ◌⊎◌, ℕ, ◌+◌, ◌-◌, ◌==◌, if◌then◌else◌, List, [], ◌∷◌, ◌++◌, length, All, Contains, Option, Some}
+use Rattle.std.specs.Prelude.{None, fold, slice_get}
 use Rattle.std.specs.Option.{option_map}
 use Rattle.sat_clauses.specs.Literal.{Literal, opposite}
 use Rattle.sat_clauses.specs.Assignment.{Assignment, all_free, made_true}

@@ -28,7 +28,8 @@ module _ (system : System) where
 
   -- the clauses of steps can be made true with the bits of both, as the states now and next
   abbrev pub IsStepOf : State → State → Type 0
-  IsStepOf s t = IsState s × IsState t × ((v : TotalAssignment) × Agrees v 2 s × Agrees v (system.state_bits + 2) t × IsTrue (all_true v system.step))
+  IsStepOf s t = IsState s × IsState t
+      × ((v : TotalAssignment) × Agrees v 2 s × Agrees v (system.state_bits + 2) t × IsTrue (all_true v system.step))
 
   -- under the inputs a step leads from the one state to the other
   abbrev pub IsStepUnder : List Bool → State → State → Type 0

@@ -1,5 +1,6 @@
 -- What holds of a store, and which clauses a literal that became false leaves false or unit.
-use Rattle.std.specs.Prelude.{◌≡◌, ◌≢◌, ◌⊎◌, ℕ, ◌+◌, ◌-◌, ◌^◌, ◌<◌, ◌≤◌, Bool, true, false, if◌then◌else◌, ◌&&◌, List, [], ◌∷◌, All, AllPairs, Contains, Some, slice_get, refl}
+use Rattle.std.specs.Prelude.{◌≡◌, ◌≢◌, ◌⊎◌, ℕ, ◌+◌, ◌-◌, ◌^◌, ◌<◌, ◌≤◌, Bool, true, false, if◌then◌else◌, ◌&&◌, List, [], ◌∷◌, All}
+use Rattle.std.specs.Prelude.{AllPairs, Contains, Some, slice_get, refl}
 use Rattle.std.specs.List.{list_any}
 use Rattle.sat_clauses.specs.Literal.{Literal, plain, opposite}
 use Rattle.sat_clauses.specs.Assignment.{Assignment, all_free, made_true}
@@ -52,5 +53,6 @@ due_from a l number (c ∷ cs) =
     if is_due a l c then number ∷ due_from a l (number + 1) cs else due_from a l (number + 1) cs
 
 -- where -2 was just made true, the clause 2 or 2 or 3 is unit
-example : due_from (made_true (all_free 4) (opposite (plain 2))) (plain 2) 1 ((plain 2 ∷ plain 2 ∷ plain 3 ∷ []) ∷ (opposite (plain 3) ∷ plain 4 ∷ []) ∷ []) ≡ 1 ∷ []
+example : due_from (made_true (all_free 4) (opposite (plain 2))) (plain 2) 1 ((plain 2 ∷ plain 2 ∷ plain 3 ∷ [])
+    ∷ (opposite (plain 3) ∷ plain 4 ∷ []) ∷ []) ≡ 1 ∷ []
 example = refl

@@ -3,7 +3,7 @@ use Rattle.std.specs.Prelude.{◌≡◌, ℕ, ◌-◌, ◌^◌, ◌<◌, ◌≤�
 use Rattle.sat_clauses.specs.Literal.{Literal}
 use Rattle.sat_clauses.specs.Trail.{assigned_from, AreFresh}
 use Rattle.sat_clauses.specs.TrailRecord.{TrailValue}
-use Rattle.sat_clauses.specs.declared.trail.Trail.TheInside.{Inside}
+use Rattle.sat_clauses.specs.declared.trail.LiteralTrail.TheInside.{Inside}
 
 -- what contracts see of its parts
 abbrev pub trail_of : Inside → TrailValue

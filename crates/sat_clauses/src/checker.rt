@@ -12,7 +12,7 @@ ghost use Rattle.sat_clauses.specs.Derivation.{IsUpTo, Appends};
 ghost use Rattle.sat_clauses.specs.CanTake.{CanTake};
 ghost use Rattle.sat_clauses.specs.Hints.{clause_at, EndsFalse, EndsOpen, FailsAt, assumed_false};
 
-use crate::checker_trail::Trail;
+use crate::checker_trail::CheckerTrail;
 use crate::clause::Clause;
 use crate::clause_store::ClauseStore;
 use crate::hints::{follow, has_no_opposites};
@@ -26,7 +26,7 @@ use std::marker::Model;
 #[derive(Drop)]
 pub struct Checker {
     clauses: ClauseStore,
-    trail: Trail,
+    trail: CheckerTrail,
 }
 
 impl Model for Checker {
@@ -50,7 +50,7 @@ impl Checker {
     {
         Ok(Checker {
             clauses: ClauseStore::new(alloc),
-            trail: Trail::with_vars(alloc, vars)?,
+            trail: CheckerTrail::with_vars(alloc, vars)?,
         })
     }
 

@@ -11,12 +11,12 @@ use std::marker::Model;
 /// An assignment that can be made free again at a cost by the number of variables that have a value,
 /// and not by that of all variables.
 #[derive(Drop)]
-pub struct Trail {
+pub struct CheckerTrail {
     assign: Assign,
     set: Vec<u64>,
 }
 
-impl Model for Trail {
+impl Model for CheckerTrail {
     ghost use Rattle.sat_clauses.specs.Assignment.{Assignment};
 
     ghost Value = { Assignment };
@@ -28,15 +28,15 @@ impl Model for Trail {
     ghost invariant = { IsSound };
 }
 
-impl Trail {
+impl CheckerTrail {
     /// The assignment of the variables up to `vars` in which all are free.
-    pub fn with_vars(alloc: Global, vars: u64) -> Result<Trail, OutOfMemory>
+    pub fn with_vars(alloc: Global, vars: u64) -> Result<CheckerTrail, OutOfMemory>
         requires { vars < 2 ^ 62 }
         ensures { IfOk result (λ t. t ≡ all_free vars) }
     {
         let assign = Assign::with_vars(alloc, vars)?;
         let set = Vec::with_capacity(alloc, vars as usize + 1)?;
-        Ok(Trail { assign, set })
+        Ok(CheckerTrail { assign, set })
     }
 
     /// The assignment.

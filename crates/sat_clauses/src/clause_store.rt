@@ -8,7 +8,7 @@ use std::marker::Model;
 
 /// Where the literals of one clause lie, from `start` up to but not including `end`.
 #[derive(Clone, Copy)]
-pub struct Span {
+pub struct LiteralSpan {
     start: usize,
     end: usize,
 }
@@ -18,7 +18,7 @@ pub struct Span {
 #[derive(Drop)]
 pub struct ClauseStore {
     lits: Vec<Lit>,
-    spans: Vec<Span>,
+    spans: Vec<LiteralSpan>,
     spare_clauses: usize,
     spare_lits: usize,
 }
@@ -115,7 +115,7 @@ impl ClauseStore {
         let start = self.lits.len();
         self.lits.extend_from_slice(lits).unwrap();
         let end = self.lits.len();
-        self.spans.push(Span { start, end }).unwrap();
+        self.spans.push(LiteralSpan { start, end }).unwrap();
         self.spare_clauses -= 1;
         self.spare_lits -= lits.len();
     }

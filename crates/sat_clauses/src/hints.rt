@@ -12,7 +12,7 @@ ghost use Rattle.sat_clauses.specs.Hints.{truth_at, made_false, HasNoOpposites, 
 ghost use Rattle.sat_clauses.specs.Fault.{fault_of};
 
 use crate::assign::Assign;
-use crate::checker_trail::Trail;
+use crate::checker_trail::CheckerTrail;
 use crate::clause::Truth;
 use crate::clause_store::ClauseStore;
 use crate::lit::{Lit, contains};
@@ -20,7 +20,7 @@ use crate::step::{Step, StepFault};
 use crate::truth::truth_of_lits;
 
 /// Whether the step's clause follows by its hints. The trail is free before and after. Takes no memory.
-pub fn follow(trail: &mut Trail, clauses: &ClauseStore, step: &Step) -> Result<(), StepFault>
+pub fn follow(trail: &mut CheckerTrail, clauses: &ClauseStore, step: &Step) -> Result<(), StepFault>
     requires free { trail.old ≡ all_free (length trail.old - 1) }
     requires list_in_range { All (All (IsInRange trail.old)) clauses.now.clauses }
     requires in_range { All (IsInRange trail.old) step.now.clause }
@@ -42,7 +42,11 @@ pub fn follow(trail: &mut Trail, clauses: &ClauseStore, step: &Step) -> Result<(
 
 // Takes the hints in turn, with the clause false already. The definition `fault_of` computes the same
 // outcome, and laws tie it to the relations on hints.
-fn use_hints(trail: &mut Trail, clauses: &ClauseStore, hints: &[u64]) -> Result<(), StepFault>
+fn use_hints(
+    trail: &mut CheckerTrail,
+    clauses: &ClauseStore,
+    hints: &[u64],
+) -> Result<(), StepFault>
     requires { All (All (IsInRange trail.old)) clauses.now.clauses }
     ensures fault { result_err result ≡ fault_of clauses.now.clauses trail.old 1 hints.now }
     ensures same_vars { length trail.new ≡ length trail.old }
@@ -76,7 +80,7 @@ fn truth_at(clauses: &ClauseStore, assign: &Assign, hint: u64) -> Option<Truth>
 }
 
 // Makes each literal of a clause false. One that is written twice has a value the second time.
-fn assume_false(trail: &mut Trail, lits: &[Lit])
+fn assume_false(trail: &mut CheckerTrail, lits: &[Lit])
     requires in_range { All (IsInRange trail.old) lits.now }
     requires free { trail.old ≡ replicate (length trail.old) None }
     requires no_opposites { HasNoOpposites lits.now }

@@ -3,7 +3,8 @@
 //! A [`Store`] is seen as a record of its highest variable, its clauses, numbered from 1, and its trail, the
 //! literals that were made true, without a variable twice. Right after a literal was made true, `found` has
 //! exactly the clauses that this left false or unit. [`PlainStore`] looks through all its clauses for them.
-ghost use Rattle.std.specs.Prelude.{◌≡◌, ◌+◌, ◌-◌, ◌^◌, ◌<◌, ◌≤◌, [], ◌∷◌, ◌++◌, length, take, IfOk, OnOk, OnErr, Some, None, slice_get, All, vec_len, vec_capacity, if◌then◌else◌};
+ghost use Rattle.std.specs.Prelude.{◌≡◌, ◌+◌, ◌-◌, ◌^◌, ◌<◌, ◌≤◌, [], ◌∷◌, ◌++◌, length, take, IfOk, OnOk, OnErr, Some, None, slice_get};
+ghost use Rattle.std.specs.Prelude.{All, vec_len, vec_capacity, if◌then◌else◌};
 ghost use Rattle.sat_clauses.specs.Literal.{opposite};
 ghost use Rattle.sat_clauses.specs.Assignment.{IsInRange, value_of};
 ghost use Rattle.sat_clauses.specs.Models.{ClauseBelow};
@@ -13,7 +14,7 @@ ghost use Rattle.sat_clauses.specs.Store.{IsStore, AreExactlyDue, is_due, due_fr
 use crate::assign::Assign;
 use crate::clause::{Clause, ClauseList, Truth};
 use crate::lit::{Lit, contains};
-use crate::trail::Trail;
+use crate::trail::LiteralTrail;
 use crate::truth::truth_of_lits;
 use base_values::OutOfMemory;
 use std::alloc::Global;
@@ -50,7 +51,8 @@ pub trait Store {
     /// Appends a clause, under any trail.
     fn push(&mut self, lits: &[Lit]) -> Result<(), OutOfMemory>
         requires { ClauseBelow ((held self.old).vars + 1) lits.now }
-        ensures ok { OnOk result (held self.new ≡ record (held self.old) { clauses = (held self.old).clauses ++ lits.now ∷ []; found = [] }) }
+        ensures ok { OnOk result (held self.new
+            ≡ record (held self.old) { clauses = (held self.old).clauses ++ lits.now ∷ []; found = [] }) }
         ensures err { OnErr result (held self.new ≡ held self.old) };
 
     /// The literals that were made true, in order.
@@ -66,7 +68,8 @@ pub trait Store {
         requires in_range { lit.var ≤ (held self.old).vars }
         requires free { value_of (assigned_by (held self.old).vars (held self.old).trail) lit ≡ None }
         ensures held { held self.new ≡ record (held self.old) { trail = (held self.old).trail ++ lit ∷ []; found = (held self.new).found } }
-        ensures found { AreExactlyDue (held self.new).clauses (assigned_by (held self.new).vars (held self.new).trail) (opposite lit) (held self.new).found };
+        ensures found { AreExactlyDue (held self.new).clauses (assigned_by (held self.new).vars (held self.new).trail) (opposite lit)
+            (held self.new).found };
 
     /// Where the last call that changes a store was `set` of a literal, the numbers of exactly the
     /// clauses that contain its negation and are false or unit, each once. Otherwise none.
@@ -83,7 +86,7 @@ pub trait Store {
 #[derive(Drop)]
 pub struct PlainStore {
     clauses: ClauseList,
-    trail: Trail,
+    trail: LiteralTrail,
     found: Vec<u64>,
 }
 
@@ -149,7 +152,7 @@ impl PlainStore {
     {
         Ok(PlainStore {
             clauses: ClauseList::new(alloc),
-            trail: Trail::with_vars(alloc, vars)?,
+            trail: LiteralTrail::with_vars(alloc, vars)?,
             found: Vec::new(alloc),
         })
     }

@@ -12,14 +12,14 @@ use std::marker::Model;
 /// Literals without a variable twice, in the order in which they were made true. Its making and `more`
 /// make the room for all, so that no other call takes memory.
 #[derive(Drop)]
-pub struct Trail {
+pub struct LiteralTrail {
     assign: Assign,
     lits: Vec<Lit>,
     // For each variable that has a value, the place of its literal.
     places: Vec<usize>,
 }
 
-impl Model for Trail {
+impl Model for LiteralTrail {
     ghost use Rattle.sat_clauses.specs.TrailRecord.{TrailValue};
 
     ghost Value = { TrailValue };
@@ -31,9 +31,9 @@ impl Model for Trail {
     ghost invariant = { IsSound };
 }
 
-impl Trail {
+impl LiteralTrail {
     /// The empty trail over the variables from 1 to `vars`.
-    pub fn with_vars(alloc: Global, vars: u64) -> Result<Trail, OutOfMemory>
+    pub fn with_vars(alloc: Global, vars: u64) -> Result<LiteralTrail, OutOfMemory>
         requires { vars < 2 ^ 62 }
         ensures vars { IfOk result (λ t. t.vars ≡ vars) }
         ensures lits { IfOk result (λ t. t.lits ≡ []) }
@@ -41,7 +41,7 @@ impl Trail {
         let assign = Assign::with_vars(alloc, vars)?;
         let lits = Vec::with_capacity(alloc, vars as usize + 1)?;
         let places = vec![in alloc; 0; vars as usize + 1]?;
-        Ok(Trail {
+        Ok(LiteralTrail {
             assign,
             lits,
             places,

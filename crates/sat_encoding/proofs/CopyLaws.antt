@@ -11,10 +11,10 @@ use Rattle.sat_encoding_laws.specs.Meanings.{IsSignal, IsReady}
 use Rattle.sat_encoding_laws.specs.Encodable.{IsEncodable}
 use Rattle.sat_encoding_laws.proofs.MomentMeans.{model_types}
 use Rattle.sat_encoding_laws.proofs.Readings.{signals_below}
-use Rattle.sat_expressions.specs.Built.{signals_of}
+use Rattle.sat_expressions.specs.BuiltSignals.{signals_of}
 use Rattle.sat_expressions.proofs.ChoiceLoop.{usable_later}
 use Rattle.sat_expressions.specs.declared.names.Copied.{Copied}
-use Rattle.sat_expressions.specs.Naming.{copy_of, IsCopied}
+use Rattle.sat_expressions.specs.ModelNames.{copy_of, IsCopied}
 use Rattle.sat_encoding.specs.Copies.{BuildsDefinitions, BuildsCopy, Builds, IsPlaced}
 
 pub copied_later : (c : Copied) (s t : Circuit) → s.free ≤ t.free → IsCopied s c → IsCopied t c

@@ -7,8 +7,8 @@ use Rattle.smv_language.specs.Tree.{trees_from}
 use Rattle.base_values.specs.declared.domain.Domain.TheVariants as domain
 use Rattle.smv_language.specs.Flat.{FlatModel}
 use Rattle.smv_type_laws.specs.Intervals.{Interval, just, hull}
-use Rattle.smv_type_laws.specs.Judged.{number_class, symbol_class, mixed_enum, unless_class, hull_of}
-use Rattle.smv_type_laws.specs.Declared.{member_kind, judged_declared}
+use Rattle.smv_type_laws.specs.ExpressionKinds.{number_class, symbol_class, mixed_enum, unless_class, hull_of}
+use Rattle.smv_type_laws.specs.DeclaredKinds.{member_kind, judged_declared}
 use Rattle.smv_type_laws.specs.Costs.{member_number, symbol_number, number_kind, width_in, declared_width}
 use Rattle.smv_types.specs.Types.{spread, numbers_in, symbols_in, domain_of}
 use Rattle.smv_types.proofs.TypeLaws.{hull_spread}

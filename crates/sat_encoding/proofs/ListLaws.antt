@@ -5,7 +5,7 @@ use Rattle.std.specs.List.{list_any}
 use Rattle.smv_language.specs.Trace.{Each}
 use Rattle.smv_language.specs.Tree.{Tree}
 use Rattle.smv_language.specs.Flat.{FlatLeaf, FlatVariable, FlatFormula, FlatModel}
-use Rattle.smv_flat_laws.specs.Resolved.{leaves_in}
+use Rattle.smv_flat_laws.specs.NameResolution.{leaves_in}
 use Rattle.smv_language.specs.declared.model.Formula.{Formula}
 use Rattle.smv_language.specs.ModelTree.{flat_tree, formula_tree, variable_tree}
 use Rattle.sat_clauses.specs.Literal.{Literal}
@@ -18,14 +18,14 @@ use Rattle.sat_encoding_laws.specs.Layout.{state_width, input_width, variable_si
 use Rattle.sat_encoding_laws.specs.Lists.{Copy, names_of, asserted_signal, definition_gates, formulas_gates, copy_gates, start_of, state_circuit, first_circuit, step_circuit, history_literals, size_gates}
 use Rattle.sat_encoding_laws.specs.Meanings.{IsSignal}
 use Rattle.sat_expressions.specs.declared.signal.Signal.{Signal as Built}
-use Rattle.sat_expressions.specs.Built.{signal_of, signals_of, BuildsSignal}
+use Rattle.sat_expressions.specs.BuiltSignals.{signal_of, signals_of, BuildsSignal}
 use Rattle.sat_expressions.proofs.ChoiceLoop.{usable_later}
 use Rattle.sat_expressions.specs.declared.names.Copied.{Copied}
-use Rattle.sat_expressions.specs.declared.names.Names.{Names}
-use Rattle.sat_expressions.specs.declared.part.Part.{Part}
-use Rattle.sat_expressions.specs.Naming.{model_of, names_in, copy_of}
+use Rattle.sat_expressions.specs.declared.names.NamedSignals.{NamedSignals}
+use Rattle.sat_expressions.specs.declared.part.ExpressionSignal.{ExpressionSignal}
+use Rattle.sat_expressions.specs.ModelNames.{model_of, names_in, copy_of}
 use Rattle.sat_expressions.specs.Parts.{BuildsPart}
-use Rattle.sat_encoding.specs.declared.lists.Source.{Source}
+use Rattle.sat_encoding.specs.declared.lists.ListsSource.{ListsSource}
 use Rattle.sat_encoding.specs.Reading.{names_read, tree_any}
 use Rattle.sat_encoding.specs.Copies.{source_model, IsSource, IsRightFormula, definition_signal, Defines, BuildsDefinitions, Builds}
 use Rattle.sat_encoding.specs.History.{counted_circuit}
@@ -43,7 +43,7 @@ reading_next vs bs ds i d b whole at reads before =
     ∙ sym (ap (λ l. reading_after vs bs (map formula_tree l)) (drop_there ds i d at)) ∙ before
 
 -- the expression reads an input of the model
-pub read_is : (s : Source) → IsSource s → (t : Tree FlatLeaf) → tree_any (names_read s.reading) t ≡ reads_input (source_model s) t
+pub read_is : (s : ListsSource) → IsSource s → (t : Tree FlatLeaf) → tree_any (names_read s.reading) t ≡ reads_input (source_model s) t
 read_is s is t =
     tree_any_is (names_read s.reading) t
     ∙ ap (λ vs. list_any (names_input (map variable_tree vs) s.reading.definitions.items) (leaves_in t)) is.variables
@@ -70,7 +70,7 @@ definition_left m vs done all d s l out is =
     ∙ ap (λ x. pair_of s (bit x)) (sym is)
 
 -- one that is not is its value
-pub definition_is : (m : FlatModel) (n : Names) (c : Copied) (all : Bool) (d : FlatFormula) (s t : Circuit) (p : Part) → names_in n ≡ names_of m (copy_of c) (copy_of c) → model_of n ≡ m → (reads_input m d.value && not all) ≡ false
+pub definition_is : (m : FlatModel) (n : NamedSignals) (c : Copied) (all : Bool) (d : FlatFormula) (s t : Circuit) (p : ExpressionSignal) → names_in n ≡ names_of m (copy_of c) (copy_of c) → model_of n ≡ m → (reads_input m d.value && not all) ≡ false
     → IsRightFormula m d → BuildsPart n its_value d.value s t p → BuildsSignal s (definition_signal m (signals_of c.variables) all d (signals_of c.definitions) s) t p.signal
 definition_is m n c all d s t p names same kept right part =
     let here = subst (λ (k : FlatModel). IsRightFormula k d) (sym same) right in
@@ -118,11 +118,11 @@ module _ (m : FlatModel) (over : List Signal) (all : Bool) (ds : List FlatFormul
 -- ---- the formulas of a list
 
 -- each breaks no rule, under other names for the model and the list
-pub rights_at : (n : Names) (m : FlatModel) (fs gs : List Formula) → model_of n ≡ m → gs ≡ fs → Each (IsRightFormula m) (map formula_tree fs) → Each (IsRightFormula (model_of n)) (map formula_tree gs)
+pub rights_at : (n : NamedSignals) (m : FlatModel) (fs gs : List Formula) → model_of n ≡ m → gs ≡ fs → Each (IsRightFormula m) (map formula_tree fs) → Each (IsRightFormula (model_of n)) (map formula_tree gs)
 rights_at n m fs gs e f h =
     subst (λ (k : FlatModel). Each (IsRightFormula k) (map formula_tree gs)) (sym e) (subst (λ (l : List Formula). Each (IsRightFormula m) (map formula_tree l)) (sym f) h)
 
-pub first_is : (m : FlatModel) (n : Names) (g t : Circuit) (c : Copied) (fs : List FlatFormula) → state_circuit m ≡ (g, copy_of c) → names_in n ≡ names_of m (copy_of c) (copy_of c) → fs ≡ m.at_first
+pub first_is : (m : FlatModel) (n : NamedSignals) (g t : Circuit) (c : Copied) (fs : List FlatFormula) → state_circuit m ≡ (g, copy_of c) → names_in n ≡ names_of m (copy_of c) (copy_of c) → fs ≡ m.at_first
     → Builds g (formulas_gates (names_in n) fs g) t → first_circuit m ≡ t
 first_is m n g t c fs state names same built =
     ap (λ (now : Circuit × Copy). formulas_gates (names_of m now.1 now.1) m.at_first now.0) state
@@ -144,7 +144,7 @@ pub length_signals_now : (symbols : List (List ℕ)) (p q : ℕ) (xs : List Flat
 length_signals_now symbols p q [] = refl
 length_signals_now symbols p q (x ∷ xs) = let more = length_signals_now symbols (p + state_width symbols x) (q + input_width symbols x) xs in omega (arith, more)
 
-pub counted_is : (m : FlatModel) (top : Tree FlatLeaf) (history : List ℕ) (size : ℕ) (n : Names) (g h t : Circuit) (c : Copied) (bits : List Literal) → state_circuit m ≡ (g, copy_of c)
+pub counted_is : (m : FlatModel) (top : Tree FlatLeaf) (history : List ℕ) (size : ℕ) (n : NamedSignals) (g h t : Circuit) (c : Copied) (bits : List Literal) → state_circuit m ≡ (g, copy_of c)
     → names_in n ≡ names_of m (copy_of c) (copy_of c) → Builds g (asserted_signal (encoded (names_in n) its_value top g)) h → bits ≡ history_literals m history → size_gates bits size h ≡ t
     → counted_circuit m top history size ≡ t
 counted_is m top history size n g h t c bits state names holds literals few =

@@ -16,9 +16,9 @@ use Rattle.sat_circuits.specs.Gates.{constant_lit, or_gate}
 use Rattle.sat_clauses.specs.Literal.{Literal}
 use Rattle.smv_language.specs.Tree.{Tree}
 use Rattle.smv_type_laws.specs.Models.{judged_in}
-use Rattle.sat_expressions.specs.declared.names.Names.{Names}
-use Rattle.sat_expressions.specs.declared.part.Part.{Part}
-use Rattle.sat_expressions.specs.Naming.{model_of, names_in}
+use Rattle.sat_expressions.specs.declared.names.NamedSignals.{NamedSignals}
+use Rattle.sat_expressions.specs.declared.part.ExpressionSignal.{ExpressionSignal}
+use Rattle.sat_expressions.specs.ModelNames.{model_of, names_in}
 use Rattle.sat_expressions.specs.Parts.{BuildsPart}
 use Rattle.sat_encoding_laws.specs.Widths.{symbol_width}
 use Rattle.sat_encoding_laws.specs.Signals.{Signal, bit, literal_in}
@@ -28,7 +28,7 @@ use Rattle.sat_encoding_laws.specs.Layout.{width_as_input, input_width, place_of
 use Rattle.sat_encoding_laws.specs.Lists.{Copy, copy_of as the_copy, names_of, asserted, asserted_signal, definition_gates, formulas_gates, type_gates, domains_gates}
 use Rattle.sat_encoding_laws.specs.Encodable.{IsEncodable}
 use Rattle.sat_expressions.specs.declared.signal.Signal.{Signal as Built}
-use Rattle.sat_expressions.specs.Built.{signal_of, signals_of, BuildsLiteral, BuildsSignal}
+use Rattle.sat_expressions.specs.BuiltSignals.{signal_of, signals_of, BuildsLiteral, BuildsSignal}
 use Rattle.sat_encoding.specs.Domains.{domain_width, domain_signal, asserted_literal, domain_gates}
 use Rattle.sat_encoding.specs.Copies.{Builds, definition_signal}
 use Rattle.sat_encoding.proofs.ModelParts.{width_at, signal_at, gates_at, rest_at}
@@ -150,7 +150,7 @@ module _ (m : FlatModel) (variables : List Signal) (all : Bool) where
 
 -- ---- what holds
 
-pub holds_is : (n : Names) (e : Tree FlatLeaf) (s h t : Circuit) (p : Part) (l : Literal) → BuildsPart n its_value e s h p → (judged_in (model_of n) false e).broken ≡ [] → l ≡ literal_in (signal_of p.signal)
+pub holds_is : (n : NamedSignals) (e : Tree FlatLeaf) (s h t : Circuit) (p : ExpressionSignal) (l : Literal) → BuildsPart n its_value e s h p → (judged_in (model_of n) false e).broken ≡ [] → l ≡ literal_in (signal_of p.signal)
     → t ≡ record { clauses = h.clauses ++ (l ∷ []) ∷ []; free = h.free } → Builds s (asserted_signal (encoded (names_in n) its_value e s)) t
 unfolding asserted
 holds_is n e s h t p l part right same is = record {

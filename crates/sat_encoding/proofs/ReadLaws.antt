@@ -10,7 +10,7 @@ use Rattle.smv_language.specs.declared.model.Flat.{Flat}
 use Rattle.smv_language.specs.ModelTree.{flat_tree}
 use Rattle.sat_expressions.proofs.Forms.{form_choice}
 use Rattle.smv_language.specs.Flat.{FlatLeaf}
-use Rattle.smv_flat_laws.specs.Resolved.{leaves_in, trees_leaves, branches_leaves}
+use Rattle.smv_flat_laws.specs.NameResolution.{leaves_in, trees_leaves, branches_leaves}
 use Rattle.sat_encoding.specs.Reading.{tree_any, trees_any, branches_any}
 use Rattle.smv_types.proofs.ListLaws.{or_again as or_within, or_false}
 

@@ -15,7 +15,7 @@ use Rattle.smv_language.specs.Flat.{FlatModel}
 use Rattle.smv_type_laws.specs.Costs.{model_cost, state_bits, role_width}
 use Rattle.smv_type_laws.specs.Models.{IsTyped}
 use Rattle.sat_clauses.specs.Assignment.{Assignment}
-use Rattle.smv_type_laws.specs.Least.{with_inputs, least_values}
+use Rattle.smv_type_laws.specs.LeastValues.{with_inputs, least_values}
 use Rattle.sat_encoding_laws.specs.Layout.{input_place, place_of, width_as_input}
 use Rattle.sat_encoding_laws.specs.Encodable.{IsEncodable}
 use Rattle.sat_encoding_laws.proofs.MomentMeans.{model_types}

@@ -6,7 +6,7 @@ use Rattle.sat_circuits.specs.Circuit.{Circuit, after}
 use Rattle.sat_circuits.specs.Gates.{or_gate}
 use Rattle.sat_encoding_laws.specs.Signals.{Signal, word, same_gates}
 use Rattle.sat_encoding_laws.specs.Lists.{asserted}
-use Rattle.sat_expressions.specs.Built.{BuildsLiteral}
+use Rattle.sat_expressions.specs.BuiltSignals.{BuildsLiteral}
 use Rattle.sat_encoding.specs.Domains.{some_gates, asserted_literal}
 use Rattle.sat_encoding.specs.Copies.{Builds}
 

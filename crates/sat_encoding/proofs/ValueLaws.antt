@@ -17,8 +17,8 @@ use Rattle.smv_flat_laws.specs.FlatTrace.{AreInDomains}
 use Rattle.smv_language.specs.declared.model.Variable.{Variable}
 use Rattle.smv_language.specs.ModelTree.{variable_tree, role_of}
 use Rattle.smv_type_laws.specs.Intervals.{Interval, just, hull, fits, fits_number}
-use Rattle.smv_type_laws.specs.Judged.{number_class, symbol_class, mixed_enum, unless_class}
-use Rattle.smv_type_laws.specs.Declared.{member_kind, judged_declared}
+use Rattle.smv_type_laws.specs.ExpressionKinds.{number_class, symbol_class, mixed_enum, unless_class}
+use Rattle.smv_type_laws.specs.DeclaredKinds.{member_kind, judged_declared}
 use Rattle.smv_type_laws.specs.Costs.{width_of, symbol_number, declared_width, role_width}
 use Rattle.smv_type_laws.specs.Laws.{BitsHold}
 use Rattle.smv_type_laws.proofs.Widths.{widths_least}
@@ -28,7 +28,7 @@ use Rattle.sat_clauses.specs.States.{Agrees}
 use Rattle.sat_clauses.specs.Assignment.{Assignment}
 use Rattle.sat_circuits.specs.Bits.{bit_value, natural_value, last_bit, signed_value}
 use Rattle.sat_circuits.proofs.Orders.{Fits}
-use Rattle.smv_type_laws.specs.Least.{least_member, least_value, least_values, by_role, with_inputs}
+use Rattle.smv_type_laws.specs.LeastValues.{least_member, least_value, least_values, by_role, with_inputs}
 use Rattle.sat_encoding_laws.specs.Layout.{declared_interval, state_width, input_width, width_as_input, place_of}
 use Rattle.sat_encoding_laws.specs.Inputs.{is_input}
 use Rattle.sat_encoding_laws.specs.Bits.{natural_bits, number_bits, value_number, value_bits}

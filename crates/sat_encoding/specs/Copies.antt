@@ -12,17 +12,17 @@ use Rattle.sat_encoding_laws.specs.Expressions.{its_value, encoded}
 use Rattle.sat_encoding_laws.specs.Layout.{input_bits}
 use Rattle.sat_encoding_laws.specs.Inputs.{reading_after, reads_input}
 use Rattle.sat_encoding_laws.specs.Lists.{Copy, names_of, copy_of as the_copy}
-use Rattle.sat_expressions.specs.Built.{signals_of}
+use Rattle.sat_expressions.specs.BuiltSignals.{signals_of}
 use Rattle.sat_expressions.specs.declared.names.Copied.{Copied}
-use Rattle.sat_expressions.specs.Naming.{copy_of, IsCopied}
-use Rattle.sat_encoding.specs.declared.lists.Source.{Source}
+use Rattle.sat_expressions.specs.ModelNames.{copy_of, IsCopied}
+use Rattle.sat_encoding.specs.declared.lists.ListsSource.{ListsSource}
 
 -- the model that lists are made from
-abbrev pub source_model : Source → FlatModel
+abbrev pub source_model : ListsSource → FlatModel
 source_model s = model_tree s.model.now.model
 
 -- what is known of the model beside it
-pub record IsSource (s : Source) : Type 0 where
+pub record IsSource (s : ListsSource) : Type 0 where
   pub variables : s.reading.variables.now ≡ s.model.now.model.variables
   pub reading : s.reading.definitions.items ≡ reading_after (source_model s).variables [] (source_model s).definitions
   pub symbols : s.symbols ≡ symbol_width (source_model s).symbols
@@ -35,7 +35,9 @@ IsRightFormula m f = (judged_in m false f.value).broken ≡ []
 -- the definition over those before it, or FALSE where it is left out
 abbrev pub definition_signal : FlatModel → List Signal → Bool → FlatFormula → List Signal → Circuit → Circuit × Signal
 definition_signal m variables all d done s =
-    if reads_input m d.value && not all then (s, bit (constant_lit false)) else encoded (names_of m (the_copy variables done) (the_copy variables done)) its_value d.value s
+    if reads_input m d.value
+    && not all then (s, bit (constant_lit false)) else encoded (names_of m (the_copy variables done) (the_copy variables done))
+    its_value d.value s
 
 -- r, which was built onto s, is t with these definitions over the given variables
 pub record BuildsDefinitions (over : List Signal) (s : Circuit) (r : Circuit × List Signal) (t : Circuit) (c : Copied) : Type 0 where
@@ -45,7 +47,8 @@ pub record BuildsDefinitions (over : List Signal) (s : Circuit) (r : Circuit × 
   pub grows : s.free ≤ t.free
 
 -- the definitions so far are built, and those that are left build the whole
-pub record Defines (m : FlatModel) (over : List Signal) (s : Circuit) (r rest : Circuit × List Signal) (t : Circuit) (c : Copied) : Type 0 where
+pub record Defines (m : FlatModel) (over : List Signal) (s : Circuit) (r rest : Circuit
+    × List Signal) (t : Circuit) (c : Copied) : Type 0 where
   pub left : r ≡ rest
   pub variables : signals_of c.variables ≡ over
   pub usable : IsCopied t c

@@ -1,11 +1,12 @@
 -- Which names an expression has, asked node by node.
 use Rattle.std.specs.Prelude.{Bool, false, ◌||◌}
-use Rattle.smv_language.specs.Tree.{Tree, Trees, Branches, truth, number, leaf, not_of, negate, next_of, binary, choice, case_of, set_of, span, no_tree, tree_then, no_branch, branch_then}
+use Rattle.smv_language.specs.Tree.{Tree, Trees, Branches, truth, number, leaf, not_of, negate, next_of, binary, choice, case_of, set_of}
+use Rattle.smv_language.specs.Tree.{span, no_tree, tree_then, no_branch, branch_then}
 use Rattle.smv_language.specs.Flat.{FlatLeaf}
 use Rattle.smv_language.specs.ModelTree.{variable_tree}
 use Rattle.std.specs.Prelude.{map}
 use Rattle.sat_encoding_laws.specs.Inputs.{names_input}
-use Rattle.sat_encoding.specs.declared.inputs.Reading.{Reading}
+use Rattle.sat_encoding.specs.declared.inputs.InputReads.{InputReads}
 
 -- some name of the tree passes the test
 abbrev mutual
@@ -31,5 +32,5 @@ abbrev mutual
   branches_any test (branch_then c a bs) = tree_any test c || (tree_any test a || branches_any test bs)
 
 -- the name is an input, or a definition that reads one
-abbrev pub names_read : Reading → FlatLeaf → Bool
+abbrev pub names_read : InputReads → FlatLeaf → Bool
 names_read r = names_input (map variable_tree r.variables.now) r.definitions.items

@@ -1,5 +1,6 @@
 -- Values as the code has them beside those of the definitions, their bits in an assignment, and what is read and set.
-use Rattle.std.specs.Prelude.{◌≡◌, ◌⊎◌, ℕ, zero, suc, ◌+◌, ◌≤◌, ◌<◌, nat_lt, nat_eq, not, ◌&&◌, min, ℤ, pos, negsuc, ◌+ℤ◌, Bool, true, false, Option, Some, None, unwrap_or, List, [], ◌∷◌, slice_index_or, slice_set, map, sum_by, if◌then◌else◌}
+use Rattle.std.specs.Prelude.{◌≡◌, ◌⊎◌, ℕ, zero, suc, ◌+◌, ◌≤◌, ◌<◌, nat_lt, nat_eq, not, ◌&&◌, min, ℤ, pos, negsuc, ◌+ℤ◌, Bool, true}
+use Rattle.std.specs.Prelude.{false, Option, Some, None, unwrap_or, List, [], ◌∷◌, slice_index_or, slice_set, map, sum_by, if◌then◌else◌}
 use Rattle.smv_language.specs.ProgramTree.{Text}
 use Rattle.smv_language.specs.Values as told
 use Rattle.base_values.specs.declared.value.Value.{Value}
@@ -116,8 +117,10 @@ least_in d (Some i) = value_of d i.lo
 abbrev pub values_read : List Text → Bool → Assignment → ℕ → ℕ → List Variable → List Value
 values_read symbols least a p q [] = []
 values_read symbols least a p q (x ∷ xs) =
-    (if least && is_input (role_of x.role) then least_in (variable_domain symbols x) (domain_interval (variable_domain symbols x)) else domain_read (variable_domain symbols x) a (place_of (role_of x.role) p q))
-    ∷ values_read symbols least a (capped (p + role_width (role_of x.role) (domain_width (variable_domain symbols x)))) (capped (q + width_as_input (role_of x.role) (domain_width (variable_domain symbols x)))) xs
+    (if least && is_input (role_of x.role) then least_in (variable_domain symbols x) (domain_interval (variable_domain symbols x)) else
+    domain_read (variable_domain symbols x) a (place_of (role_of x.role) p q))
+    ∷ values_read symbols least a (capped (p + role_width (role_of x.role) (domain_width (variable_domain symbols x)))) (capped (q
+    + width_as_input (role_of x.role) (domain_width (variable_domain symbols x)))) xs
 
 -- ---- bits of values
 
@@ -140,7 +143,8 @@ with_bits a n (b ∷ bs) = with_bits (slice_set a n (Some b)) (n + 1) bs
 abbrev pub bits_set : List Text → Assignment → ℕ → ℕ → List Variable → List Value → Assignment
 bits_set symbols a p q (x ∷ xs) (v ∷ vs) =
     bits_set symbols (with_bits a (place_of (role_of x.role) p q) (number_bits (domain_width (variable_domain symbols x)) (number_of v)))
-    (p + role_width (role_of x.role) (domain_width (variable_domain symbols x))) (q + width_as_input (role_of x.role) (domain_width (variable_domain symbols x))) xs vs
+    (p + role_width (role_of x.role) (domain_width (variable_domain symbols x))) (q
+    + width_as_input (role_of x.role) (domain_width (variable_domain symbols x))) xs vs
 bits_set symbols a p q _ _ = a
 
 -- the bits of these variables among those of the state, and among those of the inputs

@@ -4,7 +4,6 @@
 //! history bits are TRUE than the size says, and at least one of each listed set is FALSE. The clauses are those of
 //! the states, the top event and a counter, with one more for each listed set. [`unlisted_clause`] is that one, and
 //! [`history_literals`] the literals of the history bits that it is made of.
-
 ghost use Rattle.std.specs.Prelude.{◌≡◌, ◌≤◌, ◌-◌, ◌+◌, ◌*◌, ◌^◌, ◌++◌, IfOk, IsOk, OnOk, length, map};
 ghost use Rattle.std.specs.List.{range_with_len};
 ghost use Rattle.smv_language.specs.Trace.{Each};
@@ -15,19 +14,19 @@ ghost use Rattle.sat_encoding_laws.specs.Meanings.{IsSignal};
 ghost use Rattle.sat_encoding_laws.specs.Encodable.{IsEncodable, IsFitTop};
 ghost use Rattle.sat_encoding_laws.specs.Layout.{literals_from};
 ghost use Rattle.sat_encoding_laws.specs.Lists.{size_gates, history_literals, unlisted_clause, literal_at, bad_list};
-ghost use Rattle.sat_expressions.specs.Built.{signals_of};
+ghost use Rattle.sat_expressions.specs.BuiltSignals.{signals_of};
 ghost use Rattle.sat_encoding.specs.History.{last_numbers, literal_of, counted_circuit};
 ghost use Rattle.sat_encoding.specs.Copies.{source_model, IsSource};
 
 use crate::layout::literals_from;
-use crate::lists::{Source, holds, source_of, state_copy};
+use crate::lists::{ListsSource, holds, source_of, state_copy};
 use base_values::{Items, OutOfMemory, SetList};
 use sat_circuits::counts::at_most;
 use sat_circuits::gates::Gates;
 use sat_circuits::word::Word;
 use sat_clauses::clause::{Clause, ClauseList};
 use sat_clauses::lit::Lit;
-use sat_expressions::names::{Names, SignalList};
+use sat_expressions::names::{NamedSignals, SignalList};
 use smv_language::Expr;
 use smv_language::model::Flat;
 use smv_types::Typed;
@@ -48,7 +47,8 @@ pub fn bad_clauses(
     requires encodable { IsEncodable (model_tree t.now.model) }
     requires top { IsFitTop (model_tree t.now.model) (flat_tree top.now) }
     requires faults { faults ≤ length t.now.model.variables }
-    ensures exact { IfOk result (λ c. c ≡ bad_list (model_tree t.now.model) (flat_tree top.now) (last_numbers (model_tree t.now.model) faults) listed.now size) }
+    ensures exact { IfOk result (λ c. c
+        ≡ bad_list (model_tree t.now.model) (flat_tree top.now) (last_numbers (model_tree t.now.model) faults) listed.now size) }
 {
     let source = source_of(alloc, t)?;
     let (clauses, history) = counted(alloc, &source, top, faults, size)?;
@@ -60,7 +60,7 @@ pub fn bad_clauses(
 /// the literals of the history bits now.
 fn counted(
     alloc: Global,
-    source: &Source<'_>,
+    source: &ListsSource<'_>,
     top: &Expr<Flat>,
     faults: u32,
     size: u32,
@@ -74,7 +74,7 @@ fn counted(
     ensures history { IfOk result (λ r. r.1 ≡ history_literals (source_model source.now) (last_numbers (source_model source.now) faults)) }
 {
     let (mut g, now) = state_copy(alloc, source)?;
-    let names = Names::at(source.model, &now, source.symbols);
+    let names = NamedSignals::at(source.model, &now, source.symbols);
     holds(alloc, &mut g, &names, top)?;
     let history = last_literals(alloc, &g, &now.variables, faults)?;
     few(alloc, &mut g, history.as_slice(), size)?;
@@ -90,7 +90,8 @@ fn last_literals(
 ) -> Result<Word, OutOfMemory>
     requires usable { Each (IsSignal g.now) (signals_of signals.now) }
     requires few { count ≤ length signals.now }
-    ensures literals { IfOk result (λ w. w ≡ map (literal_of (signals_of signals.now)) (range_with_len (length signals.now - count) count)) }
+    ensures literals { IfOk result (λ w. w
+        ≡ map (literal_of (signals_of signals.now)) (range_with_len (length signals.now - count) count)) }
     ensures below { IfOk result (AllBelow g.now.free) }
 {
     let mut literals = Items::new(alloc);

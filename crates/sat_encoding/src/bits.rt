@@ -3,16 +3,16 @@
 //! [`valuation_of`] is the main function: it reads each variable from the bits that stand for it now. [`state_of`]
 //! does so for the state alone and gives each input its least value, for the last moment of a path.
 //! `src/setting.rt` goes the other way.
-
 ghost use Rattle.std.specs.Prelude.{◌≡◌, ◌≤◌, ◌<◌, ◌+◌, ◌^◌, ◌&&◌, nat_eq, ◌≤ℤ◌, ◌<ℤ◌, ◌+ℤ◌, neg_ℤ, pos, List, length, if◌then◌else◌};
 ghost use Rattle.smv_language.specs.Values.{Value as Told};
-ghost use Rattle.smv_type_laws.specs.Least.{with_inputs, least_values};
+ghost use Rattle.smv_type_laws.specs.LeastValues.{with_inputs, least_values};
 ghost use Rattle.smv_language.specs.ModelTree.{model_tree, role_of};
 ghost use Rattle.sat_encoding_laws.specs.Inputs.{is_input};
 ghost use Rattle.sat_encoding_laws.specs.Layout.{input_place};
 ghost use Rattle.sat_encoding_laws.specs.Encodable.{IsEncodable};
 ghost use Rattle.sat_encoding.specs.Domains.{domain_interval};
-ghost use Rattle.sat_encoding.specs.Values.{StandFor, HasState, HasMoment, values_in, bits_at, bits_number, has_sign, value_of, as_symbol, last_digit, domain_read, least_in, values_read};
+ghost use Rattle.sat_encoding.specs.Values.{StandFor, HasState, HasMoment, values_in, bits_at, bits_number, has_sign, value_of, as_symbol};
+ghost use Rattle.sat_encoding.specs.Values.{last_digit, domain_read, least_in, values_read};
 
 use crate::layout::{domain_width, ends_of, places_now};
 use base_values::{Domain, Valuation, Value};

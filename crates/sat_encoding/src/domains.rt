@@ -2,7 +2,6 @@
 //!
 //! `domains` is the main function. A boolean needs nothing; of a range both ends are compared; of a set of numbers
 //! or symbols one has to be the value.
-
 ghost use Rattle.std.specs.Prelude.{◌≡◌, ◌≤◌, ◌||◌, not, false, IfOk, OnOk, map, if◌then◌else◌};
 ghost use Rattle.smv_language.specs.Trace.{Each};
 ghost use Rattle.smv_language.specs.ModelTree.{model_tree, role_of};
@@ -17,7 +16,7 @@ ghost use Rattle.sat_encoding_laws.specs.Signals.{word, word_in, same_gates, bet
 ghost use Rattle.sat_encoding_laws.specs.Meanings.{IsSignal};
 ghost use Rattle.sat_encoding_laws.specs.Encodable.{IsEncodable};
 ghost use Rattle.sat_encoding_laws.specs.Lists.{Copy, names_of, domains_gates};
-ghost use Rattle.sat_expressions.specs.Built.{signal_of, signals_of, BuildsLiteral};
+ghost use Rattle.sat_expressions.specs.BuiltSignals.{signal_of, signals_of, BuildsLiteral};
 ghost use Rattle.sat_encoding.specs.Domains.{asserted_literal, some_gates, symbol_word, domain_gates};
 ghost use Rattle.sat_encoding.specs.Copies.{Builds};
 
@@ -106,7 +105,9 @@ fn some_number(
     numbers: &[i64],
 ) -> Result<(), OutOfMemory>
     requires { IsSignal g.old (signal_of signal.now) }
-    ensures { OnOk result (Builds g.old (asserted_literal (some_gates (signal_of signal.now) (map number_word numbers.now) (constant_lit false) g.old)) g.new) }
+    ensures { OnOk result
+        (Builds g.old (asserted_literal (some_gates (signal_of signal.now) (map number_word numbers.now) (constant_lit false) g.old))
+        g.new) }
 {
     let mut found = g.constant(false);
     for n in numbers {
@@ -150,7 +151,8 @@ fn or_same(
     requires found { IsBelow g.old.free found }
     requires usable { IsSignal g.old (signal_of signal.now) }
     requires word { IsWordOf g.old value }
-    ensures { IfOk result (BuildsLiteral g.old (after (same_gates (signal_of signal.now) (word value) g.old) (λ x t. or_gate found x t)) g.new) }
+    ensures { IfOk result
+        (BuildsLiteral g.old (after (same_gates (signal_of signal.now) (word value) g.old) (λ x t. or_gate found x t)) g.new) }
 {
     let here = same(alloc, g, signal, &Signal::Word(value))?;
     let made = either(g, found, here)?;

@@ -1,7 +1,6 @@
 //! Which definitions and expressions of a model read an input, themselves or through definitions.
-
 ghost use Rattle.std.specs.Prelude.{◌≡◌, [], map, IfOk, slice_get};
-ghost use Rattle.smv_language.specs.Written.{trees_of, branches_of};
+ghost use Rattle.smv_language.specs.ExpressionTree.{trees_of, branches_of};
 ghost use Rattle.smv_language.specs.Leaves.{trees_map, branches_map};
 ghost use Rattle.smv_language.specs.ModelTree.{leaf_of, flat_tree, model_tree, variable_tree};
 ghost use Rattle.sat_encoding_laws.specs.Inputs.{is_input_variable, is_flagged, reading_after};
@@ -14,7 +13,7 @@ use std::alloc::Global;
 
 /// What is known of reading inputs: the model's variables, and for each definition whether it reads one.
 #[derive(Drop)]
-pub(crate) struct Reading<'a> {
+pub(crate) struct InputReads<'a> {
     /// The variables, by number.
     pub variables: &'a [Variable],
     /// Whether the definition of a number reads an input, as far as they were looked at.
@@ -22,11 +21,12 @@ pub(crate) struct Reading<'a> {
 }
 
 /// For each definition whether it reads an input, from what those before it do.
-pub(crate) fn reading_of<'a>(alloc: Global, m: &'a FlatModel) -> Result<Reading<'a>, OutOfMemory>
+pub(crate) fn reading_of<'a>(alloc: Global, m: &'a FlatModel) -> Result<InputReads<'a>, OutOfMemory>
     ensures variables { IfOk result (λ r. r.variables.now ≡ m.now.variables) }
-    ensures reading { IfOk result (λ r. r.definitions.items ≡ reading_after (model_tree m.now).variables [] (model_tree m.now).definitions) }
+    ensures reading { IfOk result (λ r. r.definitions.items
+        ≡ reading_after (model_tree m.now).variables [] (model_tree m.now).definitions) }
 {
-    let mut reading = Reading {
+    let mut reading = InputReads {
         variables: m.variables.as_slice(),
         definitions: Vec::new(alloc),
     };
@@ -38,7 +38,7 @@ pub(crate) fn reading_of<'a>(alloc: Global, m: &'a FlatModel) -> Result<Reading<
 }
 
 /// Whether a name is an input, or a definition that reads one.
-fn names_input(reading: &Reading<'_>, name: Flat) -> bool
+fn names_input(reading: &InputReads<'_>, name: Flat) -> bool
     ensures { result ≡ names_read reading.now (leaf_of name) }
 {
     match name {
@@ -71,7 +71,7 @@ fn is_flagged(flags: &[bool], i: u32) -> bool
 /// Whether an expression reads an input. Takes no memory.
 #[cycle(reads)]
 #[tactic(auto, using(smv_language::proofs::WrittenLaws::tree_of_case, smv_language::proofs::WrittenLaws::tree_of_set))]
-pub(crate) fn reads_input(reading: &Reading<'_>, e: &Expr<Flat>) -> bool
+pub(crate) fn reads_input(reading: &InputReads<'_>, e: &Expr<Flat>) -> bool
     ensures { result ≡ tree_any (names_read reading.now) (flat_tree e.now) }
 {
     match e {
@@ -89,7 +89,7 @@ pub(crate) fn reads_input(reading: &Reading<'_>, e: &Expr<Flat>) -> bool
 
 // Whether a member of a set does.
 #[cycle(reads)]
-fn member_reads(reading: &Reading<'_>, members: &[Expr<Flat>]) -> bool
+fn member_reads(reading: &InputReads<'_>, members: &[Expr<Flat>]) -> bool
     ensures { result ≡ trees_any (names_read reading.now) (trees_map leaf_of (trees_of members.now)) }
 {
     for member in members {
@@ -102,7 +102,7 @@ fn member_reads(reading: &Reading<'_>, members: &[Expr<Flat>]) -> bool
 
 // Whether a condition or a value of a case does.
 #[cycle(reads)]
-fn branch_reads(reading: &Reading<'_>, branches: &[(Expr<Flat>, Expr<Flat>)]) -> bool
+fn branch_reads(reading: &InputReads<'_>, branches: &[(Expr<Flat>, Expr<Flat>)]) -> bool
     ensures { result ≡ branches_any (names_read reading.now) (branches_map leaf_of (branches_of branches.now)) }
 {
     for (condition, value) in branches {

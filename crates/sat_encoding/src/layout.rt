@@ -1,12 +1,12 @@
 //! Which variables of the clause lists are the bits of a model's variables.
-
 ghost use Rattle.std.specs.Prelude.{◌≡◌, ◌≤◌, ◌<◌, ◌+◌, ◌^◌, pos, None, Some, map, IfOk, IsOk, OnOk};
 ghost use Rattle.smv_types.specs.Types.{spread};
 ghost use Rattle.smv_language.specs.ModelTree.{model_tree, role_of};
 ghost use Rattle.sat_encoding_laws.specs.Widths.{symbol_width};
 ghost use Rattle.sat_encoding_laws.specs.Encodable.{IsEncodable};
-ghost use Rattle.sat_encoding_laws.specs.Layout.{literals_from, with_sign, number_signal, place_of, width_as_input, variable_signals, input_bits, input_place, next_place};
-ghost use Rattle.sat_expressions.specs.Built.{signal_of, signals_of};
+ghost use Rattle.sat_encoding_laws.specs.Layout.{literals_from, with_sign, number_signal, place_of, width_as_input, variable_signals};
+ghost use Rattle.sat_encoding_laws.specs.Layout.{input_bits, input_place, next_place};
+ghost use Rattle.sat_expressions.specs.BuiltSignals.{signal_of, signals_of};
 ghost use Rattle.sat_encoding.specs.Domains.{domain_interval, domain_width, value_width, domain_signal, places_after, capped};
 
 use base_values::{Domain, Items, OutOfMemory};
@@ -188,7 +188,8 @@ pub(crate) fn variable_signals(
     requires symbols { symbols ≡ symbol_width (model_tree t.now.model).symbols }
     requires state { 1 ≤ first.state }
     requires input { 1 ≤ first.input }
-    ensures { IfOk result (λ es. signals_of es ≡ variable_signals (model_tree t.now.model).symbols first.state first.input (model_tree t.now.model).variables) }
+    ensures { IfOk result (λ es. signals_of es
+        ≡ variable_signals (model_tree t.now.model).symbols first.state first.input (model_tree t.now.model).variables) }
 {
     let mut signals = Items::new(alloc);
     let mut places = first;

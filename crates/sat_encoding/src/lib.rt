@@ -4,8 +4,8 @@
 //! state bits and u input bits, the state now has the variables 2 to b + 1, the state next b + 2 to
 //! 2b + 1, and the inputs 2b + 2 to 2b + u + 1; all further variables are those of gates. [`encode`]
 //! makes the lists of a model's first states and steps, and [`bad_clauses`] that of its bad states; who needs one list at a time
-//! has the first states from [`first_gates`], the steps from [`step_gates`] and all states from [`state_gates`]. A search that lists one set
-//! more adds its [`unlisted_clause`], over the [`history_literals`]. [`bits_of`] sets the bits of a valuation, and [`valuation_of`] and
+//! has the first states from [`first_gates`], the steps from [`step_gates`] and all states from [`state_gates`]. A search that lists one
+//! set more adds its [`unlisted_clause`], over the [`history_literals`]. [`bits_of`] sets the bits of a valuation, and [`valuation_of`] and
 //! [`state_of`] read one. What the lists are, gate by gate, and what they mean stands in `sat_encoding_laws`; the passes here build them in
 //! one go over each formula, and each gate only appends its clauses.
 //!

@@ -4,7 +4,6 @@
 //! A copy of the model at one moment is the gates of its definitions, with the clauses that its domains and its INVAR formulas hold; the
 //! first states are one copy with INIT, the steps two with TRANS. What reads an input is left out of the copy of a state, so that states
 //! do not depend on inputs.
-
 ghost use Rattle.std.specs.Prelude.{◌≡◌, ◌≤◌, ◌<◌, ◌^◌, [], false, IfOk, IsOk, OnOk, map};
 ghost use Rattle.smv_language.specs.Trace.{Each};
 ghost use Rattle.smv_language.specs.ModelTree.{model_tree, formula_tree, flat_tree};
@@ -14,20 +13,22 @@ ghost use Rattle.sat_encoding_laws.specs.Layout.{variable_signals, signals_now, 
 ghost use Rattle.sat_encoding_laws.specs.Meanings.{IsSignal};
 ghost use Rattle.sat_encoding_laws.specs.Encodable.{IsEncodable};
 ghost use Rattle.sat_encoding_laws.specs.Expressions.{its_value, encoded};
-ghost use Rattle.sat_encoding_laws.specs.Lists.{asserted_signal, definitions_gates, formulas_gates, moment_gates, copy_gates, start_of, state_circuit, state_list, first_list, step_list, system_of};
-ghost use Rattle.sat_expressions.specs.Built.{signals_of, BuildsSignal};
-ghost use Rattle.sat_expressions.specs.Naming.{model_of, names_in, copy_of, IsCopied, IsNamed};
-ghost use Rattle.sat_encoding.specs.Copies.{source_model, IsSource, IsRightFormula, definition_signal, BuildsDefinitions, BuildsCopy, Builds, IsPlaced};
+ghost use Rattle.sat_encoding_laws.specs.Lists.{asserted_signal, definitions_gates, formulas_gates, moment_gates, copy_gates, start_of};
+ghost use Rattle.sat_encoding_laws.specs.Lists.{state_circuit, state_list, first_list, step_list, system_of};
+ghost use Rattle.sat_expressions.specs.BuiltSignals.{signals_of, BuildsSignal};
+ghost use Rattle.sat_expressions.specs.ModelNames.{model_of, names_in, copy_of, IsCopied, IsNamed};
+ghost use Rattle.sat_encoding.specs.Copies.{source_model, IsSource, IsRightFormula, definition_signal, BuildsDefinitions, BuildsCopy};
+ghost use Rattle.sat_encoding.specs.Copies.{Builds, IsPlaced};
 
 use crate::domains::domains;
-use crate::inputs::{Reading, reading_of, reads_input};
+use crate::inputs::{InputReads, reading_of, reads_input};
 use crate::layout::{Places, input_bits, places_next, places_now, variable_signals};
 use base_values::{Items, OutOfMemory};
 use sat_circuits::gates::Gates;
 use sat_clauses::System;
 use sat_expressions::expression::expression;
-use sat_expressions::names::{Copied, Names, SignalList};
-use sat_expressions::part::Asked;
+use sat_expressions::names::{Copied, NamedSignals, SignalList};
+use sat_expressions::part::AskedSignal;
 use sat_expressions::signal::Signal;
 use sat_expressions::width::symbol_width;
 use smv_language::Expr;
@@ -37,11 +38,11 @@ use std::alloc::Global;
 
 /// What all lists of a model are made from.
 #[derive(Drop)]
-pub(crate) struct Source<'a> {
+pub(crate) struct ListsSource<'a> {
     /// The model with its kinds.
     pub model: &'a Typed,
     /// Which definitions read an input.
-    pub reading: Reading<'a>,
+    pub reading: InputReads<'a>,
     /// The bits of the word of a symbol.
     pub symbols: u32,
     /// How many bits the inputs have.
@@ -49,7 +50,7 @@ pub(crate) struct Source<'a> {
 }
 
 /// What the lists of a model are made from.
-pub(crate) fn source_of<'a>(alloc: Global, t: &'a Typed) -> Result<Source<'a>, OutOfMemory>
+pub(crate) fn source_of<'a>(alloc: Global, t: &'a Typed) -> Result<ListsSource<'a>, OutOfMemory>
     requires encodable { IsEncodable (model_tree t.now.model) }
     ensures model { IfOk result (λ s. s.model.now.model ≡ t.now.model) }
     ensures source { IfOk result IsSource }
@@ -57,7 +58,7 @@ pub(crate) fn source_of<'a>(alloc: Global, t: &'a Typed) -> Result<Source<'a>, O
     let m: &FlatModel = t.model();
     let reading = reading_of(alloc, m)?;
     let inputs = input_bits(t)?;
-    Ok(Source {
+    Ok(ListsSource {
         model: t,
         reading,
         symbols: symbol_width(m.symbols.len()),
@@ -114,7 +115,7 @@ pub fn state_gates(alloc: Global, t: &Typed) -> Result<Gates, OutOfMemory>
 }
 
 /// The variable of the first gate, past the bits. Want of memory, where it is none of those below 2^31, and only there.
-fn first_gate(source: &Source<'_>) -> Result<u64, OutOfMemory>
+fn first_gate(source: &ListsSource<'_>) -> Result<u64, OutOfMemory>
     requires source { IsSource source.now }
     ensures place { IfOk result (λ n. n ≡ gates_place (source_model source.now)) }
     ensures least { IfOk result (λ n. 2 ≤ n) }
@@ -129,7 +130,7 @@ fn first_gate(source: &Source<'_>) -> Result<u64, OutOfMemory>
 }
 
 /// No gate yet: variable 1 is true, and gates begin past the bits.
-fn start(alloc: Global, source: &Source<'_>) -> Result<Gates, OutOfMemory>
+fn start(alloc: Global, source: &ListsSource<'_>) -> Result<Gates, OutOfMemory>
     requires source { IsSource source.now }
     ensures { IfOk result (λ g. g ≡ start_of (source_model source.now)) }
 {
@@ -139,7 +140,10 @@ fn start(alloc: Global, source: &Source<'_>) -> Result<Gates, OutOfMemory>
 }
 
 /// The copy of a model now, without what reads inputs.
-pub(crate) fn state_copy(alloc: Global, source: &Source<'_>) -> Result<(Gates, Copied), OutOfMemory>
+pub(crate) fn state_copy(
+    alloc: Global,
+    source: &ListsSource<'_>,
+) -> Result<(Gates, Copied), OutOfMemory>
     requires source { IsSource source.now }
     requires encodable { IsEncodable (source_model source.now) }
     ensures copy { IfOk result (λ r. BuildsCopy (start_of (source_model source.now)) (state_circuit (source_model source.now)) r.0 r.1) }
@@ -151,7 +155,7 @@ pub(crate) fn state_copy(alloc: Global, source: &Source<'_>) -> Result<(Gates, C
 }
 
 /// The copy now with all definitions and domains, then that of the next moment, and what holds of the two.
-fn step_circuit(alloc: Global, source: &Source<'_>) -> Result<Gates, OutOfMemory>
+fn step_circuit(alloc: Global, source: &ListsSource<'_>) -> Result<Gates, OutOfMemory>
     requires source { IsSource source.now }
     requires encodable { IsEncodable (source_model source.now) }
     ensures { IfOk result (λ g. g.clauses ≡ step_list (source_model source.now)) }
@@ -160,7 +164,7 @@ fn step_circuit(alloc: Global, source: &Source<'_>) -> Result<Gates, OutOfMemory
     let mut g = start(alloc, source)?;
     let now = copied(alloc, &mut g, source, places_now(t), true)?;
     let next = copied(alloc, &mut g, source, places_next(t), false)?;
-    let names = Names {
+    let names = NamedSignals {
         model: t,
         current: &now,
         next: &next,
@@ -171,13 +175,13 @@ fn step_circuit(alloc: Global, source: &Source<'_>) -> Result<Gates, OutOfMemory
 }
 
 /// The copy now without what reads inputs, and what holds of it at first.
-fn first_circuit(alloc: Global, source: &Source<'_>) -> Result<Gates, OutOfMemory>
+fn first_circuit(alloc: Global, source: &ListsSource<'_>) -> Result<Gates, OutOfMemory>
     requires source { IsSource source.now }
     requires encodable { IsEncodable (source_model source.now) }
     ensures { IfOk result (λ g. g.clauses ≡ first_list (source_model source.now)) }
 {
     let (mut g, now) = state_copy(alloc, source)?;
-    let names = Names::at(source.model, &now, source.symbols);
+    let names = NamedSignals::at(source.model, &now, source.symbols);
     formulas(alloc, &mut g, &names, source.model.model().init.as_slice())?;
     Ok(g)
 }
@@ -187,7 +191,7 @@ fn first_circuit(alloc: Global, source: &Source<'_>) -> Result<Gates, OutOfMemor
 fn copied(
     alloc: Global,
     g: &mut Gates,
-    source: &Source<'_>,
+    source: &ListsSource<'_>,
     places: Places,
     all: bool,
 ) -> Result<Copied, OutOfMemory>
@@ -197,7 +201,8 @@ fn copied(
     requires input { 1 ≤ places.input }
     requires placed { IsPlaced (source_model source.now) g.old places.state places.input }
     ensures copy { IfOk result (BuildsCopy g.old (copy_gates (source_model source.now)
-        (variable_signals (source_model source.now).symbols places.state places.input (source_model source.now).variables) all g.old) g.new) }
+        (variable_signals (source_model source.now).symbols places.state places.input (source_model source.now).variables) all g.old)
+        g.new) }
     ensures variables { IfOk result (λ c. signals_of c.variables
         ≡ variable_signals (source_model source.now).symbols places.state places.input (source_model source.now).variables) }
 {
@@ -213,7 +218,7 @@ fn copied(
 fn moment(
     alloc: Global,
     g: &mut Gates,
-    source: &Source<'_>,
+    source: &ListsSource<'_>,
     copy: &Copied,
     all: bool,
 ) -> Result<(), OutOfMemory>
@@ -223,7 +228,7 @@ fn moment(
     ensures { OnOk result (Builds g.old (moment_gates (source_model source.now) (copy_of copy.now) all g.old) g.new) }
 {
     domains(alloc, g, source.model, &copy.variables, source.symbols, all)?;
-    let names = Names::at(source.model, copy, source.symbols);
+    let names = NamedSignals::at(source.model, copy, source.symbols);
     formulas(alloc, g, &names, source.model.model().invar.as_slice())?;
     Ok(())
 }
@@ -232,14 +237,16 @@ fn moment(
 fn definitions(
     alloc: Global,
     g: &mut Gates,
-    source: &Source<'_>,
+    source: &ListsSource<'_>,
     variables: SignalList,
     all: bool,
 ) -> Result<Copied, OutOfMemory>
     requires source { IsSource source.now }
     requires encodable { IsEncodable (source_model source.now) }
     requires usable { Each (IsSignal g.old) (signals_of variables) }
-    ensures { IfOk result (BuildsDefinitions (signals_of variables) g.old (definitions_gates (source_model source.now) (signals_of variables) all g.old) g.new) }
+    ensures { IfOk result
+        (BuildsDefinitions (signals_of variables) g.old (definitions_gates (source_model source.now) (signals_of variables) all g.old)
+        g.new) }
 {
     let mut copy = Copied {
         variables,
@@ -256,7 +263,7 @@ fn definitions(
 fn definition(
     alloc: Global,
     g: &mut Gates,
-    source: &Source<'_>,
+    source: &ListsSource<'_>,
     copy: &Copied,
     d: &Formula,
     all: bool,
@@ -270,8 +277,8 @@ fn definition(
     if reads_input(&source.reading, &d.value) && !all {
         return Ok(Signal::Bit(g.constant(false)));
     }
-    let names = Names::at(source.model, copy, source.symbols);
-    let part = expression(alloc, g, &names, Asked::ItsValue, &d.value)?;
+    let names = NamedSignals::at(source.model, copy, source.symbols);
+    let part = expression(alloc, g, &names, AskedSignal::ItsValue, &d.value)?;
     Ok(part.signal)
 }
 
@@ -279,7 +286,7 @@ fn definition(
 pub(crate) fn formulas(
     alloc: Global,
     g: &mut Gates,
-    names: &Names<'_>,
+    names: &NamedSignals<'_>,
     formulas: &[Formula],
 ) -> Result<(), OutOfMemory>
     requires named { IsNamed g.old names.now }
@@ -296,14 +303,14 @@ pub(crate) fn formulas(
 pub(crate) fn holds(
     alloc: Global,
     g: &mut Gates,
-    names: &Names<'_>,
+    names: &NamedSignals<'_>,
     e: &Expr<Flat>,
 ) -> Result<(), OutOfMemory>
     requires named { IsNamed g.old names.now }
     requires right { (judged_in (model_of names.now) false (flat_tree e.now)).broken ≡ [] }
     ensures { OnOk result (Builds g.old (asserted_signal (encoded (names_in names.now) its_value (flat_tree e.now) g.old)) g.new) }
 {
-    let part = expression(alloc, g, names, Asked::ItsValue, e)?;
+    let part = expression(alloc, g, names, AskedSignal::ItsValue, e)?;
     let l = part.signal.literal(g);
     g.assert_true(l)?;
     Ok(())

@@ -1,7 +1,6 @@
 //! From the values of a model's variables to the bits of an assignment.
 //!
 //! [`bits_of`] is the main function: it sets the bits that stand for each variable now. `src/bits.rt` reads them back.
-
 ghost use Rattle.std.specs.Prelude.{ℕ, None, slice_index_or, ◌≡◌, ◌≤◌, ◌<◌, ◌+◌, ◌^◌, List, length};
 ghost use Rattle.smv_language.specs.Values.{Value as Told};
 ghost use Rattle.smv_flat_laws.specs.FlatTrace.{AreInDomains};

@@ -7,8 +7,8 @@ use Rattle.smv_language.specs.Values.{Value, truth, number, symbol, Values, one,
 use Rattle.smv_language.specs.Evaluate.{gives_one, gives_applied, gives_binary, gives_choice}
 use Rattle.sat_clauses.specs.Models.{TotalAssignment}
 use Rattle.smv_type_laws.specs.Intervals.{Interval}
-use Rattle.smv_type_laws.specs.Judged.{Class, truth_class, number_class, symbol_class, KindRule, Judged, where_kept, judged_binary}
-use Rattle.smv_type_laws.specs.Safe.{DividesByNoZero, IsOfClass, LiesIn}
+use Rattle.smv_type_laws.specs.ExpressionKinds.{Class, truth_class, number_class, symbol_class, KindRule, Judged, where_kept, judged_binary}
+use Rattle.smv_type_laws.specs.KindValues.{DividesByNoZero, IsOfClass, LiesIn}
 use Rattle.smv_type_laws.proofs.Parts.{none_first, none_second, Bounded, Alone, Sound}
 use Rattle.sat_encoding_laws.specs.Widths.{width_by, kind_width}
 use Rattle.sat_encoding_laws.specs.Signals.{Signal}

@@ -9,7 +9,7 @@ use Rattle.smv_language.specs.Trace.{Each, AtSome, in_domain}
 use Rattle.smv_language.specs.Values.{Value, truth, number, symbol}
 use Rattle.smv_language.specs.Flat.{FlatLeaf, flat_variable, FlatVariable, FlatFormula, FlatModel, Holds, FlatMay}
 use Rattle.smv_flat_laws.specs.FlatTrace.{AreInDomains}
-use Rattle.smv_type_laws.specs.Judged.{truth_class, not_boolean, unless_class}
+use Rattle.smv_type_laws.specs.ExpressionKinds.{truth_class, not_boolean, unless_class}
 use Rattle.smv_type_laws.specs.Models.{judged_in}
 use Rattle.smv_type_laws.specs.Laws.{IsDecided}
 use Rattle.smv_type_laws.proofs.Parts.{none_second}
@@ -32,7 +32,7 @@ use Rattle.sat_encoding_laws.specs.Layout.{input_place, gates_place, variable_si
 use Rattle.sat_encoding_laws.specs.Lists.{names_of, signal_or_false, asserted_signal, start_of, state_circuit, system_of, history_literals, literal_at, unlisted_clause, size_gates, bad_list}
 use Rattle.sat_encoding_laws.specs.Bits.{state_of}
 use Rattle.sat_encoding_laws.specs.Encodable.{IsEncodable, IsFitTop, IsStateBoolean}
-use Rattle.sat_encoding_laws.specs.Encoded.{is_true_value, is_true_at, is_true_in, bit_of, IsBadMoment, IsBadListOf}
+use Rattle.sat_encoding_laws.specs.Encodings.{is_true_value, is_true_at, is_true_in, bit_of, IsBadMoment, IsBadListOf}
 use Rattle.sat_encoding_laws.proofs.Parts.{literal_below, truth_in_bit, IsLiteral}
 use Rattle.sat_encoding_laws.proofs.NameMeans.{AreSignals, signal_at_usable, left_out, SoFar}
 use Rattle.sat_encoding_laws.proofs.Says.{Says, says_built, says_asserted, says_same}

@@ -6,7 +6,7 @@ use Rattle.smv_language.specs.Scope.{Role, state, input, frozen_role}
 use Rattle.smv_language.specs.Values.{Value}
 use Rattle.smv_language.specs.Flat.{FlatVariable}
 use Rattle.smv_flat_laws.specs.FlatTrace.{AreInDomains}
-use Rattle.smv_type_laws.specs.Least.{by_role, with_inputs}
+use Rattle.smv_type_laws.specs.LeastValues.{by_role, with_inputs}
 use Rattle.sat_encoding_laws.specs.Bits.{value_bits, bits_of}
 use Rattle.sat_encoding_laws.specs.Inputs.{is_input}
 use Rattle.sat_encoding_laws.specs.Laws.{BitsGoByRole}

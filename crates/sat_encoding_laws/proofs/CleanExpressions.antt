@@ -9,7 +9,7 @@ use Rattle.sat_circuits.specs.Gates.{constant_lit}
 use Rattle.sat_circuits.specs.Numbers.{number_word}
 use Rattle.sat_encoding_laws.specs.Signals.{Signal, bit, word, literal_in, word_in, as_bit, as_word, turned, fitted, same_gates, choice_gates, between_gates, operator_gates}
 use Rattle.sat_encoding_laws.specs.Expressions.{Asked, its_value, whether_has, Names, at_next, answer, both_gates, encoded, encoded_branches, encoded_members}
-use Rattle.sat_encoding_laws.specs.Reads.{Reads, ReadsTrees, ReadsBranches}
+use Rattle.sat_encoding_laws.specs.ReadNames.{Reads, ReadsTrees, ReadsBranches}
 use Rattle.sat_encoding_laws.proofs.CleanGates.{IsOpen, CleanLiteral, CleanWord, IsClean, Clean, clean_after, clean_fit, clean_number, clean_and, clean_or, clean_xor, clean_mux, clean_add, clean_subtract, clean_negate, clean_less, clean_equal, clean_multiply, clean_choose, clean_divide, clean_remainder}
 
 module _ (n : ℕ) (A : ℕ → Type 0) (o : IsOpen n A) where

@@ -11,7 +11,7 @@ use Rattle.smv_language.specs.ProgramTree.{DeclaredTree, boolean, range, members
 use Rattle.smv_language.specs.Scope.{Role, state, input, frozen_role}
 use Rattle.smv_language.specs.Trace.{Each}
 use Rattle.smv_language.specs.Flat.{FlatLeaf, flat_variable, flat_symbol, flat_definition, FlatVariable, FlatFormula, FlatModel}
-use Rattle.smv_type_laws.specs.Declared.{judged_declared}
+use Rattle.smv_type_laws.specs.DeclaredKinds.{judged_declared}
 use Rattle.smv_type_laws.specs.Costs.{state_bits, declared_width, role_width, width_of}
 use Rattle.sat_clauses.specs.Literal.{Literal}
 use Rattle.sat_circuits.specs.Circuit.{Circuit, after, fold_gates}
@@ -21,7 +21,7 @@ use Rattle.sat_circuits.specs.Numbers.{number_word}
 use Rattle.sat_encoding_laws.specs.Widths.{kind_width, symbol_width}
 use Rattle.sat_encoding_laws.specs.Signals.{Signal, bit, literal_in, as_bit}
 use Rattle.sat_encoding_laws.specs.Expressions.{its_value, whether_has, encoded}
-use Rattle.sat_encoding_laws.specs.Reads.{Reads, ReadsTrees}
+use Rattle.sat_encoding_laws.specs.ReadNames.{Reads, ReadsTrees}
 use Rattle.sat_encoding_laws.specs.Inputs.{is_input, is_input_variable, reads_input}
 use Rattle.sat_encoding_laws.specs.Layout.{state_width, input_width, literals_from, with_sign, variable_signal, place_of, variable_signals, signals_now, input_place, gates_place}
 use Rattle.sat_encoding_laws.specs.Lists.{signal_or_false, leaf_signal, Copy, copy_of, names_of, definition_gates, definitions_gates, asserted, asserted_signal, formulas_gates, member_tree, type_tree, type_gates, domains_gates, start_of, state_circuit, history_literals, literal_at, unlisted_clause, size_gates}

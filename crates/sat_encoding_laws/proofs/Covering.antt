@@ -13,7 +13,7 @@ use Rattle.sat_clauses.specs.declared.system.System.{System}
 use Rattle.sat_clauses.specs.States.{State, IsStepOf, IsStepUnder, InFrame, IsInvariant}
 use Rattle.cut_right_laws.specs.Sets.{is_contained}
 use Rattle.cut_right_laws.specs.Right.{HasFailedAll, HasFailedAtMost}
-use Rattle.sat_encoding_laws.specs.Encoded.{is_true_at, bit_of, IsEncodingOf, IsBadListOf}
+use Rattle.sat_encoding_laws.specs.Encodings.{is_true_at, bit_of, IsEncodingOf, IsBadListOf}
 use Rattle.sat_encoding_laws.specs.FlatTraces.{ReachesTop, HasFailedNumber, failed_set, last_of, history_of, failed_in, IsNumbered}
 use Rattle.sat_encoding_laws.specs.EncodedLaws.{AreOwn, IsEncoded, InvariantsCover}
 use Rattle.sat_encoding_laws.proofs.SetLaws.{true_or_false, has_contains, contains_has, contained_has}

@@ -25,8 +25,8 @@ use Rattle.sat_circuits.specs.Numbers.{number_word}
 use Rattle.sat_circuits.proofs.DigitMeans.{constant-value, number_word-word}
 use Rattle.sat_circuits.proofs.TestMeans.{equal_gates-gives}
 use Rattle.smv_type_laws.specs.Intervals.{Interval, fits_number}
-use Rattle.smv_type_laws.specs.Judged.{number_class, symbol_class, mixed_enum, empty_range, rule_if, unless_class, wide}
-use Rattle.smv_type_laws.specs.Declared.{member_kind, judged_declared}
+use Rattle.smv_type_laws.specs.ExpressionKinds.{number_class, symbol_class, mixed_enum, empty_range, rule_if, unless_class, wide}
+use Rattle.smv_type_laws.specs.DeclaredKinds.{member_kind, judged_declared}
 use Rattle.smv_type_laws.specs.Costs.{member_number, symbol_number, number_kind}
 use Rattle.smv_type_laws.proofs.Parts.{none_first, none_second, wide_bounded}
 use Rattle.smv_lexer.proofs.SignLemmas.{both_true}

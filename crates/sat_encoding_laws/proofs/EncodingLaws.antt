@@ -8,7 +8,7 @@ use Rattle.smv_type_laws.proofs.Typed.{model_holds}
 use Rattle.sat_circuits.proofs.Extension.{Means-weaker}
 use Rattle.sat_encoding_laws.specs.Expressions.{Asked, its_value, whether_has}
 use Rattle.sat_encoding_laws.specs.Meanings.{IsSignal}
-use Rattle.sat_encoding_laws.specs.Reads.{Reads, ReadsTrees, ReadsBranches}
+use Rattle.sat_encoding_laws.specs.ReadNames.{Reads, ReadsTrees, ReadsBranches}
 use Rattle.sat_encoding_laws.specs.Encodable.{IsKnownName}
 use Rattle.sat_encoding_laws.specs.Laws.{ExpressionsAreEncoded, WordsHoldKinds, ModelsAreEncoded, BadStatesAreEncoded, IsAskedIn, IsAskedOf}
 use Rattle.sat_encoding_laws.proofs.ExpressionMeans.{encoded-means}

@@ -28,13 +28,13 @@ use Rattle.sat_circuits.proofs.DigitMeans.{constant-value, number_word-word}
 use Rattle.sat_circuits.proofs.SumMeans.{negate_gates-gives}
 use Rattle.smv_lexer.proofs.SignLemmas.{both_true}
 use Rattle.smv_type_laws.specs.Intervals.{Interval, just, fits_number, fits}
-use Rattle.smv_type_laws.specs.Judged.{Class, truth_class, number_class, symbol_class, Kind, KindRule, mismatch, not_boolean, set_here, empty_range, case_end, rule_if, unless_class, wide, joined, first_class, unlike_first, hull_of, broken_in, kinds_in, some_set, ends_in_true, Judged, judge, judge_trees, judge_conditions, judge_values}
-use Rattle.smv_type_laws.specs.Safe.{IsOfClass, LiesIn}
+use Rattle.smv_type_laws.specs.ExpressionKinds.{Class, truth_class, number_class, symbol_class, Kind, KindRule, mismatch, not_boolean, set_here, empty_range, case_end, rule_if, unless_class, wide, joined, first_class, unlike_first, hull_of, broken_in, kinds_in, some_set, ends_in_true, Judged, judge, judge_trees, judge_conditions, judge_values}
+use Rattle.smv_type_laws.specs.KindValues.{IsOfClass, LiesIn}
 use Rattle.smv_type_laws.proofs.Parts.{none_first, none_second, not_if, not_false, wide_bounded, joined_left, joined_right, Inside, hull_of_holds, Alone, class_kept}
 use Rattle.smv_type_laws.proofs.Rows.{truth_given, number_given}
 use Rattle.smv_type_laws.proofs.TreeLaws.{no_set, word_true, single, Hold, sound, branches_sound}
 use Rattle.smv_type_laws.proofs.SafeLaws.{safe}
-use Rattle.sat_encoding_laws.specs.Reads.{Reads, ReadsTrees, ReadsBranches}
+use Rattle.sat_encoding_laws.specs.ReadNames.{Reads, ReadsTrees, ReadsBranches}
 use Rattle.sat_encoding_laws.specs.Widths.{kind_width, width_by}
 use Rattle.sat_encoding_laws.specs.Signals.{Signal, bit, word, literal_in, word_in, fitted, same_gates}
 use Rattle.sat_encoding_laws.specs.Expressions.{Asked, its_value, whether_has, Names, at_next, answer, both_gates, encoded, encoded_branches, encoded_members}

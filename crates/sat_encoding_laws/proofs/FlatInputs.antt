@@ -11,7 +11,7 @@ use Rattle.smv_language.specs.Scope.{Place, Role, state, input, frozen_role, Kin
 use Rattle.smv_language.specs.Trace.{Each, AtSome, IsInstance, IsVariable, EachBoth}
 use Rattle.smv_language.specs.Flat.{FlatLeaf, flat_variable, flat_symbol, flat_definition, FlatInstance, FlatVariable, FlatFormula, FlatModel}
 use Rattle.smv_flat_laws.specs.Items.{Item, a_declaration, a_definition, an_assignment, some_constants, an_init, an_invar, a_trans, items_of, NumberedItem, visits, variables_of, items_named, instances_of}
-use Rattle.smv_flat_laws.specs.Resolved.{leaves_in, Definition, StandsFor, IsLeafOf, IsResolved, IsBefore}
+use Rattle.smv_flat_laws.specs.NameResolution.{leaves_in, Definition, StandsFor, IsLeafOf, IsResolved, IsBefore}
 use Rattle.smv_flat_laws.specs.Rules.{not_a_target, input_here, leaves_under, trees_leaves_under, branches_leaves_under, is_later, inputs_judged, may_be_assigned, is_target, names_of_item, is_name_again, BreaksInputs, BreaksTarget, a_use, module_sites, visit_sites, use_sites, IsKept, is_input_kind, MeansInput, GivesInput, Leads, expression_of, IsAccepted, IsWalkable}
 use Rattle.smv_flat_laws.specs.Model.{Condition, plain, now_among, next_among, kept, assigned_first, assigned_each, assigned_step, first_conditions, each_conditions, step_conditions, kept_declared, kept_conditions, Written, written_at, conditions, IsVariableNumber, IsConditionTree, IsFormulaOf, IsFlatOf, IsVariableOf, IsDefinitionOf}
 use Rattle.smv_flat_laws.proofs.Variables.{both_at, both_at_second, RealVariable, real_variables}

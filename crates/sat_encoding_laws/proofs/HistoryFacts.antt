@@ -13,7 +13,7 @@ use Rattle.smv_flat_laws.proofs.HistoryTraces.{get_middle}
 use Rattle.cut_right_laws.specs.Right.{HasFailedExactly}
 use Rattle.cut_right_laws.specs.Sets.{has_number, is_contained}
 use Rattle.sat_encoding_laws.specs.FlatTraces.{IsNumbered}
-use Rattle.sat_encoding_laws.specs.Encoded.{is_true_value, is_true_at, is_true_in, bit_of}
+use Rattle.sat_encoding_laws.specs.Encodings.{is_true_value, is_true_at, is_true_in, bit_of}
 use Rattle.sat_encoding_laws.specs.FlatTraces.{HasFailedNumber, numbers_where, failed_set, last_of, history_of, failed_in}
 use Rattle.sat_encoding_laws.proofs.SetLaws.{true_or_false, has_contains, contains_has}
 use Rattle.sat_encoding_laws.proofs.Numbers.{where_has, where_from, where_to, where_rising, no_more_numbers}

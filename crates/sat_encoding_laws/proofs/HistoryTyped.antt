@@ -5,8 +5,8 @@ use Rattle.smv_language.specs.declared.expr.Op.TheVariants as op
 use Rattle.smv_language.specs.Trace.{Each}
 use Rattle.smv_language.specs.Flat.{FlatLeaf, flat_variable, flat_symbol, flat_definition, FlatVariable, FlatFormula, FlatModel}
 use Rattle.smv_flat_laws.specs.History.{Mode, bit_variables, bits_at_first, bits_at_step, with_history}
-use Rattle.smv_type_laws.specs.Judged.{Class, truth_class, symbol_class, Judged, judge, judged_binary}
-use Rattle.smv_type_laws.specs.Declared.{judged_declared}
+use Rattle.smv_type_laws.specs.ExpressionKinds.{Class, truth_class, symbol_class, Judged, judge, judged_binary}
+use Rattle.smv_type_laws.specs.DeclaredKinds.{judged_declared}
 use Rattle.smv_type_laws.specs.Models.{kind_at, leaf_kind, judged_variables, judged_after, judged_definitions, kind_of_leaf, judged_in, broken_condition, breaches_at, variable_breaches, definition_breaches, condition_breaches}
 use Rattle.smv_type_laws.specs.Laws.{IsKnown, AreInOrder, ReadOwn, IsClosed}
 use Rattle.smv_type_laws.proofs.Parts.{none_first, none_second}

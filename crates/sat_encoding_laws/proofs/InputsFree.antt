@@ -9,7 +9,7 @@ use Rattle.smv_language.specs.Evaluate.{Leaves, evaluate, evaluate_trees, evalua
 use Rattle.smv_language.specs.Trace.{Each, AtSome}
 use Rattle.smv_language.specs.Flat.{FlatLeaf, flat_variable, flat_symbol, flat_definition, FlatVariable, FlatFormula, FlatModel, one_of, given, flat_leaves, definition_gives, table_after, leaves_at, Holds, FlatMay}
 use Rattle.smv_flat_laws.specs.FlatTrace.{AreInDomains, IsFlatMoment}
-use Rattle.smv_flat_laws.specs.Resolved.{leaves_in}
+use Rattle.smv_flat_laws.specs.NameResolution.{leaves_in}
 use Rattle.smv_flat_laws.specs.Rules.{leaves_under, trees_leaves_under, branches_leaves_under}
 use Rattle.smv_flat_laws.proofs.Lists.{each_more}
 use Rattle.smv_flat_laws.proofs.Reaches.{each_left, each_right}
@@ -17,7 +17,7 @@ use Rattle.smv_flat_laws.proofs.Conditions.{MayBe}
 use Rattle.smv_flat_laws.proofs.Now.{BothSame, same_on}
 use Rattle.sat_clauses.specs.States.{Agrees}
 use Rattle.sat_clauses.specs.Models.{TotalAssignment}
-use Rattle.sat_encoding_laws.specs.Encoded.{is_true_value, is_true_at, is_true_in, bit_of}
+use Rattle.sat_encoding_laws.specs.Encodings.{is_true_value, is_true_at, is_true_in, bit_of}
 use Rattle.sat_encoding_laws.specs.Signals.{Signal}
 use Rattle.sat_encoding_laws.specs.Layout.{input_place, variable_signals}
 use Rattle.sat_encoding_laws.specs.Bits.{state_of}

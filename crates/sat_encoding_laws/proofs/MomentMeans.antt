@@ -6,8 +6,8 @@ use Rattle.smv_language.specs.Trace.{Each, in_domain}
 use Rattle.smv_language.specs.Values.{Value, truth, Values, one, has}
 use Rattle.smv_language.specs.Evaluate.{evaluate}
 use Rattle.smv_language.specs.Flat.{FlatLeaf, FlatVariable, FlatFormula, FlatModel, Holds, leaves_at}
-use Rattle.smv_type_laws.specs.Judged.{truth_class, not_boolean, unless_class}
-use Rattle.smv_type_laws.specs.Declared.{judged_declared}
+use Rattle.smv_type_laws.specs.ExpressionKinds.{truth_class, not_boolean, unless_class}
+use Rattle.smv_type_laws.specs.DeclaredKinds.{judged_declared}
 use Rattle.smv_type_laws.specs.Models.{judged_in, kind_of_leaf, broken_condition, breaches_at, condition_breaches, variable_breaches}
 use Rattle.smv_type_laws.specs.Laws.{IsDecided}
 use Rattle.smv_type_laws.proofs.Parts.{none_first, none_second}
@@ -19,7 +19,7 @@ use Rattle.smv_flat_laws.proofs.Lists.{each_more}
 use Rattle.sat_encoding_laws.specs.Signals.{Signal, bit, word}
 use Rattle.sat_encoding_laws.specs.Expressions.{its_value, whether_has, Names, encoded}
 use Rattle.sat_encoding_laws.specs.Meanings.{IsSignal, IsReady}
-use Rattle.sat_encoding_laws.specs.Reads.{Reads}
+use Rattle.sat_encoding_laws.specs.ReadNames.{Reads}
 use Rattle.sat_encoding_laws.specs.Inputs.{is_input}
 use Rattle.sat_encoding_laws.specs.Layout.{state_width, input_width, variable_signal, variable_signals, place_of}
 use Rattle.sat_encoding_laws.specs.Lists.{Copy, names_of, asserted, asserted_signal, formulas_gates, type_gates, type_tree, domains_gates}

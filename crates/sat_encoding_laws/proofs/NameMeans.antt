@@ -10,11 +10,11 @@ use Rattle.smv_language.specs.Trace.{Each}
 use Rattle.smv_language.specs.Values.{Value, symbol, one}
 use Rattle.smv_language.specs.Flat.{FlatLeaf, flat_variable, flat_symbol, flat_definition, FlatVariable, FlatFormula, FlatModel, one_of, symbol_of, leaves_at}
 use Rattle.smv_flat_laws.specs.FlatTrace.{AreInDomains}
-use Rattle.smv_flat_laws.specs.Resolved.{leaves_in, trees_leaves, branches_leaves, IsBefore}
+use Rattle.smv_flat_laws.specs.NameResolution.{leaves_in, trees_leaves, branches_leaves, IsBefore}
 use Rattle.smv_flat_laws.specs.Rules.{leaves_under, trees_leaves_under, branches_leaves_under}
 use Rattle.smv_flat_laws.proofs.Lists.{get_end, length_end, get_within, each_more}
 use Rattle.smv_flat_laws.proofs.Table.{definition_law}
-use Rattle.smv_type_laws.specs.Judged.{judge}
+use Rattle.smv_type_laws.specs.ExpressionKinds.{judge}
 use Rattle.smv_type_laws.specs.Models.{kind_of_leaf, judged_variables}
 use Rattle.smv_type_laws.specs.Laws.{IsKnown, AreInOrder, IsClosed}
 use Rattle.smv_type_laws.proofs.TreeLaws.{Hold}
@@ -32,7 +32,7 @@ use Rattle.sat_encoding_laws.specs.Widths.{symbol_width}
 use Rattle.sat_encoding_laws.specs.Signals.{Signal, bit, word}
 use Rattle.sat_encoding_laws.specs.Expressions.{its_value, encoded}
 use Rattle.sat_encoding_laws.specs.Meanings.{HasValue, IsSignal, IsReady}
-use Rattle.sat_encoding_laws.specs.Reads.{Reads, ReadsTrees, ReadsBranches}
+use Rattle.sat_encoding_laws.specs.ReadNames.{Reads, ReadsTrees, ReadsBranches}
 use Rattle.sat_encoding_laws.specs.Inputs.{is_flagged, names_input, tree_reads_input, reading_after, reads_input}
 use Rattle.sat_encoding_laws.specs.Encodable.{is_input_name, IsEncodable}
 use Rattle.sat_encoding_laws.specs.Lists.{signal_or_false, leaf_signal, Copy, copy_of, names_of, definition_gates}

@@ -8,8 +8,8 @@ use Rattle.smv_language.specs.Trace.{Each, in_domain}
 use Rattle.smv_language.specs.Values.{Value, truth, number}
 use Rattle.smv_language.specs.Flat.{FlatVariable}
 use Rattle.smv_flat_laws.specs.FlatTrace.{AreInDomains}
-use Rattle.smv_type_laws.specs.Judged.{Class, truth_class, number_class, symbol_class}
-use Rattle.smv_type_laws.specs.Declared.{judged_declared}
+use Rattle.smv_type_laws.specs.ExpressionKinds.{Class, truth_class, number_class, symbol_class}
+use Rattle.smv_type_laws.specs.DeclaredKinds.{judged_declared}
 use Rattle.smv_type_laws.specs.Costs.{declared_width, role_width}
 use Rattle.sat_clauses.specs.States.{Agrees}
 use Rattle.sat_clauses.specs.Literal.{Literal}

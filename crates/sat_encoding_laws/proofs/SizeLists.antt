@@ -10,8 +10,8 @@ use Rattle.smv_language.specs.Trace.{Each}
 use Rattle.smv_language.specs.Scope.{Role, state, input, frozen_role}
 use Rattle.smv_language.specs.Flat.{FlatLeaf, flat_variable, flat_symbol, flat_definition, FlatVariable, FlatFormula, FlatModel}
 use Rattle.smv_type_laws.specs.Intervals.{Interval}
-use Rattle.smv_type_laws.specs.Judged.{Class, truth_class, number_class, symbol_class, hull_of}
-use Rattle.smv_type_laws.specs.Declared.{judged_declared}
+use Rattle.smv_type_laws.specs.ExpressionKinds.{Class, truth_class, number_class, symbol_class, hull_of}
+use Rattle.smv_type_laws.specs.DeclaredKinds.{judged_declared}
 use Rattle.smv_type_laws.specs.Costs.{digits_in, digits_of, digits_above, cost_of, trees_cost, declared_cost, width_of, width_in, declared_width, member_number, number_kind, formulas_cost, model_cost, state_bits}
 use Rattle.smv_type_laws.specs.Models.{judged_in}
 use Rattle.sat_clauses.specs.Literal.{Literal}

@@ -13,7 +13,7 @@ use Rattle.smv_language.specs.Values.{Value, truth, number, symbol}
 use Rattle.smv_language.proofs.ValueLaws.{same_text_refl, at_most_from}
 use Rattle.smv_language.specs.Flat.{FlatVariable}
 use Rattle.smv_flat_laws.specs.FlatTrace.{AreInDomains}
-use Rattle.smv_type_laws.specs.Declared.{judged_declared}
+use Rattle.smv_type_laws.specs.DeclaredKinds.{judged_declared}
 use Rattle.smv_type_laws.specs.Intervals.{Interval}
 use Rattle.smv_type_laws.specs.Costs.{declared_width, role_width}
 use Rattle.sat_clauses.specs.States.{Agrees}

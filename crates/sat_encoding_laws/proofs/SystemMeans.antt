@@ -14,13 +14,13 @@ use Rattle.sat_clauses.specs.Models.{TotalAssignment, Satisfies}
 use Rattle.sat_circuits.specs.Circuit.{Circuit}
 use Rattle.sat_encoding_laws.specs.Signals.{Signal}
 use Rattle.sat_encoding_laws.specs.Meanings.{IsReady}
-use Rattle.sat_encoding_laws.specs.Reads.{Reads}
+use Rattle.sat_encoding_laws.specs.ReadNames.{Reads}
 use Rattle.sat_encoding_laws.specs.Inputs.{is_input, reads_input}
 use Rattle.sat_encoding_laws.specs.Layout.{input_bits, next_place, input_place, gates_place, variable_signals, signals_now, signals_next}
 use Rattle.sat_encoding_laws.specs.Lists.{Copy, names_of, formulas_gates, copy_gates, start_of, state_circuit, first_circuit, step_circuit, first_list, system_of}
 use Rattle.sat_encoding_laws.specs.Bits.{state_of, inputs_of}
 use Rattle.sat_encoding_laws.specs.Encodable.{IsEncodable, is_input_name, reads_next_input}
-use Rattle.sat_encoding_laws.specs.Encoded.{IsFlatFirst, IsEncodingOf}
+use Rattle.sat_encoding_laws.specs.Encodings.{IsFlatFirst, IsEncodingOf}
 use Rattle.sat_encoding_laws.proofs.InputsFree.{each_free, each_next_free, moment_free}
 use Rattle.sat_encoding_laws.proofs.NameMeans.{AreSignals, KnownTo, naming, left_out, VariablesRight, SoFar, fit_copies, reads_kept, reads_under}
 use Rattle.sat_encoding_laws.proofs.Readings.{reading, signals_below, reading_is, reading_bits}

@@ -14,8 +14,8 @@ use Rattle.sat_clauses.specs.Models.{TotalAssignment}
 use Rattle.sat_circuits.specs.Words.{word_value}
 use Rattle.sat_circuits.proofs.Orders.{Fits}
 use Rattle.smv_type_laws.specs.Intervals.{Interval, IsIn, just, hull, fits, fits_number}
-use Rattle.smv_type_laws.specs.Judged.{Class, number_class, symbol_class, KindRule, mixed_enum, empty_range, double_member, rule_if, unless_class, wide, first_class, hull_of, hull_from, where_kept}
-use Rattle.smv_type_laws.specs.Declared.{member_kind, has_double, judged_declared}
+use Rattle.smv_type_laws.specs.ExpressionKinds.{Class, number_class, symbol_class, KindRule, mixed_enum, empty_range, double_member, rule_if, unless_class, wide, first_class, hull_of, hull_from, where_kept}
+use Rattle.smv_type_laws.specs.DeclaredKinds.{member_kind, has_double, judged_declared}
 use Rattle.smv_type_laws.specs.Costs.{width_of, number_kind, symbol_number, member_number}
 use Rattle.smv_type_laws.proofs.Products.{in_just, in_hull_left, in_hull_right}
 use Rattle.smv_type_laws.proofs.Parts.{none_first, none_second, not_if, wide_bounded, hull_fits}

@@ -10,10 +10,10 @@ use Rattle.sat_clauses.specs.Models.{TotalAssignment, literal_value}
 use Rattle.sat_circuits.specs.Circuit.{Circuit}
 use Rattle.sat_circuits.specs.Words.{word_value, fit}
 use Rattle.sat_circuits.proofs.WordMeans.{length-fit, AllBelow-fit}
-use Rattle.smv_type_laws.specs.Judged.{Class, truth_class, number_class, symbol_class}
-use Rattle.smv_type_laws.specs.Declared.{judged_declared}
+use Rattle.smv_type_laws.specs.ExpressionKinds.{Class, truth_class, number_class, symbol_class}
+use Rattle.smv_type_laws.specs.DeclaredKinds.{judged_declared}
 use Rattle.smv_type_laws.specs.Costs.{width_of, width_in, symbol_number, declared_width}
-use Rattle.smv_type_laws.specs.Safe.{IsOfClass}
+use Rattle.smv_type_laws.specs.KindValues.{IsOfClass}
 use Rattle.smv_type_laws.proofs.VariableLaws.{variable_holds}
 use Rattle.sat_encoding_laws.specs.Widths.{kind_width}
 use Rattle.sat_encoding_laws.specs.Signals.{Signal, bit, word}

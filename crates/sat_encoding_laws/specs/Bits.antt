@@ -28,7 +28,9 @@ value_bits symbols d v = number_bits (declared_width symbols d) (value_number sy
 
 -- the bits of the values of variables in flat order, of those that are inputs or of the others
 abbrev pub bits_of : List Text → Bool → List FlatVariable → List Value → List Bool
-bits_of symbols inputs (x ∷ xs) (v ∷ vs) = (if is_input x.role then (if inputs then value_bits symbols x.declared v else []) else (if inputs then [] else value_bits symbols x.declared v)) ++ bits_of symbols inputs xs vs
+bits_of symbols inputs (x ∷ xs) (v ∷ vs) =
+    (if is_input x.role then (if inputs then value_bits symbols x.declared v else []) else
+    (if inputs then [] else value_bits symbols x.declared v)) ++ bits_of symbols inputs xs vs
 bits_of symbols inputs _ _ = []
 
 -- the bits of the state and frozen variables

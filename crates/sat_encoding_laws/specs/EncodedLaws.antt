@@ -10,7 +10,7 @@ use Rattle.sat_clauses.specs.Literal.{Literal}
 use Rattle.sat_clauses.specs.declared.system.System.{System}
 use Rattle.sat_clauses.specs.States.{IsInvariant}
 use Rattle.cut_right_laws.specs.Right.{HasFailedAll, HasFailedAtMost}
-use Rattle.sat_encoding_laws.specs.Encoded.{IsEncodingOf, IsBadListOf}
+use Rattle.sat_encoding_laws.specs.Encodings.{IsEncodingOf, IsBadListOf}
 use Rattle.sat_encoding_laws.specs.FlatTraces.{ReachesTop, HasFailedNumber, IsNumbered, ReadsOwn, history_of}
 
 -- A model, its faults and a top event read the model's own variables, and the faults are modes of it.
@@ -31,11 +31,14 @@ module _ (m : FlatModel) (fs : List Mode) (top : Tree FlatLeaf) where
   AreCovered size sets =
       (trace : List (List Value)) → IsFlatTrace m trace → ReachesTop m top trace →
       HasFailedAtMost (List (List Value)) (IsFlatTrace m) (ReachesTop m top) (HasFailedNumber m fs) size trace →
-      (set : List ℕ) × Contains sets set × HasFailedAll (List (List Value)) (IsFlatTrace m) (ReachesTop m top) (HasFailedNumber m fs) trace set
+      (set : List ℕ) × Contains sets set
+      × HasFailedAll (List (List Value)) (IsFlatTrace m) (ReachesTop m top) (HasFailedNumber m fs) trace set
 
 -- an invariant that excludes the bad states of listed sets shows that they cover all traces, of every length
 abbrev pub InvariantsCover : Type 0
 InvariantsCover =
-    (m : FlatModel) (fs : List Mode) (top : Tree FlatLeaf) → AreOwn m fs top → (system : System) (encoded : IsEncoded m fs system) (size : ℕ) (sets : List (List ℕ)) →
+    (m : FlatModel) (fs : List Mode) (top : Tree FlatLeaf) → AreOwn m fs top →
+    (system : System) (encoded : IsEncoded m fs system) (size : ℕ) (sets : List (List ℕ)) →
     Each (IsNumbered (length fs)) sets → (bad clauses : List (List Literal)) →
-    IsBadListOf (with_history m fs) system encoded.state_of top (history_of m fs) sets size bad → IsInvariant system bad clauses → AreCovered m fs top size sets
+    IsBadListOf (with_history m fs) system encoded.state_of top (history_of m fs) sets size bad → IsInvariant system bad clauses →
+    AreCovered m fs top size sets

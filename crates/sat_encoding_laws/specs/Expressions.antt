@@ -2,13 +2,15 @@
 use Rattle.std.specs.Prelude.{ℕ, ℤ, false}
 use Rattle.smv_language.specs.declared.expr.Op.{Op}
 use Rattle.smv_language.specs.declared.expr.Op.TheVariants as op
-use Rattle.smv_language.specs.Tree.{Tree, Trees, Branches, truth, number, leaf, not_of, negate, next_of, binary, choice, case_of, set_of, span, no_tree, tree_then, no_branch, branch_then}
+use Rattle.smv_language.specs.Tree.{Tree, Trees, Branches, truth, number, leaf, not_of, negate, next_of, binary, choice, case_of, set_of}
+use Rattle.smv_language.specs.Tree.{span, no_tree, tree_then, no_branch, branch_then}
 use Rattle.sat_clauses.specs.Literal.{Literal, opposite}
 use Rattle.sat_circuits.specs.Circuit.{Circuit, after}
 use Rattle.sat_circuits.specs.Gates.{or_gate, constant_lit}
 use Rattle.sat_circuits.specs.Numbers.{number_word}
 use Rattle.sat_circuits.specs.Sums.{negate_gates}
-use Rattle.sat_encoding_laws.specs.Signals.{Signal, bit, word, literal_in, word_in, as_bit, as_word, fitted, same_gates, choice_gates, between_gates, operator_gates}
+use Rattle.sat_encoding_laws.specs.Signals.{Signal, bit, word, literal_in, word_in, as_bit, as_word, fitted, same_gates, choice_gates}
+use Rattle.sat_encoding_laws.specs.Signals.{between_gates, operator_gates}
 
 -- what is asked of an expression: its value, or whether that of a signal is among its values, as on the right of `in`
 pub data Asked : Type 0 where
@@ -58,9 +60,12 @@ unfoldable mutual
   encoded c m (next_of a) s = answer m (encoded (at_next c) its_value a s)
   encoded c m (binary op.Union a b) s = union_gates (λ t. encoded c m a t) (λ t. encoded c m b t) s
   encoded c m (binary op.Within a b) s = answer m (within_gates (λ t. encoded c its_value a t) (λ e t. encoded c (whether_has e) b t) s)
-  encoded c m (binary o a b) s = answer m (both_gates o (c.width (binary o a b)) (λ t. encoded c its_value a t) (λ t. encoded c its_value b t) s)
+  encoded c m (binary o a b) s =
+      answer m (both_gates o (c.width (binary o a b)) (λ t. encoded c its_value a t) (λ t. encoded c its_value b t) s)
   encoded c m (choice d a b) s =
-      after (encoded c its_value d s) (λ p t. after (encoded c m a t) (λ e u. after (encoded c m b u) (λ f w. choice_gates (c.width (choice d a b)) (literal_in p) e f w)))
+      after (encoded c its_value d s)
+      (λ p t. after (encoded c m a t)
+      (λ e u. after (encoded c m b u) (λ f w. choice_gates (c.width (choice d a b)) (literal_in p) e f w)))
   encoded c m (case_of bs) s = encoded_branches c m (c.width (case_of bs)) bs s
   encoded c m (set_of ts) s = encoded_members c m ts (constant_lit false) s
   encoded c m (span lo hi) s = span_gates m lo hi s
@@ -77,4 +82,5 @@ unfoldable mutual
   -- whether the literal is TRUE or one of the members is
   pub encoded_members : {L : Type 0} → Names L → Asked → Trees L → Literal → Circuit → Circuit × Signal
   encoded_members c m no_tree r s = (s, bit r)
-  encoded_members c m (tree_then t ts) r s = after (encoded c m t s) (λ x u. after (or_gate r (literal_in x) u) (λ q w. encoded_members c m ts q w))
+  encoded_members c m (tree_then t ts) r s =
+      after (encoded c m t s) (λ x u. after (or_gate r (literal_in x) u) (λ q w. encoded_members c m ts q w))

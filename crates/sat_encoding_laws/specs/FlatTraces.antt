@@ -7,9 +7,9 @@ use Rattle.smv_language.specs.Trace.{Each, AtLast}
 use Rattle.smv_language.specs.Flat.{FlatLeaf, FlatModel, FlatMay}
 use Rattle.smv_flat_laws.specs.History.{Mode}
 use Rattle.smv_flat_laws.specs.FlatTrace.{IsFlatTrace, stands_in_some, IsOwnName}
-use Rattle.smv_flat_laws.specs.Resolved.{leaves_in}
+use Rattle.smv_flat_laws.specs.NameResolution.{leaves_in}
 use Rattle.cut_right_laws.specs.Right.{IsRight}
-use Rattle.sat_encoding_laws.specs.Encoded.{is_true_at}
+use Rattle.sat_encoding_laws.specs.Encodings.{is_true_at}
 
 -- the top event may be TRUE at the last valuation
 abbrev pub ReachesTop : FlatModel → Tree FlatLeaf → List (List Value) → Type 0
@@ -33,8 +33,10 @@ abbrev pub IsShortTrace : FlatModel → ℕ → List (List Value) → Type 0
 IsShortTrace m k trace = IsFlatTrace m trace × (length trace ≤ k + 1)
 
 -- the sets, one trace each, are right for a class of the model's traces
-abbrev pub IsRightFlat : FlatModel → List Mode → Tree FlatLeaf → ℕ → (List (List Value) → Type 0) → List (List ℕ) → List (List (List Value)) → Type 0
-IsRightFlat m fs top size class sets traces = IsRight (List (List Value)) (IsFlatTrace m) (ReachesTop m top) (HasFailedNumber m fs) size class sets traces
+abbrev pub IsRightFlat : FlatModel → List Mode → Tree FlatLeaf → ℕ → (List (List Value) → Type 0) → List (List ℕ) →
+    List (List (List Value)) → Type 0
+IsRightFlat m fs top size class sets traces =
+    IsRight (List (List Value)) (IsFlatTrace m) (ReachesTop m top) (HasFailedNumber m fs) size class sets traces
 
 -- the last valuation, or one of no variables
 abbrev pub last_of : List (List Value) → List Value

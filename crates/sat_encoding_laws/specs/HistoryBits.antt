@@ -4,8 +4,8 @@ use Rattle.smv_language.specs.Trace.{Each}
 use Rattle.smv_language.specs.Flat.{FlatVariable, FlatModel}
 use Rattle.smv_flat_laws.specs.History.{Mode, with_history}
 use Rattle.smv_type_laws.specs.Costs.{state_bits}
-use Rattle.smv_type_laws.specs.Judged.{symbol_class}
-use Rattle.smv_type_laws.specs.Declared.{judged_declared}
+use Rattle.smv_type_laws.specs.ExpressionKinds.{symbol_class}
+use Rattle.smv_type_laws.specs.DeclaredKinds.{judged_declared}
 use Rattle.smv_type_laws.specs.Models.{is_too_large, IsTyped}
 use Rattle.smv_type_laws.specs.Laws.{IsClosed}
 use Rattle.sat_encoding_laws.specs.FlatTraces.{history_of}
@@ -31,7 +31,8 @@ pub record IsStateMode (m : FlatModel) (f : Mode) : Type 0 where
 
 -- A model with history is encodable where the model is, and it is typed.
 abbrev pub HistoryKeepsEncodable : Type 0
-HistoryKeepsEncodable = (m : FlatModel) (fs : List Mode) → IsEncodable m → Each (IsStateMode m) fs → IsTyped (with_history m fs) → IsEncodable (with_history m fs)
+HistoryKeepsEncodable = (m : FlatModel) (fs : List Mode) → IsEncodable m → Each (IsStateMode m) fs → IsTyped (with_history m fs) →
+    IsEncodable (with_history m fs)
 
 -- a mode stands in a variable that has symbols
 pub record IsSymbolMode (m : FlatModel) (f : Mode) : Type 0 where
@@ -42,4 +43,5 @@ pub record IsSymbolMode (m : FlatModel) (f : Mode) : Type 0 where
 -- A model with history is typed where the model is, and history makes it not too large.
 abbrev pub HistoryKeepsTyped : Type 0
 HistoryKeepsTyped =
-    (m : FlatModel) (fs : List Mode) → IsClosed m → IsTyped m → Each (IsSymbolMode m) fs → is_too_large (with_history m fs) ≡ false → IsTyped (with_history m fs)
+    (m : FlatModel) (fs : List Mode) → IsClosed m → IsTyped m → Each (IsSymbolMode m) fs → is_too_large (with_history m fs) ≡ false →
+    IsTyped (with_history m fs)

@@ -4,7 +4,7 @@ use Rattle.std.specs.List.{list_any}
 use Rattle.smv_language.specs.Tree.{Tree}
 use Rattle.smv_language.specs.Scope.{Role, state, input, frozen_role}
 use Rattle.smv_language.specs.Flat.{FlatLeaf, flat_variable, flat_symbol, flat_definition, FlatVariable, FlatFormula, FlatModel}
-use Rattle.smv_flat_laws.specs.Resolved.{leaves_in}
+use Rattle.smv_flat_laws.specs.NameResolution.{leaves_in}
 
 -- the role of an input
 abbrev pub is_input : Role → Bool

@@ -15,7 +15,7 @@ use Rattle.sat_circuits.specs.Meaning.{Means}
 use Rattle.smv_type_laws.specs.Intervals.{Interval, IsIn, fits}
 use Rattle.smv_type_laws.specs.Models.{judged_in, IsTyped}
 use Rattle.smv_type_laws.specs.Laws.{ReadsOwn}
-use Rattle.smv_type_laws.specs.Least.{AreByRole}
+use Rattle.smv_type_laws.specs.LeastValues.{AreByRole}
 use Rattle.sat_encoding_laws.specs.Widths.{kind_width, word_width}
 use Rattle.sat_encoding_laws.specs.Signals.{Signal}
 use Rattle.sat_encoding_laws.specs.Expressions.{Asked, its_value, whether_has, Names, encoded}
@@ -23,7 +23,7 @@ use Rattle.sat_encoding_laws.specs.Meanings.{HasValue, IsSignal, IsReady, Answer
 use Rattle.sat_encoding_laws.specs.Bits.{state_of, inputs_of}
 use Rattle.sat_encoding_laws.specs.Lists.{system_of, bad_list}
 use Rattle.sat_encoding_laws.specs.Encodable.{IsKnownName, IsEncodable, IsFitTop, IsStateBoolean}
-use Rattle.sat_encoding_laws.specs.Encoded.{IsEncodingOf, IsBadListOf}
+use Rattle.sat_encoding_laws.specs.Encodings.{IsEncodingOf, IsBadListOf}
 
 -- names of a model whose signals may be used in a circuit, with words as wide as their kinds
 pub record AreNamesOf (m : FlatModel) (s : Circuit) (c : Names FlatLeaf) : Type 0 where
@@ -33,7 +33,8 @@ pub record AreNamesOf (m : FlatModel) (s : Circuit) (c : Names FlatLeaf) : Type 
 
 -- the signals of a model's names have the values that these give at a valuation
 abbrev pub HaveValues : FlatModel → TotalAssignment → (FlatLeaf → Signal) → List Value → Type 0
-HaveValues m a signals v = (l : FlatLeaf) → IsKnownName m l → (x : Value) → leaves_at m v l ≡ Some (one x) → HasValue m.symbols a (signals l) x
+HaveValues m a signals v = (l : FlatLeaf) → IsKnownName m l → (x : Value) → leaves_at m v l ≡ Some (one x) →
+    HasValue m.symbols a (signals l) x
 
 -- the signal that is asked for may be used
 abbrev pub IsAskedIn : Circuit → Asked → Type 0
@@ -50,10 +51,12 @@ IsAskedOf (whether_has u) sets = Unit {0}
 -- the expression gives, or says whether the value of a signal is among those that it gives.
 abbrev pub ExpressionsAreEncoded : Type 0
 ExpressionsAreEncoded =
-    (m : FlatModel) → IsEncodable m → (c : Names FlatLeaf) (s : Circuit) → IsReady s → AreNamesOf m s c → (asked : Asked) → IsAskedIn s asked → (sets : Bool) → IsAskedOf asked sets →
+    (m : FlatModel) → IsEncodable m → (c : Names FlatLeaf) (s : Circuit) → IsReady s → AreNamesOf m s c → (asked : Asked) →
+    IsAskedIn s asked → (sets : Bool) → IsAskedOf asked sets →
     (e : Tree FlatLeaf) → ReadsOwn m e → (judged_in m sets e).broken ≡ [] →
     Means s (encoded c asked e s) IsSignal
-    (λ a signal. (v w : List Value) → AreInDomains m.variables v → AreInDomains m.variables w → HaveValues m a c.now v → HaveValues m a c.next w →
+    (λ a signal. (v w : List Value) → AreInDomains m.variables v → AreInDomains m.variables w → HaveValues m a c.now v →
+    HaveValues m a c.next w →
     Answers m.symbols a asked (judged_in m sets e).kind.class (evaluate (leaves_at m v) (leaves_at m w) e) signal)
 
 -- The word of an interval within 32 bits holds its numbers, in two's complement.
@@ -70,7 +73,8 @@ ModelsAreEncoded = (m : FlatModel) → IsEncodable m → IsEncodingOf m (system_
 -- which has failed at most so many faults, and all of no listed set.
 abbrev pub BadStatesAreEncoded : Type 0
 BadStatesAreEncoded =
-    (m : FlatModel) → IsEncodable m → (top : Tree FlatLeaf) → IsFitTop m top → (history : List ℕ) → Each (IsStateBoolean m) history → (sets : List (List ℕ)) (size : ℕ) →
+    (m : FlatModel) → IsEncodable m → (top : Tree FlatLeaf) → IsFitTop m top → (history : List ℕ) → Each (IsStateBoolean m) history →
+    (sets : List (List ℕ)) (size : ℕ) →
     IsBadListOf m (system_of m) (state_of m) top history sets size (bad_list m top history sets size)
 
 -- The bits of a valuation are those of its variables by their roles.
@@ -86,4 +90,5 @@ HasMember _ = Unit {0}
 -- are among them, and inputs are read where they may be. Symbols are fewer than 2 ^ 31.
 abbrev pub FlatModelsAreEncodable : Type 0
 FlatModelsAreEncodable =
-    (p : ProgramTree) (m : FlatModel) → IsAccepted p → IsFlatOf p m → IsTyped m → length m.symbols < 2 ^ 31 → Each (λ x. HasMember x.declared) m.variables → IsEncodable m
+    (p : ProgramTree) (m : FlatModel) → IsAccepted p → IsFlatOf p m → IsTyped m → length m.symbols < 2 ^ 31 →
+    Each (λ x. HasMember x.declared) m.variables → IsEncodable m

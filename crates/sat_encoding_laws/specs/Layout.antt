@@ -5,8 +5,8 @@ use Rattle.smv_language.specs.ProgramTree.{Text, DeclaredTree, boolean, range, m
 use Rattle.smv_language.specs.Scope.{Role, state, input, frozen_role}
 use Rattle.smv_language.specs.Flat.{FlatVariable, FlatModel}
 use Rattle.smv_type_laws.specs.Intervals.{Interval}
-use Rattle.smv_type_laws.specs.Judged.{hull_of}
-use Rattle.smv_type_laws.specs.Declared.{judged_declared}
+use Rattle.smv_type_laws.specs.ExpressionKinds.{hull_of}
+use Rattle.smv_type_laws.specs.DeclaredKinds.{judged_declared}
 use Rattle.smv_type_laws.specs.Costs.{width_of, member_number, number_kind, declared_width, role_width, state_bits}
 use Rattle.sat_clauses.specs.Literal.{Literal, plain}
 use Rattle.sat_circuits.specs.Gates.{constant_lit}
@@ -81,7 +81,8 @@ place_of input p q = q
 abbrev pub variable_signals : List Text → ℕ → ℕ → List FlatVariable → List Signal
 variable_signals symbols p q [] = []
 variable_signals symbols p q (x ∷ xs) =
-    variable_signal symbols x.declared (place_of x.role p q) ∷ variable_signals symbols (p + state_width symbols x) (q + input_width symbols x) xs
+    variable_signal symbols x.declared (place_of x.role p q)
+    ∷ variable_signals symbols (p + state_width symbols x) (q + input_width symbols x) xs
 
 -- the variables now
 abbrev pub signals_now : FlatModel → List Signal

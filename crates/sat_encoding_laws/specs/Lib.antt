@@ -2,7 +2,7 @@ pub mod Widths
 pub mod Signals
 pub mod Expressions
 pub mod Meanings
-pub mod Reads
+pub mod ReadNames
 pub mod Layout
 pub mod Inputs
 pub mod Lists
@@ -11,6 +11,6 @@ pub mod Encodable
 pub mod HistoryBits
 pub mod Variables
 pub mod Laws
-pub mod Encoded
+pub mod Encodings
 pub mod FlatTraces
 pub mod EncodedLaws

@@ -1,5 +1,6 @@
 -- The clause lists of a model: its first states, its states, its steps and its bad states.
-use Rattle.std.specs.Prelude.{ℕ, ◌-◌, Bool, true, false, not, ◌&&◌, nat_lt, Option, Some, None, List, [], ◌∷◌, ◌++◌, map, length, slice_get, pos, if◌then◌else◌}
+use Rattle.std.specs.Prelude.{ℕ, ◌-◌, Bool, true, false, not, ◌&&◌, nat_lt, Option, Some, None, List, [], ◌∷◌, ◌++◌, map, length, slice_get}
+use Rattle.std.specs.Prelude.{pos, if◌then◌else◌}
 use Rattle.smv_language.specs.declared.program.Member.{Member}
 use Rattle.smv_language.specs.declared.program.Member.TheVariants as member
 use Rattle.smv_language.specs.Tree.{Tree, number, leaf, set_of, span, truth, trees_from}
@@ -91,12 +92,14 @@ type_gates m c d e s = asserted_signal (encoded c (whether_has e) (type_tree m.s
 
 -- the domains of variables with these signals, of all or of those that are no inputs
 abbrev pub domains_gates : FlatModel → Names FlatLeaf → Bool → List FlatVariable → List Signal → Circuit → Circuit
-domains_gates m c all (x ∷ xs) (e ∷ es) s = domains_gates m c all xs es (if is_input x.role && not all then s else type_gates m c x.declared e s)
+domains_gates m c all (x ∷ xs) (e ∷ es) s =
+    domains_gates m c all xs es (if is_input x.role && not all then s else type_gates m c x.declared e s)
 domains_gates m c all _ _ s = s
 
 -- what holds of a copy at each moment: the domains, and the formulas
 abbrev pub moment_gates : FlatModel → Copy → Bool → Circuit → Circuit
-moment_gates m copy all s = formulas_gates (names_of m copy copy) m.at_each (domains_gates m (names_of m copy copy) all m.variables copy.variables s)
+moment_gates m copy all s =
+    formulas_gates (names_of m copy copy) m.at_each (domains_gates m (names_of m copy copy) all m.variables copy.variables s)
 
 -- a copy of the model: its definitions, its domains and what holds at each moment
 abbrev pub copy_gates : FlatModel → List Signal → Bool → Circuit → Circuit × Copy
@@ -159,4 +162,5 @@ abbrev pub bad_list : FlatModel → Tree FlatLeaf → List ℕ → List (List �
 bad_list m top history sets size =
     let now = state_circuit m in
     let bits = history_literals m history in
-    (size_gates bits size (asserted_signal (encoded (names_of m now.1 now.1) its_value top now.0))).clauses ++ map (unlisted_clause bits) sets
+    (size_gates bits size (asserted_signal (encoded (names_of m now.1 now.1) its_value top now.0))).clauses
+    ++ map (unlisted_clause bits) sets

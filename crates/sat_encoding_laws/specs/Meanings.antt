@@ -6,8 +6,8 @@ use Rattle.sat_clauses.specs.Models.{TotalAssignment, literal_value, IsBelow}
 use Rattle.sat_circuits.specs.Circuit.{Circuit}
 use Rattle.sat_circuits.specs.Meaning.{HasTruth}
 use Rattle.sat_circuits.specs.Words.{word_value, IsWordOf}
-use Rattle.smv_type_laws.specs.Judged.{Class}
-use Rattle.smv_type_laws.specs.Safe.{IsOfClass}
+use Rattle.smv_type_laws.specs.ExpressionKinds.{Class}
+use Rattle.smv_type_laws.specs.KindValues.{IsOfClass}
 use Rattle.sat_encoding_laws.specs.Signals.{Signal, bit, word}
 use Rattle.sat_encoding_laws.specs.Expressions.{Asked, its_value, whether_has}
 
@@ -43,4 +43,5 @@ pub record IsReady (s : Circuit) : Type 0 where
 -- among its values.
 abbrev pub Answers : List Text → TotalAssignment → Asked → Class → Option Values → Signal → Type 0
 Answers symbols v its_value c given e = (x : Value) → given ≡ Some (one x) → HasValue symbols v e x
-Answers symbols v (whether_has u) c given e = (x : Value) (vs : Values) → IsOfClass c x → HasValue symbols v u x → given ≡ Some vs → HasValue symbols v e (truth (has vs x))
+Answers symbols v (whether_has u) c given e = (x : Value) (vs : Values) → IsOfClass c x → HasValue symbols v u x → given ≡ Some vs →
+    HasValue symbols v e (truth (has vs x))

@@ -9,7 +9,8 @@ use Rattle.sat_clauses.specs.Models.{ClausesBelow}
 use Rattle.sat_circuits.specs.Circuit.{Circuit}
 use Rattle.sat_encoding_laws.specs.Layout.{input_bits, gates_place}
 use Rattle.sat_encoding_laws.specs.Expressions.{its_value, encoded}
-use Rattle.sat_encoding_laws.specs.Lists.{names_of, asserted_signal, history_literals, size_gates, state_circuit, first_circuit, step_circuit, state_list, first_list, step_list, bad_list}
+use Rattle.sat_encoding_laws.specs.Lists.{names_of, asserted_signal, history_literals, size_gates, state_circuit, first_circuit}
+use Rattle.sat_encoding_laws.specs.Lists.{step_circuit, state_list, first_list, step_list, bad_list}
 use Rattle.sat_encoding_laws.specs.Encodable.{IsEncodable, IsFitTop, IsStateBoolean}
 
 -- the variable is the constant's, a bit of the state now, or one past those of the inputs
@@ -26,7 +27,8 @@ ListsUseStates =
     (m : FlatModel) → IsEncodable m →
     UseStates m (first_list m)
     × UseStates m (state_list m)
-    × ((top : Tree FlatLeaf) (history : List ℕ) (sets : List (List ℕ)) (size : ℕ) → IsFitTop m top → Each (IsStateBoolean m) history → UseStates m (bad_list m top history sets size))
+    × ((top : Tree FlatLeaf) (history : List ℕ) (sets : List (List ℕ)) (size : ℕ) → IsFitTop m top → Each (IsStateBoolean m) history →
+    UseStates m (bad_list m top history sets size))
 
 -- below this number are the variables of a model's lists: 4,096 for each unit of its cost past those of its bits
 abbrev pub lists_room : FlatModel → ℕ
@@ -51,7 +53,8 @@ pub record AreSmallLists (m : FlatModel) : Type 0 where
   pub steps : ClausesBelow (lists_room m) (step_list m)
   pub bad : (top : Tree FlatLeaf) (history : List ℕ) (sets : List (List ℕ)) (size : ℕ) → IsFitTop m top → Each (IsStateBoolean m) history
       → ClausesBelow (bad_room m top history size) (bad_list m top history sets size)
-  pub fits : input_bits m ≤ 2 ^ 30 → (top : Tree FlatLeaf) (history : List ℕ) (size : ℕ) → cost_of top ≤ 60000 → length history ≤ 256 → size ≤ 256 → bad_room m top history size < 2 ^ 31
+  pub fits : input_bits m ≤ 2 ^ 30 → (top : Tree FlatLeaf) (history : List ℕ) (size : ℕ) → cost_of top ≤ 60000 → length history ≤ 256 →
+      size ≤ 256 → bad_room m top history size < 2 ^ 31
   pub inputs : input_bits m ≤ 65 * length m.variables
   pub first_ends : (first_circuit m).free ≤ lists_room m
   pub states_end : (state_circuit m).0.free ≤ lists_room m

@@ -2,7 +2,7 @@
 use Rattle.std.specs.Prelude.{ℕ, suc, ◌-◌, ℤ, pos, negsuc, max, Option, Some, List, length}
 use Rattle.smv_language.specs.ProgramTree.{Text}
 use Rattle.smv_type_laws.specs.Intervals.{Interval}
-use Rattle.smv_type_laws.specs.Judged.{Class, number_class, Kind}
+use Rattle.smv_type_laws.specs.ExpressionKinds.{Class, number_class, Kind}
 use Rattle.smv_type_laws.specs.Costs.{digits_of}
 
 -- the digits of a number, where those of one below 0 are all turned over

@@ -1,6 +1,6 @@
 //! What a model's clause lists are, and what they mean.
 //!
-//! What clause lists say of a flat model is one record, on which all layers above rest. `specs/Encoded.antt` has it, the interface
+//! What clause lists say of a flat model is one record, on which all layers above rest. `specs/Encodings.antt` has it, the interface
 //! between an encoding and what searches or checks over it: the first states, the steps and the bad states of a system of clause
 //! lists are those of the model's valuations. `FlatTraces` says when a flat trace reaches a top event and which faults it has
 //! failed. `EncodedLaws` has the theorem of invariants, for any lists with that record.
@@ -24,7 +24,8 @@
 //! ```
 #![tactic(auto)]
 
-ghost use Rattle.sat_encoding_laws.specs.Laws.{ExpressionsAreEncoded, WordsHoldKinds, ModelsAreEncoded, BadStatesAreEncoded, BitsGoByRole, FlatModelsAreEncodable};
+ghost use Rattle.sat_encoding_laws.specs.Laws.{ExpressionsAreEncoded, WordsHoldKinds, ModelsAreEncoded, BadStatesAreEncoded, BitsGoByRole};
+ghost use Rattle.sat_encoding_laws.specs.Laws.{FlatModelsAreEncodable};
 ghost use Rattle.sat_encoding_laws.specs.Variables.{ListsUseStates, ListsAreSmall};
 ghost use Rattle.sat_encoding_laws.specs.HistoryBits.{HistoryBitsAreLast, HistoryKeepsTyped, HistoryKeepsEncodable};
 ghost use Rattle.sat_encoding_laws.specs.EncodedLaws.{InvariantsCover};

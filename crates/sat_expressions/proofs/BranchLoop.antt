@@ -3,13 +3,13 @@ use Rattle.std.proofs.Common.{◌≡◌, ℕ, ◌+◌, ◌<◌, ◌≤◌, false
 use Rattle.std.proofs.lemmas.List.{drop_more, drop_all, append_assoc, append-nil, length-drop}
 use Rattle.smv_language.specs.Trace.{Each}
 use Rattle.smv_language.specs.Tree.{Tree, Branches, no_branch, branch_then}
-use Rattle.smv_language.specs.Written.{branches_of}
+use Rattle.smv_language.specs.ExpressionTree.{branches_of}
 use Rattle.smv_language.specs.Leaves.{branches_map}
 use Rattle.smv_language.specs.declared.expr.Expr.{Expr}
 use Rattle.smv_language.specs.Flat.{FlatLeaf}
 use Rattle.smv_language.specs.declared.model.Flat.{Flat}
 use Rattle.smv_language.specs.ModelTree.{leaf_of, flat_tree}
-use Rattle.smv_type_laws.specs.Judged.{judge_conditions, judge_values, broken_in, kinds_in}
+use Rattle.smv_type_laws.specs.ExpressionKinds.{judge_conditions, judge_values, broken_in, kinds_in}
 use Rattle.smv_type_laws.specs.Models.{judged_in, kind_of_leaf}
 use Rattle.smv_type_laws.proofs.Parts.{none_first, none_second}
 use Rattle.sat_clauses.specs.Literal.{Literal}
@@ -20,14 +20,14 @@ use Rattle.sat_circuits.proofs.Extension.{AllBelow-more, AllBelow-append}
 use Rattle.sat_encoding_laws.specs.Signals.{Signal, literal_in}
 use Rattle.sat_encoding_laws.specs.Expressions.{Asked as TheAsked, its_value, whether_has, encoded}
 use Rattle.sat_encoding_laws.specs.Meanings.{IsSignal}
-use Rattle.sat_expressions.specs.Built.{signal_of, signals_of}
+use Rattle.sat_expressions.specs.BuiltSignals.{signal_of, signals_of}
 use Rattle.sat_expressions.proofs.ChoiceLoop.{usable_later}
-use Rattle.sat_expressions.specs.Naming.{model_of, names_in}
+use Rattle.sat_expressions.specs.ModelNames.{model_of, names_in}
 use Rattle.sat_expressions.specs.Parts.{IsBit, IsRight, IsTold, IsEncoded, BuildsPart}
 use Rattle.sat_expressions.specs.Branches.{listed_gates, widened_sort, spread_sort, AreRightBranches, AreTold, BuildsBranches, with_parts, AreToldSoFar, BuildsFirst}
-use Rattle.sat_expressions.specs.declared.names.Names.{Names}
-use Rattle.sat_expressions.specs.declared.branches.Parts.{Parts}
-use Rattle.sat_expressions.specs.declared.part.Part.{Part}
+use Rattle.sat_expressions.specs.declared.names.NamedSignals.{NamedSignals}
+use Rattle.sat_expressions.specs.declared.branches.BranchSignals.{BranchSignals}
+use Rattle.sat_expressions.specs.declared.part.ExpressionSignal.{ExpressionSignal}
 use Rattle.smv_flat_laws.proofs.Conditions.{each_join}
 
 -- a list with one item more, and what comes after it
@@ -47,12 +47,12 @@ branches_more bs i b h is =
     ap (λ xs. branches_map leaf_of (branches_of xs)) (drop_more bs i b h)
     ∙ ap (λ (y : Expr Flat × Expr Flat). branch_then (flat_tree y.0) (flat_tree y.1) (branches_map leaf_of (branches_of (drop (i + 1) bs)))) (sym is)
 
-module _ (n : Names) where
+module _ (n : NamedSignals) where
   told_first : (asked : TheAsked) (bs : Branches FlatLeaf) → AreToldSoFar (model_of n) asked bs bs (record { conditions = []; values = []; sort = None })
   told_first its_value bs = refl
   told_first (whether_has v) bs = tt
 
-  pub branches_first : (asked : TheAsked) (bs : Branches FlatLeaf) (s : Circuit) (parts : Parts) → parts ≡ record { conditions = []; values = []; sort = None } → BuildsFirst n asked bs bs s s parts
+  pub branches_first : (asked : TheAsked) (bs : Branches FlatLeaf) (s : Circuit) (parts : BranchSignals) → parts ≡ record { conditions = []; values = []; sort = None } → BuildsFirst n asked bs bs s s parts
   branches_first asked bs s parts e =
       subst (BuildsFirst n asked bs bs s s) (sym e) (record {
         conditions = tt;
@@ -77,20 +77,20 @@ module _ (n : Names) where
       let ja = (judged_in (model_of n) h.0 a).broken in
       (none_first jd cs h.1, (h.0, none_first ja vs h.2), (h.0, none_second jd cs h.1, none_second ja vs h.2))
 
-  told_next : (asked : TheAsked) (bs : Branches FlatLeaf) (d a : Tree FlatLeaf) (rest : Branches FlatLeaf) (parts made : Parts) (p : Part) → AreToldSoFar (model_of n) asked bs (branch_then d a rest) parts
+  told_next : (asked : TheAsked) (bs : Branches FlatLeaf) (d a : Tree FlatLeaf) (rest : Branches FlatLeaf) (parts made : BranchSignals) (p : ExpressionSignal) → AreToldSoFar (model_of n) asked bs (branch_then d a rest) parts
       → IsTold (model_of n) asked a p → signals_of made.values ≡ signals_of parts.values ++ signal_of p.signal ∷ [] → made.sort ≡ Some (widened_sort parts.sort p.sort) → AreToldSoFar (model_of n) asked bs rest made
   told_next its_value bs d a rest parts made p before told e f =
       ap (λ x. spread_sort x (kinds_in (judge_values (kind_of_leaf (model_of n)) false rest))) (f ∙ ap (λ x. Some (widened_sort parts.sort x)) told) ∙ before
   told_next (whether_has v) bs d a rest parts made p before told e f =
       subst (Each IsBit) (sym e) (each_join IsBit (signals_of parts.values) (signal_of p.signal ∷ []) before (told, tt))
 
-  values_next : (g t : Circuit) (parts made : Parts) (p : Part) → g.free ≤ t.free → Each (IsSignal g) (signals_of parts.values) → IsSignal t (signal_of p.signal)
+  values_next : (g t : Circuit) (parts made : BranchSignals) (p : ExpressionSignal) → g.free ≤ t.free → Each (IsSignal g) (signals_of parts.values) → IsSignal t (signal_of p.signal)
       → signals_of made.values ≡ signals_of parts.values ++ signal_of p.signal ∷ [] → Each (IsSignal t) (signals_of made.values)
   values_next g t parts made p more before here e =
       subst (Each (IsSignal t)) (sym e) (each_join (IsSignal t) (signals_of parts.values) (signal_of p.signal ∷ []) (usable_later g t more parts.values before) (here, tt))
 
   -- the last branch has its value alone
-  pub branch_last : (asked : TheAsked) (bs : Branches FlatLeaf) (d a : Tree FlatLeaf) (s g t : Circuit) (parts made : Parts) (p : Part) → BuildsFirst n asked bs (branch_then d a no_branch) s g parts → BuildsPart n asked a g t p
+  pub branch_last : (asked : TheAsked) (bs : Branches FlatLeaf) (d a : Tree FlatLeaf) (s g t : Circuit) (parts made : BranchSignals) (p : ExpressionSignal) → BuildsFirst n asked bs (branch_then d a no_branch) s g parts → BuildsPart n asked a g t p
       → made.conditions ≡ parts.conditions → signals_of made.values ≡ signals_of parts.values ++ signal_of p.signal ∷ [] → made.sort ≡ Some (widened_sort parts.sort p.sort) → BuildsFirst n asked bs no_branch s t made
   unfolding listed_gates after
   branch_last asked bs d a s g t parts made p before part same e f = record {
@@ -111,16 +111,16 @@ module _ (n : Names) where
   }
 
   -- one that is not the last has its condition too
-  pub branch_next : (asked : TheAsked) (bs : Branches FlatLeaf) (d a d' a' : Tree FlatLeaf) (more : Branches FlatLeaf) (s g u t : Circuit) (parts mid made : Parts) (c p : Part) (l : Literal)
+  pub branch_next : (asked : TheAsked) (bs : Branches FlatLeaf) (d a d' a' : Tree FlatLeaf) (more : Branches FlatLeaf) (s g u t : Circuit) (parts mid made : BranchSignals) (c p : ExpressionSignal) (l : Literal)
       → BuildsFirst n asked bs (branch_then d a (branch_then d' a' more)) s g parts → BuildsPart n its_value d g u c → l ≡ literal_in (signal_of c.signal) → IsBelow u.free l
       → mid ≡ record parts { conditions = parts.conditions ++ l ∷ [] } → BuildsPart n asked a u t p
       → made.conditions ≡ mid.conditions → signals_of made.values ≡ signals_of mid.values ++ signal_of p.signal ∷ [] → made.sort ≡ Some (widened_sort mid.sort p.sort)
       → BuildsFirst n asked bs (branch_then d' a' more) s t made
   unfolding listed_gates after
   branch_next asked bs d a d' a' more s g u t parts mid made c p l before first is_l below is_mid part same e f =
-      let conds : made.conditions ≡ parts.conditions ++ l ∷ [] = same ∙ ap (λ (x : Parts). x.conditions) is_mid in
-      let vals : signals_of made.values ≡ signals_of parts.values ++ signal_of p.signal ∷ [] = e ∙ ap (λ (x : Parts). signals_of x.values ++ signal_of p.signal ∷ []) is_mid in
-      let sort : made.sort ≡ Some (widened_sort parts.sort p.sort) = f ∙ ap (λ (x : Parts). Some (widened_sort x.sort p.sort)) is_mid in
+      let conds : made.conditions ≡ parts.conditions ++ l ∷ [] = same ∙ ap (λ (x : BranchSignals). x.conditions) is_mid in
+      let vals : signals_of made.values ≡ signals_of parts.values ++ signal_of p.signal ∷ [] = e ∙ ap (λ (x : BranchSignals). signals_of x.values ++ signal_of p.signal ∷ []) is_mid in
+      let sort : made.sort ≡ Some (widened_sort parts.sort p.sort) = f ∙ ap (λ (x : BranchSignals). Some (widened_sort x.sort p.sort)) is_mid in
       let steps : g.free ≤ t.free = omega (arith, first.grows, part.grows) in
       record {
         conditions =
@@ -145,11 +145,11 @@ module _ (n : Names) where
             );
       }
 
-  told_last : (asked : TheAsked) (bs : Branches FlatLeaf) (parts : Parts) → AreToldSoFar (model_of n) asked bs no_branch parts → AreTold (model_of n) asked bs parts
+  told_last : (asked : TheAsked) (bs : Branches FlatLeaf) (parts : BranchSignals) → AreToldSoFar (model_of n) asked bs no_branch parts → AreTold (model_of n) asked bs parts
   told_last its_value bs parts h = h
   told_last (whether_has v) bs parts h = h
 
-  pub branches_end : (asked : TheAsked) (bs : Branches FlatLeaf) (s t : Circuit) (parts : Parts) → BuildsFirst n asked bs no_branch s t parts → BuildsBranches n asked bs s t parts
+  pub branches_end : (asked : TheAsked) (bs : Branches FlatLeaf) (s t : Circuit) (parts : BranchSignals) → BuildsFirst n asked bs no_branch s t parts → BuildsBranches n asked bs s t parts
   unfolding listed_gates
   branches_end asked bs s t parts built = record {
     conditions = built.conditions;
@@ -162,7 +162,7 @@ module _ (n : Names) where
   }
 
   -- the same over what is left of a list: a branch that is not the last
-  pub branches_step : (asked : TheAsked) (bs : List (Expr Flat × Expr Flat)) (i : ℕ) (b : Expr Flat × Expr Flat) (s g u v t : Circuit) (parts mid made : Parts) (c p : Part)
+  pub branches_step : (asked : TheAsked) (bs : List (Expr Flat × Expr Flat)) (i : ℕ) (b : Expr Flat × Expr Flat) (s g u v t : Circuit) (parts mid made : BranchSignals) (c p : ExpressionSignal)
       → i < length bs → b ≡ get_or bs i b → i + 1 < length bs
       → BuildsFirst n asked (branches_map leaf_of (branches_of bs)) (branches_map leaf_of (branches_of (drop i bs))) s g parts
       → BuildsPart n its_value (flat_tree b.0) g u c → IsBelow u.free (literal_in (signal_of c.signal)) → mid ≡ record parts { conditions = parts.conditions ++ literal_in (signal_of c.signal) ∷ [] }
@@ -181,7 +181,7 @@ module _ (n : Names) where
           (literal_in (signal_of c.signal)) start first refl below is_mid (subst (λ w. BuildsPart n asked (flat_tree b.1) w t p) at part) same e f
 
   -- and the last
-  pub branches_last : (asked : TheAsked) (bs : List (Expr Flat × Expr Flat)) (i : ℕ) (b : Expr Flat × Expr Flat) (s g v t : Circuit) (parts mid made : Parts) (p : Part)
+  pub branches_last : (asked : TheAsked) (bs : List (Expr Flat × Expr Flat)) (i : ℕ) (b : Expr Flat × Expr Flat) (s g v t : Circuit) (parts mid made : BranchSignals) (p : ExpressionSignal)
       → i < length bs → b ≡ get_or bs i b → length bs ≤ i + 1
       → BuildsFirst n asked (branches_map leaf_of (branches_of bs)) (branches_map leaf_of (branches_of (drop i bs))) s g parts
       → mid ≡ parts → v ≡ g → BuildsPart n asked (flat_tree b.1) v t p
@@ -193,9 +193,9 @@ module _ (n : Names) where
       (subst (λ xs. BuildsFirst n asked (branches_map leaf_of (branches_of bs)) (branch_then (flat_tree b.0) (flat_tree b.1) (branches_map leaf_of (branches_of xs))) s g parts) (drop_all (i + 1) bs high)
       (subst (λ rest. BuildsFirst n asked (branches_map leaf_of (branches_of bs)) rest s g parts) (branches_more bs i b low is) before))
       (subst (λ w. BuildsPart n asked (flat_tree b.1) w t p) at part)
-      (same ∙ ap (λ (x : Parts). x.conditions) is_mid) (e ∙ ap (λ (x : Parts). signals_of x.values ++ signal_of p.signal ∷ []) is_mid) (f ∙ ap (λ (x : Parts). Some (widened_sort x.sort p.sort)) is_mid))
+      (same ∙ ap (λ (x : BranchSignals). x.conditions) is_mid) (e ∙ ap (λ (x : BranchSignals). signals_of x.values ++ signal_of p.signal ∷ []) is_mid) (f ∙ ap (λ (x : BranchSignals). Some (widened_sort x.sort p.sort)) is_mid))
 
-  pub branches_done : (asked : TheAsked) (bs : List (Expr Flat × Expr Flat)) (i : ℕ) (s t : Circuit) (parts : Parts) → length bs ≤ i
+  pub branches_done : (asked : TheAsked) (bs : List (Expr Flat × Expr Flat)) (i : ℕ) (s t : Circuit) (parts : BranchSignals) → length bs ≤ i
       → BuildsFirst n asked (branches_map leaf_of (branches_of bs)) (branches_map leaf_of (branches_of (drop i bs))) s t parts → BuildsBranches n asked (branches_map leaf_of (branches_of bs)) s t parts
   branches_done asked bs i s t parts high built =
       branches_end asked (branches_map leaf_of (branches_of bs)) s t parts

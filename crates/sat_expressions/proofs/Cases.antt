@@ -5,7 +5,7 @@ use Rattle.std.proofs.lemmas.List.{length-map}
 use Rattle.smv_language.specs.Trace.{Each}
 use Rattle.smv_language.specs.Tree.{Branches, no_branch, branch_then, case_of}
 use Rattle.smv_language.specs.Flat.{FlatLeaf}
-use Rattle.smv_type_laws.specs.Judged.{Kind, KindRule, truth_class, not_boolean, mismatch, set_here, case_end, rule_if, unless_class, unlike_first, first_class, hull_of, hull_from, joined, some_set, broken_in, kinds_in, judge_conditions, judge_values, ends_in_true}
+use Rattle.smv_type_laws.specs.ExpressionKinds.{Kind, KindRule, truth_class, not_boolean, mismatch, set_here, case_end, rule_if, unless_class, unlike_first, first_class, hull_of, hull_from, joined, some_set, broken_in, kinds_in, judge_conditions, judge_values, ends_in_true}
 use Rattle.smv_type_laws.specs.Models.{judged_in, kind_of_leaf}
 use Rattle.smv_type_laws.proofs.Parts.{none_first, none_second}
 use Rattle.sat_clauses.specs.Literal.{Literal}
@@ -16,15 +16,15 @@ use Rattle.sat_encoding_laws.specs.Expressions.{Asked as TheAsked, its_value, wh
 use Rattle.sat_encoding_laws.proofs.Answering.{kept_interval}
 use Rattle.smv_types.specs.Answers.{told_class, told_sort}
 use Rattle.smv_types.specs.declared.sort.Sort.{Sort}
-use Rattle.sat_expressions.specs.Built.{signal_of, signals_of}
+use Rattle.sat_expressions.specs.BuiltSignals.{signal_of, signals_of}
 use Rattle.sat_expressions.specs.Choices.{chosen_gates}
 use Rattle.sat_expressions.specs.Sorts.{sort_width}
-use Rattle.sat_expressions.specs.Naming.{model_of, names_in}
+use Rattle.sat_expressions.specs.ModelNames.{model_of, names_in}
 use Rattle.sat_expressions.specs.Parts.{IsBit, IsRight, IsTold, BuildsPart}
 use Rattle.sat_expressions.specs.Branches.{listed_gates, spread_sort, parts_sort, AreRightBranches, AreTold, BuildsBranches, BuildsFirstOf}
-use Rattle.sat_expressions.specs.declared.names.Names.{Names}
-use Rattle.sat_expressions.specs.declared.branches.Parts.{Parts}
-use Rattle.sat_expressions.specs.declared.part.Part.{Part}
+use Rattle.sat_expressions.specs.declared.names.NamedSignals.{NamedSignals}
+use Rattle.sat_expressions.specs.declared.branches.BranchSignals.{BranchSignals}
+use Rattle.sat_expressions.specs.declared.part.ExpressionSignal.{ExpressionSignal}
 use Rattle.sat_expressions.proofs.Nodes.{kind_told, bits_chosen, bit_chosen}
 
 -- the conditions and the values first, and then the choices
@@ -57,7 +57,7 @@ spread_all [] = refl
 spread_all (k ∷ ks) = ap parts_sort (spread_told k ks)
 
 -- the width does not matter to truth values
-bit_listed : (n : Names) (k : ℕ) (ps : List Literal) (es : List Signal) (s : Circuit) → Each IsBit es → IsBit (chosen_gates k ps es s).1
+bit_listed : (n : NamedSignals) (k : ℕ) (ps : List Literal) (es : List Signal) (s : Circuit) → Each IsBit es → IsBit (chosen_gates k ps es s).1
 unfolding chosen_gates after
 bit_listed n k [] [] s all = tt
 bit_listed n k [] (bit a ∷ es) s all = tt
@@ -65,7 +65,7 @@ bit_listed n k [] (word a ∷ es) s all = absurd all.0
 bit_listed n k (p ∷ ps) [] s all = tt
 bit_listed n k (p ∷ ps) (e ∷ es) s all = bit_chosen n k p e (chosen_gates k ps es s).1 (chosen_gates k ps es s).0 all.0 (bit_listed n k ps es s all.1)
 
-bits_listed : (n : Names) (j k : ℕ) (ps : List Literal) (es : List Signal) (s : Circuit) → Each IsBit es → chosen_gates j ps es s ≡ chosen_gates k ps es s
+bits_listed : (n : NamedSignals) (j k : ℕ) (ps : List Literal) (es : List Signal) (s : Circuit) → Each IsBit es → chosen_gates j ps es s ≡ chosen_gates k ps es s
 unfolding chosen_gates after
 bits_listed n j k [] [] s all = refl
 bits_listed n j k [] (bit a ∷ es) s all = refl
@@ -75,7 +75,7 @@ bits_listed n j k (p ∷ ps) (e ∷ es) s all =
     ap (λ (r : Circuit × Signal). choice_gates j p e r.1 r.0) (bits_listed n j k ps es s all.1)
     ∙ bits_chosen n j k p e (chosen_gates k ps es s).1 (chosen_gates k ps es s).0 all.0 (bit_listed n k ps es s all.1)
 
-module _ (n : Names) where
+module _ (n : NamedSignals) where
   -- the rules that a case breaks itself
   abbrev own_rules : Bool → Branches FlatLeaf → List KindRule
   own_rules sets bs =
@@ -107,20 +107,20 @@ module _ (n : Names) where
       ∙ ap (λ i. record { class = told_class (first_class ks); interval = i })
       (sym (kept_interval (own_rules false bs) (hull_of ks) (none_first (own_rules false bs) _ h)))
 
-  case_width : n.symbols ≡ symbol_width (model_of n).symbols → (asked : TheAsked) (bs : Branches FlatLeaf) (parts : Parts) (s : Circuit) → IsRight (model_of n) asked (case_of bs) → AreTold (model_of n) asked bs parts
+  case_width : n.symbols ≡ symbol_width (model_of n).symbols → (asked : TheAsked) (bs : Branches FlatLeaf) (parts : BranchSignals) (s : Circuit) → IsRight (model_of n) asked (case_of bs) → AreTold (model_of n) asked bs parts
       → chosen_gates ((names_in n).width (case_of bs)) parts.conditions (signals_of parts.values) s ≡ chosen_gates (sort_width n.symbols (parts_sort parts.sort)) parts.conditions (signals_of parts.values) s
   case_width known its_value bs parts s h told =
       ap (λ k. chosen_gates k parts.conditions (signals_of parts.values) s)
       (sym (kind_told (model_of n).symbols n.symbols (judged_in (model_of n) false (case_of bs)).kind (parts_sort parts.sort) known (case_sort bs h parts.sort told)))
   case_width known (whether_has v) bs parts s h told = bits_listed n _ _ parts.conditions (signals_of parts.values) s told
 
-  case_told : (asked : TheAsked) (bs : Branches FlatLeaf) (parts : Parts) (p : Part) (s t : Circuit) (k : ℕ) → IsRight (model_of n) asked (case_of bs) → AreTold (model_of n) asked bs parts
+  case_told : (asked : TheAsked) (bs : Branches FlatLeaf) (parts : BranchSignals) (p : ExpressionSignal) (s t : Circuit) (k : ℕ) → IsRight (model_of n) asked (case_of bs) → AreTold (model_of n) asked bs parts
       → chosen_gates k parts.conditions (signals_of parts.values) s ≡ (t, signal_of p.signal) → p.sort ≡ parts_sort parts.sort → IsTold (model_of n) asked (case_of bs) p
   case_told its_value bs parts p s t k h told e f = f ∙ case_sort bs h parts.sort told
   case_told (whether_has v) bs parts p s t k h told e f = subst (λ (r : Circuit × Signal). IsBit r.1) e (bit_listed n k parts.conditions (signals_of parts.values) s told)
 
   -- a case that breaks no rule has one value more than conditions
-  case_long : (asked : TheAsked) (bs : Branches FlatLeaf) (s t : Circuit) (parts : Parts) → IsRight (model_of n) asked (case_of bs) → listed_gates (names_in n) asked bs s ≡ (t, (parts.conditions, signals_of parts.values))
+  case_long : (asked : TheAsked) (bs : Branches FlatLeaf) (s t : Circuit) (parts : BranchSignals) → IsRight (model_of n) asked (case_of bs) → listed_gates (names_in n) asked bs s ≡ (t, (parts.conditions, signals_of parts.values))
       → length parts.values ≡ length parts.conditions + 1
   case_long asked no_branch s t parts is e = absurd (no_case asked is)
   case_long asked (branch_then d a bs) s t parts is e =
@@ -129,7 +129,7 @@ module _ (n : Names) where
       in
       omega (arith, long, length-map parts.values signal_of)
 
-  pub case_built : n.symbols ≡ symbol_width (model_of n).symbols → (asked : TheAsked) (bs : Branches FlatLeaf) (s t u : Circuit) (parts : Parts) (p : Part) → BuildsBranches n asked bs s t parts
+  pub case_built : n.symbols ≡ symbol_width (model_of n).symbols → (asked : TheAsked) (bs : Branches FlatLeaf) (s t u : Circuit) (parts : BranchSignals) (p : ExpressionSignal) → BuildsBranches n asked bs s t parts
       → BuildsFirstOf n.symbols parts t u p → BuildsPart n asked (case_of bs) s u p
   unfolding encoded after
   case_built known asked bs s t u parts p built first = record {

@@ -7,7 +7,7 @@ use Rattle.sat_circuits.specs.Circuit.{Circuit, after}
 use Rattle.sat_encoding_laws.specs.Signals.{Signal, fitted, choice_gates}
 use Rattle.sat_encoding_laws.specs.Meanings.{IsSignal}
 use Rattle.sat_expressions.specs.declared.signal.Signal.{Signal as Built}
-use Rattle.sat_expressions.specs.Built.{signal_of, signals_of, BuildsSignal}
+use Rattle.sat_expressions.specs.BuiltSignals.{signal_of, signals_of, BuildsSignal}
 use Rattle.sat_expressions.specs.Choices.{first_signal, chosen_gates, upward_gates}
 use Rattle.smv_language.proofs.ListLaws.{take_there}
 use Rattle.sat_encoding_laws.proofs.MomentMeans.{signal_moved}

@@ -8,7 +8,7 @@ use Rattle.smv_language.specs.declared.expr.Expr.TheVariants.{Truth, Number, Lea
 use Rattle.smv_language.specs.declared.expr.Expr.TheOpen as open_
 use Rattle.smv_language.specs.Tree.{Tree, truth, number, leaf, not_of, negate, next_of, binary, choice, case_of, set_of, span}
 use Rattle.smv_language.specs.Leaves.{tree_map, trees_map, branches_map}
-use Rattle.smv_language.specs.Written.{tree_of, trees_of, branches_of, node_tree}
+use Rattle.smv_language.specs.ExpressionTree.{tree_of, trees_of, branches_of, node_tree}
 use Rattle.smv_language.proofs.WrittenLaws.{tree_of_case, tree_of_set, tree_of_not}
 use Rattle.smv_language.specs.declared.model.Flat.{Flat}
 use Rattle.smv_language.specs.ModelTree.{leaf_of, flat_tree}

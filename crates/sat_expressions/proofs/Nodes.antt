@@ -8,7 +8,7 @@ use Rattle.smv_language.specs.ProgramTree.{Text}
 use Rattle.smv_language.specs.Tree.{Tree, Trees, truth, number, leaf, not_of, negate, next_of, binary, choice, set_of, span}
 use Rattle.smv_language.specs.Flat.{FlatLeaf, FlatModel}
 use Rattle.smv_type_laws.specs.Intervals.{Interval}
-use Rattle.smv_type_laws.specs.Judged.{Kind, KindRule, Class, truth_class, number_class, symbol_class, Judged, where_kept, unless_class, not_boolean, mismatch, set_here, empty_range, rule_if, wide, joined, negative_interval, unlike_first, broken_in, kinds_in, judge_trees, judged_negative, judged_binary}
+use Rattle.smv_type_laws.specs.ExpressionKinds.{Kind, KindRule, Class, truth_class, number_class, symbol_class, Judged, where_kept, unless_class, not_boolean, mismatch, set_here, empty_range, rule_if, wide, joined, negative_interval, unlike_first, broken_in, kinds_in, judge_trees, judged_negative, judged_binary}
 use Rattle.smv_type_laws.specs.Models.{judged_in, kind_of_leaf}
 use Rattle.smv_type_laws.proofs.Parts.{none_first, none_second}
 use Rattle.sat_clauses.specs.Literal.{Literal, opposite}
@@ -26,12 +26,12 @@ use Rattle.smv_types.specs.Rows.{row_binary}
 use Rattle.smv_types.specs.declared.sort.Sort.{Sort}
 use Rattle.smv_types.specs.declared.sort.Class.TheVariants.{Truth}
 use Rattle.smv_types.proofs.NodeLaws.{told_negative, told_binary, told_literal}
-use Rattle.sat_expressions.specs.Built.{signal_of, BuildsLiteral, BuildsSignal}
+use Rattle.sat_expressions.specs.BuiltSignals.{signal_of, BuildsLiteral, BuildsSignal}
 use Rattle.sat_expressions.specs.Sorts.{width_of_sort, sort_width, literal_sort, negative_sort, operation_sort, joined_sort}
-use Rattle.sat_expressions.specs.Naming.{model_of, names_in, moved}
+use Rattle.sat_expressions.specs.ModelNames.{model_of, names_in, moved}
 use Rattle.sat_expressions.specs.Parts.{truth_sort, IsBit, IsRight, AreRight, BuildsMembers, IsTold, IsEncoded, BuildsPart, AnswersSort, Answers}
-use Rattle.sat_expressions.specs.declared.names.Names.{Names}
-use Rattle.sat_expressions.specs.declared.part.Part.{Part}
+use Rattle.sat_expressions.specs.declared.names.NamedSignals.{NamedSignals}
+use Rattle.sat_expressions.specs.declared.part.ExpressionSignal.{ExpressionSignal}
 
 -- ---- what is known of values
 
@@ -69,11 +69,11 @@ pub kind_told : (texts : List Text) (n : ℕ) (k : Kind) (s : Sort) → n ≡ sy
 kind_told texts n k s e h = ap (sort_width n) h ∙ class_width texts n k.class k.interval e
 
 -- the value itself, where it is asked
-pub answers_value : (s : Circuit) (value : Part) → IsSignal s (signal_of value.signal) → Answers its_value s (s, signal_of value.signal) value.sort s value
+pub answers_value : (s : Circuit) (value : ExpressionSignal) → IsSignal s (signal_of value.signal) → Answers its_value s (s, signal_of value.signal) value.sort s value
 answers_value s value usable = record { usable = usable; grows = omega arith; exact = refl; told = refl }
 
 -- whether a value is that of a signal
-pub answers_has : (v e : Signal) (known : Sort) (s t : Circuit) (p : Part) (l : Literal) → BuildsLiteral s (same_gates v e s) t l → signal_of p.signal ≡ bit l → Answers (whether_has v) s (s, e) known t p
+pub answers_has : (v e : Signal) (known : Sort) (s t : Circuit) (p : ExpressionSignal) (l : Literal) → BuildsLiteral s (same_gates v e s) t l → signal_of p.signal ≡ bit l → Answers (whether_has v) s (s, e) known t p
 unfolding after
 answers_has v e known s t p l made is = record {
   usable = subst (IsSignal t) (sym is) made.below;
@@ -83,7 +83,7 @@ answers_has v e known s t p l made is = record {
 }
 
 -- of what was built before
-pub answers_after : (asked : TheAsked) (s t u : Circuit) (r : Circuit × Signal) (e : Signal) (known given : Sort) (p : Part) → r ≡ (t, e) → s.free ≤ t.free → given ≡ known
+pub answers_after : (asked : TheAsked) (s t u : Circuit) (r : Circuit × Signal) (e : Signal) (known given : Sort) (p : ExpressionSignal) → r ≡ (t, e) → s.free ≤ t.free → given ≡ known
     → Answers asked t (t, e) given u p → Answers asked s r known u p
 answers_after asked s t u r e known given p made more sort ans = record {
   usable = ans.usable;
@@ -93,20 +93,20 @@ answers_after asked s t u r e known given p made more sort ans = record {
 }
 
 -- of an equal value, where no gate was built
-pub answers_at : (asked : TheAsked) (s u : Circuit) (e f : Signal) (known given : Sort) (p : Part) → f ≡ e → given ≡ known → Answers asked s (s, f) given u p → Answers asked s (s, e) known u p
+pub answers_at : (asked : TheAsked) (s u : Circuit) (e f : Signal) (known given : Sort) (p : ExpressionSignal) → f ≡ e → given ≡ known → Answers asked s (s, f) given u p → Answers asked s (s, e) known u p
 answers_at asked s u e f known given p is sort ans = answers_after asked s s u (s, e) f known given p (ap (λ x. (s, x)) (sym is)) (omega arith) sort ans
 
 -- the same of a result
-pub result_after : {E : Type 0} (q : Result Part E) (asked : TheAsked) (s t u : Circuit) (r : Circuit × Signal) (e : Signal) (known given : Sort) → r ≡ (t, e) → s.free ≤ t.free → given ≡ known
+pub result_after : {E : Type 0} (q : Result ExpressionSignal E) (asked : TheAsked) (s t u : Circuit) (r : Circuit × Signal) (e : Signal) (known given : Sort) → r ≡ (t, e) → s.free ≤ t.free → given ≡ known
     → IfOk q (Answers asked t (t, e) given u) → IfOk q (Answers asked s r known u)
 result_after q asked s t u r e known given made more sort =
     IfOk-weaker q (Answers asked t (t, e) given u) (Answers asked s r known u) (λ p h. answers_after asked s t u r e known given p made more sort h)
 
-pub result_at : {E : Type 0} (q : Result Part E) (asked : TheAsked) (s u : Circuit) (e f : Signal) (known given : Sort) → f ≡ e → given ≡ known → IfOk q (Answers asked s (s, f) given u) → IfOk q (Answers asked s (s, e) known u)
+pub result_at : {E : Type 0} (q : Result ExpressionSignal E) (asked : TheAsked) (s u : Circuit) (e f : Signal) (known given : Sort) → f ≡ e → given ≡ known → IfOk q (Answers asked s (s, f) given u) → IfOk q (Answers asked s (s, e) known u)
 result_at q asked s u e f known given is sort = IfOk-weaker q (Answers asked s (s, f) given u) (Answers asked s (s, e) known u) (λ p h. answers_at asked s u e f known given p is sort h)
 
 -- a literal as a signal
-pub literal_built : (s t : Circuit) (r : Circuit × Literal) (l : Literal) (p : Part) → BuildsLiteral s r t l → signal_of p.signal ≡ bit l → BuildsSignal s (as_bit r) t p.signal
+pub literal_built : (s t : Circuit) (r : Circuit × Literal) (l : Literal) (p : ExpressionSignal) → BuildsLiteral s r t l → signal_of p.signal ≡ bit l → BuildsSignal s (as_bit r) t p.signal
 literal_built s t r l p made is = record {
   exact = ap as_bit made.exact ∙ ap (λ x. (t, x)) (sym is);
   usable = subst (IsSignal t) (sym is) made.below;
@@ -115,9 +115,9 @@ literal_built s t r l p made is = record {
 
 -- ---- nodes
 
-module _ (n : Names) where
+module _ (n : NamedSignals) where
   -- A node with one value, whose parts were built onto s, which is then t: what was asked of it is told in u.
-  pub plain_part : (asked : TheAsked) (e : Tree FlatLeaf) (s t u : Circuit) (r : Circuit × Signal) (known : Sort) (p : Part) → s.free ≤ t.free → Answers asked t r known u p
+  pub plain_part : (asked : TheAsked) (e : Tree FlatLeaf) (s t u : Circuit) (r : Circuit × Signal) (known : Sort) (p : ExpressionSignal) → s.free ≤ t.free → Answers asked t r known u p
       → (IsRight (model_of n) asked e → (encoded (names_in n) asked e s ≡ answer asked r) × (known ≡ told_sort (judged_in (model_of n) false e).kind))
       → BuildsPart n asked e s u p
   plain_part asked e s t u r known p more ans is = record {
@@ -133,15 +133,15 @@ module _ (n : Names) where
       by its_value h k = h ∙ k
       by (whether_has v) h k = h
 
-  pub truth_built : (asked : TheAsked) (b : Bool) (s u : Circuit) (p : Part) → Answers asked s (s, bit (constant_lit b)) truth_sort u p → BuildsPart n asked (truth b) s u p
+  pub truth_built : (asked : TheAsked) (b : Bool) (s u : Circuit) (p : ExpressionSignal) → Answers asked s (s, bit (constant_lit b)) truth_sort u p → BuildsPart n asked (truth b) s u p
   unfolding encoded
   truth_built asked b s u p ans = plain_part asked (truth b) s s u (s, bit (constant_lit b)) truth_sort p (omega arith) ans (λ right. (refl, refl))
 
-  pub number_built : (asked : TheAsked) (z : ℤ) (s u : Circuit) (p : Part) → Answers asked s (s, word (number_word z)) (literal_sort z) u p → BuildsPart n asked (number z) s u p
+  pub number_built : (asked : TheAsked) (z : ℤ) (s u : Circuit) (p : ExpressionSignal) → Answers asked s (s, word (number_word z)) (literal_sort z) u p → BuildsPart n asked (number z) s u p
   unfolding encoded
   number_built asked z s u p ans = plain_part asked (number z) s s u (s, word (number_word z)) (literal_sort z) p (omega arith) ans (λ right. (refl, literal_told (model_of n) z))
 
-  pub leaf_built : (asked : TheAsked) (l : FlatLeaf) (s u : Circuit) (p : Part) → Answers asked s (s, (names_in n).now l) (told_sort (kind_of_leaf (model_of n) l)) u p → BuildsPart n asked (leaf l) s u p
+  pub leaf_built : (asked : TheAsked) (l : FlatLeaf) (s u : Circuit) (p : ExpressionSignal) → Answers asked s (s, (names_in n).now l) (told_sort (kind_of_leaf (model_of n) l)) u p → BuildsPart n asked (leaf l) s u p
   unfolding encoded
   leaf_built asked l s u p ans = plain_part asked (leaf l) s s u (s, (names_in n).now l) (told_sort (kind_of_leaf (model_of n) l)) p (omega arith) ans (λ right. (refl, refl))
 
@@ -149,7 +149,7 @@ module _ (n : Names) where
   not_right its_value a h = none_second (unless_class truth_class not_boolean (judged_in (model_of n) false a).kind) (judged_in (model_of n) false a).broken h
   not_right (whether_has v) a h = none_second (unless_class truth_class not_boolean (judged_in (model_of n) false a).kind) (judged_in (model_of n) false a).broken h.1
 
-  pub not_built : (asked : TheAsked) (a : Tree FlatLeaf) (s t u : Circuit) (pa p : Part) → BuildsPart n its_value a s t pa
+  pub not_built : (asked : TheAsked) (a : Tree FlatLeaf) (s t u : Circuit) (pa p : ExpressionSignal) → BuildsPart n its_value a s t pa
       → Answers asked t (t, bit (opposite (literal_in (signal_of pa.signal)))) truth_sort u p → BuildsPart n asked (not_of a) s u p
   unfolding encoded after
   not_built asked a s t u pa p built ans =
@@ -163,7 +163,7 @@ module _ (n : Names) where
   negative_right (whether_has v) a h =
       none_second (unless_class number_class mismatch (judged_in (model_of n) false a).kind ++ wide (negative_interval (judged_in (model_of n) false a).kind.interval)) (judged_in (model_of n) false a).broken h.1
 
-  pub negative_built : n.symbols ≡ symbol_width (model_of n).symbols → (asked : TheAsked) (a : Tree FlatLeaf) (s t w : Circuit) (pa p : Part) → BuildsPart n its_value a s t pa
+  pub negative_built : n.symbols ≡ symbol_width (model_of n).symbols → (asked : TheAsked) (a : Tree FlatLeaf) (s t w : Circuit) (pa p : ExpressionSignal) → BuildsPart n its_value a s t pa
       → Answers asked t (as_word (negate_gates (word_in (signal_of pa.signal)) (sort_width n.symbols (negative_sort pa.sort)) t)) (negative_sort pa.sort) w p
       → BuildsPart n asked (negate a) s w p
   unfolding encoded after
@@ -180,7 +180,7 @@ module _ (n : Names) where
   next_right its_value a h = h
   next_right (whether_has v) a h = h.1
 
-  pub next_built : (m : Names) → m ≡ moved n → (asked : TheAsked) (a : Tree FlatLeaf) (s t u : Circuit) (value p : Part) → BuildsPart m its_value a s t value
+  pub next_built : (m : NamedSignals) → m ≡ moved n → (asked : TheAsked) (a : Tree FlatLeaf) (s t u : Circuit) (value p : ExpressionSignal) → BuildsPart m its_value a s t value
       → Answers asked t (t, signal_of value.signal) value.sort u p → BuildsPart n asked (next_of a) s u p
   unfolding encoded
   next_built m e asked a s t u value p built ans =
@@ -217,7 +217,7 @@ module _ (n : Names) where
   plain_judged op.Within t a b = absurd t
   plain_judged o t a b = refl
 
-  pub both_built : n.symbols ≡ symbol_width (model_of n).symbols → (o : Op) → TakesValues o → (asked : TheAsked) (a b : Tree FlatLeaf) (s t u y : Circuit) (pa pb p : Part)
+  pub both_built : n.symbols ≡ symbol_width (model_of n).symbols → (o : Op) → TakesValues o → (asked : TheAsked) (a b : Tree FlatLeaf) (s t u y : Circuit) (pa pb p : ExpressionSignal)
       → BuildsPart n its_value a s t pa → BuildsPart n its_value b t u pb
       → Answers asked u (operator_gates o (sort_width n.symbols (operation_sort o pa.sort pb.sort)) (signal_of pa.signal) (signal_of pb.signal) u) (operation_sort o pa.sort pb.sort) y p
       → BuildsPart n asked (binary o a b) s y p
@@ -258,7 +258,7 @@ module _ (n : Names) where
       let own = unless_class (judged_in (model_of n) false a).kind.class mismatch (judged_in (model_of n) true b).kind in
       (true, none_second (judged_in (model_of n) false a).broken (judged_in (model_of n) true b).broken (none_second own _ h.1))
 
-  pub within_built : (asked : TheAsked) (a b : Tree FlatLeaf) (s t u w : Circuit) (pa pb p : Part) → BuildsPart n its_value a s t pa → BuildsPart n (whether_has (signal_of pa.signal)) b t u pb
+  pub within_built : (asked : TheAsked) (a b : Tree FlatLeaf) (s t u w : Circuit) (pa pb p : ExpressionSignal) → BuildsPart n its_value a s t pa → BuildsPart n (whether_has (signal_of pa.signal)) b t u pb
       → Answers asked u (u, signal_of pb.signal) truth_sort w p → BuildsPart n asked (binary op.Within a b) s w p
   unfolding encoded after
   within_built asked a b s t u w pa pb p left right ans =
@@ -291,12 +291,12 @@ module _ (n : Names) where
       let jb = judged_in (model_of n) true b in
       (true, none_second ja.broken jb.broken (none_second (unless_class ja.kind.class mismatch jb.kind ++ rule_if (true && not h.0) set_here) (ja.broken ++ jb.broken) h.1))
 
-  union_told : (asked : TheAsked) (a b : Tree FlatLeaf) (p : Part) → IsBit (signal_of p.signal) → IsRight (model_of n) asked (binary op.Union a b) → IsTold (model_of n) asked (binary op.Union a b) p
+  union_told : (asked : TheAsked) (a b : Tree FlatLeaf) (p : ExpressionSignal) → IsBit (signal_of p.signal) → IsRight (model_of n) asked (binary op.Union a b) → IsTold (model_of n) asked (binary op.Union a b) p
   union_told its_value a b p e h =
       absurd (set_refused (unless_class (judged_in (model_of n) true a).kind.class mismatch (judged_in (model_of n) true b).kind) ((judged_in (model_of n) true a).broken ++ (judged_in (model_of n) true b).broken) h)
   union_told (whether_has v) a b p e h = e
 
-  pub union_built : (asked : TheAsked) (a b : Tree FlatLeaf) (s t u w : Circuit) (pa pb p : Part) → BuildsPart n asked a s t pa → BuildsPart n asked b t u pb
+  pub union_built : (asked : TheAsked) (a b : Tree FlatLeaf) (s t u w : Circuit) (pa pb p : ExpressionSignal) → BuildsPart n asked a s t pa → BuildsPart n asked b t u pb
       → BuildsSignal u (as_bit (or_gate (literal_in (signal_of pa.signal)) (literal_in (signal_of pb.signal)) u)) w p.signal → IsBit (signal_of p.signal) → BuildsPart n asked (binary op.Union a b) s w p
   unfolding encoded after
   union_built asked a b s t u w pa pb p left right made e = record {
@@ -311,11 +311,11 @@ module _ (n : Names) where
     };
   }
 
-  span_told : (asked : TheAsked) (lo hi : ℤ) (p : Part) → IsBit (signal_of p.signal) → IsRight (model_of n) asked (span lo hi) → IsTold (model_of n) asked (span lo hi) p
+  span_told : (asked : TheAsked) (lo hi : ℤ) (p : ExpressionSignal) → IsBit (signal_of p.signal) → IsRight (model_of n) asked (span lo hi) → IsTold (model_of n) asked (span lo hi) p
   span_told its_value lo hi p e h = absurd (set_refused (rule_if (int_lt hi lo) empty_range ++ wide (Some (record { lo = lo; hi = hi }))) [] h)
   span_told (whether_has v) lo hi p e h = e
 
-  pub span_built : (asked : TheAsked) (lo hi : ℤ) (s t : Circuit) (p : Part) → BuildsSignal s (span_gates asked lo hi s) t p.signal → IsBit (signal_of p.signal) → BuildsPart n asked (span lo hi) s t p
+  pub span_built : (asked : TheAsked) (lo hi : ℤ) (s t : Circuit) (p : ExpressionSignal) → BuildsSignal s (span_gates asked lo hi s) t p.signal → IsBit (signal_of p.signal) → BuildsPart n asked (span lo hi) s t p
   unfolding encoded
   span_built asked lo hi s t p made e = record {
     usable = made.usable;
@@ -323,7 +323,7 @@ module _ (n : Names) where
     right = λ is. record { exact = made.exact; told = span_told asked lo hi p e is };
   }
 
-  set_told : (asked : TheAsked) (ts : Trees FlatLeaf) (p : Part) (l : Literal) → signal_of p.signal ≡ bit l → IsRight (model_of n) asked (set_of ts) → IsTold (model_of n) asked (set_of ts) p
+  set_told : (asked : TheAsked) (ts : Trees FlatLeaf) (p : ExpressionSignal) (l : Literal) → signal_of p.signal ≡ bit l → IsRight (model_of n) asked (set_of ts) → IsTold (model_of n) asked (set_of ts) p
   set_told its_value ts p l e h = absurd (set_refused (unlike_first mismatch (kinds_in (judge_trees (kind_of_leaf (model_of n)) ts))) (broken_in (judge_trees (kind_of_leaf (model_of n)) ts)) h)
   set_told (whether_has v) ts p l e h = subst IsBit (sym e) tt
 
@@ -332,7 +332,7 @@ module _ (n : Names) where
   set_right (whether_has v) ts h =
       let js = judge_trees (kind_of_leaf (model_of n)) ts in none_second (unlike_first mismatch (kinds_in js) ++ rule_if (true && not h.0) set_here) (broken_in js) h.1
 
-  pub set_built : (asked : TheAsked) (ts : Trees FlatLeaf) (s t : Circuit) (p : Part) (l : Literal) → BuildsMembers n asked ts s t l → signal_of p.signal ≡ bit l → BuildsPart n asked (set_of ts) s t p
+  pub set_built : (asked : TheAsked) (ts : Trees FlatLeaf) (s t : Circuit) (p : ExpressionSignal) (l : Literal) → BuildsMembers n asked ts s t l → signal_of p.signal ≡ bit l → BuildsPart n asked (set_of ts) s t p
   unfolding encoded
   set_built asked ts s t p l made e = record {
     usable = subst (IsSignal t) (sym e) made.below;
@@ -380,7 +380,7 @@ module _ (n : Names) where
   bit_chosen k l (bit a) (word b) s he hf = absurd hf
   bit_chosen k l (word a) f s he hf = absurd he
 
-  choice_width : n.symbols ≡ symbol_width (model_of n).symbols → (asked : TheAsked) (d a b : Tree FlatLeaf) (pa pb : Part) (l : Literal) (s : Circuit) → IsRight (model_of n) asked (choice d a b)
+  choice_width : n.symbols ≡ symbol_width (model_of n).symbols → (asked : TheAsked) (d a b : Tree FlatLeaf) (pa pb : ExpressionSignal) (l : Literal) (s : Circuit) → IsRight (model_of n) asked (choice d a b)
       → IsTold (model_of n) asked a pa → IsTold (model_of n) asked b pb
       → choice_gates ((names_in n).width (choice d a b)) l (signal_of pa.signal) (signal_of pb.signal) s ≡ choice_gates (sort_width n.symbols (joined_sort pa.sort pb.sort)) l (signal_of pa.signal) (signal_of pb.signal) s
   choice_width known its_value d a b pa pb l s h ta tb =
@@ -388,12 +388,12 @@ module _ (n : Names) where
       (sym (kind_told (model_of n).symbols n.symbols (judged_in (model_of n) false (choice d a b)).kind (joined_sort pa.sort pb.sort) known (choice_sort d a b h pa.sort pb.sort ta tb)))
   choice_width known (whether_has v) d a b pa pb l s h ta tb = bits_chosen _ _ l (signal_of pa.signal) (signal_of pb.signal) s ta tb
 
-  choice_told : (asked : TheAsked) (d a b : Tree FlatLeaf) (pa pb p : Part) (l : Literal) (s t : Circuit) (k : ℕ) → IsRight (model_of n) asked (choice d a b) → IsTold (model_of n) asked a pa → IsTold (model_of n) asked b pb
+  choice_told : (asked : TheAsked) (d a b : Tree FlatLeaf) (pa pb p : ExpressionSignal) (l : Literal) (s t : Circuit) (k : ℕ) → IsRight (model_of n) asked (choice d a b) → IsTold (model_of n) asked a pa → IsTold (model_of n) asked b pb
       → choice_gates k l (signal_of pa.signal) (signal_of pb.signal) s ≡ (t, signal_of p.signal) → p.sort ≡ joined_sort pa.sort pb.sort → IsTold (model_of n) asked (choice d a b) p
   choice_told its_value d a b pa pb p l s t k h ta tb e f = f ∙ choice_sort d a b h pa.sort pb.sort ta tb
   choice_told (whether_has v) d a b pa pb p l s t k h ta tb e f = subst (λ (r : Circuit × Signal). IsBit r.1) e (bit_chosen k l (signal_of pa.signal) (signal_of pb.signal) s ta tb)
 
-  pub choice_built : n.symbols ≡ symbol_width (model_of n).symbols → (asked : TheAsked) (d a b : Tree FlatLeaf) (s t u w y : Circuit) (pd pa pb p : Part)
+  pub choice_built : n.symbols ≡ symbol_width (model_of n).symbols → (asked : TheAsked) (d a b : Tree FlatLeaf) (s t u w y : Circuit) (pd pa pb p : ExpressionSignal)
       → BuildsPart n its_value d s t pd → BuildsPart n asked a t u pa → BuildsPart n asked b u w pb
       → BuildsSignal w (choice_gates (sort_width n.symbols (joined_sort pa.sort pb.sort)) (literal_in (signal_of pd.signal)) (signal_of pa.signal) (signal_of pb.signal) w) y p.signal
       → p.sort ≡ joined_sort pa.sort pb.sort → BuildsPart n asked (choice d a b) s y p

@@ -15,7 +15,7 @@ use Rattle.sat_encoding_laws.specs.Meanings.{IsSignal}
 use Rattle.sat_encoding_laws.proofs.Parts.{word_usable}
 use Rattle.sat_expressions.specs.declared.signal.Signal.{Signal as Built}
 use Rattle.sat_expressions.specs.declared.signal.Signal.TheVariants.{Word}
-use Rattle.sat_expressions.specs.Built.{signal_of, BuildsLiteral, BuildsSignal}
+use Rattle.sat_expressions.specs.BuiltSignals.{signal_of, BuildsLiteral, BuildsSignal}
 
 -- a word at a width
 pub fitted_word : (s : Circuit) (n : ℕ) (e : Built) (w v : List Literal) → e ≡ Word w → v ≡ fit n w → 1 ≤ n → 1 < s.free → IsSignal s (signal_of e) → BuildsSignal s (s, fitted n (signal_of e)) s (Word v)

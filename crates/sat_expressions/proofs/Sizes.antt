@@ -6,7 +6,7 @@ use Rattle.smv_language.specs.declared.expr.Op.{Op}
 use Rattle.smv_language.specs.declared.expr.Expr.{Expr}
 use Rattle.smv_language.specs.declared.expr.Expr.TheVariants.{Not, Negate, Next, Binary, Choice, Case, SetOf}
 use Rattle.smv_language.specs.Tree.{size_of, trees_size, branches_size}
-use Rattle.smv_language.specs.Written.{trees_of, branches_of}
+use Rattle.smv_language.specs.ExpressionTree.{trees_of, branches_of}
 use Rattle.smv_language.specs.Leaves.{trees_map, branches_map}
 use Rattle.smv_language.specs.declared.model.Flat.{Flat}
 use Rattle.smv_language.specs.ModelTree.{leaf_of, flat_tree}

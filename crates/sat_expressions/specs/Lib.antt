@@ -1,6 +1,6 @@
 pub mod Sorts
-pub mod Naming
+pub mod ModelNames
 pub mod Parts
 pub mod Branches
-pub mod Built
+pub mod BuiltSignals
 pub mod Choices

@@ -1,9 +1,9 @@
 -- What is known of values as the code has it, and the widths that follow.
 use Rattle.std.specs.Prelude.{ℕ, ◌-◌, ℤ, pos, false, Option, Some, None}
 use Rattle.smv_language.specs.declared.expr.Op.{Op}
-use Rattle.smv_type_laws.specs.Judged.{joined}
+use Rattle.smv_type_laws.specs.ExpressionKinds.{joined}
 use Rattle.smv_types.specs.Rows.{row_literal, row_negative, row_binary}
-use Rattle.smv_types.specs.declared.sort.Judged.{Judged}
+use Rattle.smv_types.specs.declared.sort.JudgedExpr.{JudgedExpr}
 use Rattle.smv_type_laws.specs.Intervals.{Interval}
 use Rattle.sat_encoding_laws.specs.Widths.{word_width}
 use Rattle.smv_types.specs.declared.sort.Sort.{Sort}
@@ -24,7 +24,7 @@ abbrev pub sort_width : ℕ → Sort → ℕ
 sort_width symbols s = width_of_sort symbols s.class s.interval
 
 -- a value that breaks no rule
-abbrev pub kept_sort : Sort → Judged
+abbrev pub kept_sort : Sort → JudgedExpr
 kept_sort s = record { sort = s; is_set = false; broken = None }
 
 -- what is known of a written number

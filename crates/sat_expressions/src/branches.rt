@@ -1,17 +1,16 @@
 //! The first of a case's branches: the conditions and the values, and then the choices between these.
-
 ghost use Rattle.std.specs.Prelude.{◌≡◌, ◌≢◌, ◌↔◌, ◌≤◌, ◌+◌, ◌∷◌, ◌++◌, [], Some, None, IfOk, IsTrue, length};
 ghost use Rattle.smv_language.specs.Trace.{Each};
 ghost use Rattle.sat_clauses.specs.Models.{IsBelow};
 ghost use Rattle.sat_circuits.specs.Meaning.{AllBelow};
 ghost use Rattle.sat_encoding_laws.specs.Signals.{literal_in};
 ghost use Rattle.sat_encoding_laws.specs.Meanings.{IsSignal};
-ghost use Rattle.sat_expressions.specs.Built.{signal_of, signals_of};
+ghost use Rattle.sat_expressions.specs.BuiltSignals.{signal_of, signals_of};
 ghost use Rattle.sat_expressions.specs.Branches.{widened_sort, BuildsFirstOf};
 
 use crate::choices::choices;
-use crate::names::{Names, SignalList};
-use crate::part::{Part, joined_sort, sort_or_truth, truth};
+use crate::names::{NamedSignals, SignalList};
+use crate::part::{ExpressionSignal, joined_sort, sort_or_truth, truth};
 use crate::width::sort_width;
 use base_values::{Items, OutOfMemory};
 use sat_circuits::gates::Gates;
@@ -21,7 +20,7 @@ use std::alloc::Global;
 
 /// The conditions of a case's branches, but the last, their values, and what is known of all of these.
 #[derive(Drop)]
-pub struct Parts {
+pub struct BranchSignals {
     /// The literal of each condition.
     pub conditions: Word,
     /// The signal of each value.
@@ -31,10 +30,10 @@ pub struct Parts {
 }
 
 /// No branch yet.
-pub fn no_parts(alloc: Global) -> Parts
+pub fn no_parts(alloc: Global) -> BranchSignals
     ensures { result ≡ record { conditions = []; values = []; sort = None } }
 {
-    Parts {
+    BranchSignals {
         conditions: Items::new(alloc),
         values: Items::new(alloc),
         sort: None,
@@ -42,19 +41,23 @@ pub fn no_parts(alloc: Global) -> Parts
 }
 
 /// With one more condition.
-pub fn with_condition(g: &Gates, parts: Parts, c: Part) -> Result<Parts, OutOfMemory>
+pub fn with_condition(
+    g: &Gates,
+    parts: BranchSignals,
+    c: ExpressionSignal,
+) -> Result<BranchSignals, OutOfMemory>
     requires { IsSignal g.now (signal_of c.signal) }
     ensures made { IfOk result (λ made. made ≡ record parts { conditions = parts.conditions ++ literal_in (signal_of c.signal) ∷ [] }) }
     ensures below { IsBelow g.now.free (literal_in (signal_of c.signal)) }
 {
     let l = c.signal.literal(g);
-    let Parts {
+    let BranchSignals {
         mut conditions,
         values,
         sort,
     } = parts;
     conditions.push(l)?;
-    Ok(Parts {
+    Ok(BranchSignals {
         conditions,
         values,
         sort,
@@ -62,18 +65,21 @@ pub fn with_condition(g: &Gates, parts: Parts, c: Part) -> Result<Parts, OutOfMe
 }
 
 /// With one more value.
-pub fn with_value(parts: Parts, value: Part) -> Result<Parts, OutOfMemory>
+pub fn with_value(
+    parts: BranchSignals,
+    value: ExpressionSignal,
+) -> Result<BranchSignals, OutOfMemory>
     ensures conditions { IfOk result (λ made. made.conditions ≡ parts.conditions) }
     ensures values { IfOk result (λ made. signals_of made.values ≡ signals_of parts.values ++ signal_of value.signal ∷ []) }
     ensures sort { IfOk result (λ made. made.sort ≡ Some (widened_sort parts.sort value.sort)) }
 {
-    let Parts {
+    let BranchSignals {
         conditions,
         mut values,
         sort,
     } = parts;
     values.push(value.signal)?;
-    Ok(Parts {
+    Ok(BranchSignals {
         conditions,
         values,
         sort: Some(widened_sort(sort, value.sort)),
@@ -94,9 +100,9 @@ fn widened_sort(before: Option<Sort>, sort: Sort) -> Sort
 pub fn first_of(
     alloc: Global,
     g: &mut Gates,
-    names: &Names<'_>,
-    parts: Parts,
-) -> Result<Part, OutOfMemory>
+    names: &NamedSignals<'_>,
+    parts: BranchSignals,
+) -> Result<ExpressionSignal, OutOfMemory>
     requires symbols { 1 ≤ names.now.symbols }
     requires conditions { AllBelow g.old.free parts.conditions }
     requires values { Each (IsSignal g.old) (signals_of parts.values) }
@@ -120,9 +126,9 @@ fn is_one_more(few: usize, many: usize) -> bool
 fn chosen_of(
     alloc: Global,
     g: &mut Gates,
-    names: &Names<'_>,
-    parts: &Parts,
-) -> Result<Part, OutOfMemory>
+    names: &NamedSignals<'_>,
+    parts: &BranchSignals,
+) -> Result<ExpressionSignal, OutOfMemory>
     requires symbols { 1 ≤ names.now.symbols }
     requires conditions { AllBelow g.old.free parts.now.conditions }
     requires values { Each (IsSignal g.old) (signals_of parts.now.values) }
@@ -132,14 +138,14 @@ fn chosen_of(
     let width = sort_width(names.symbols, sort_or_truth(parts.sort));
     let (conditions, values) = (parts.conditions.as_slice(), parts.values.as_slice());
     let signal = choices(alloc, g, width, conditions, values)?;
-    Ok(Part {
+    Ok(ExpressionSignal {
         signal,
         sort: sort_or_truth(parts.sort),
     })
 }
 
 /// What stands for the value that a case without branches lacks.
-fn none_of(g: &Gates, names: &Names<'_>, parts: &Parts) -> Part
+fn none_of(g: &Gates, names: &NamedSignals<'_>, parts: &BranchSignals) -> ExpressionSignal
     requires { length parts.now.values ≢ length parts.now.conditions + 1 }
     ensures { BuildsFirstOf names.now.symbols parts.now g.now g.now result }
 {

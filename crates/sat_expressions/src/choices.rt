@@ -2,12 +2,11 @@
 //!
 //! [`choices`] is the main function. The last value stands where no condition holds; from the last condition back
 //! to the first each chooses between its own value and what came out behind it.
-
 ghost use Rattle.std.specs.Prelude.{◌≡◌, ◌≤◌, ◌+◌, IfOk, length};
 ghost use Rattle.sat_circuits.specs.Meaning.{AllBelow};
 ghost use Rattle.smv_language.specs.Trace.{Each};
 ghost use Rattle.sat_encoding_laws.specs.Meanings.{IsSignal};
-ghost use Rattle.sat_expressions.specs.Built.{signals_of, BuildsSignal};
+ghost use Rattle.sat_expressions.specs.BuiltSignals.{signals_of, BuildsSignal};
 ghost use Rattle.sat_expressions.specs.Choices.{chosen_gates};
 
 use crate::signal::{Signal, choice};

@@ -1,19 +1,19 @@
 //! Expressions as gates: operands first, from left to right.
-
 ghost use Rattle.std.specs.Prelude.{IfOk};
-ghost use Rattle.smv_language.specs.Written.{trees_of, branches_of};
+ghost use Rattle.smv_language.specs.ExpressionTree.{trees_of, branches_of};
 ghost use Rattle.smv_language.specs.Leaves.{trees_map, branches_map};
 ghost use Rattle.smv_language.specs.ModelTree.{leaf_of, flat_tree};
 ghost use Rattle.sat_encoding_laws.specs.Laws.{IsAskedIn};
-ghost use Rattle.sat_expressions.specs.Naming.{IsNamed};
+ghost use Rattle.sat_expressions.specs.ModelNames.{IsNamed};
 ghost use Rattle.sat_expressions.specs.Parts.{asked_of, BuildsPart, BuildsMembers};
 ghost use Rattle.sat_expressions.specs.Branches.{BuildsBranches};
 
-use crate::branches::{Parts, first_of, no_parts, with_condition, with_value};
-use crate::names::Names;
+use crate::branches::{BranchSignals, first_of, no_parts, with_condition, with_value};
+use crate::names::NamedSignals;
 use crate::part::{
-    Asked, Form, Part, answer, applied_part, as_truth, chosen_part, form_of, leaf_part,
-    negated_part, not_part, number_part, or_part, span_part, truth, truth_part, union_part,
+    AskedSignal, ExpressionSignal, Form, answer, applied_part, as_truth, chosen_part, form_of,
+    leaf_part, negated_part, not_part, number_part, or_part, span_part, truth, truth_part,
+    union_part,
 };
 use base_values::OutOfMemory;
 use sat_circuits::gates::Gates;
@@ -27,10 +27,10 @@ use std::alloc::Global;
 pub fn expression(
     alloc: Global,
     g: &mut Gates,
-    names: &Names<'_>,
-    asked: Asked<'_>,
+    names: &NamedSignals<'_>,
+    asked: AskedSignal<'_>,
     e: &Expr<Flat>,
-) -> Result<Part, OutOfMemory>
+) -> Result<ExpressionSignal, OutOfMemory>
     requires named { IsNamed g.old names.now }
     requires asked { IsAskedIn g.old (asked_of asked) }
     ensures { IfOk result (BuildsPart names.now (asked_of asked.entry) (flat_tree e.now) g.old g.new) }
@@ -40,15 +40,15 @@ pub fn expression(
         Expr::Number(n) => number_part(alloc, g, asked, *n),
         Expr::Leaf(name) => leaf_part(alloc, g, names, asked, *name),
         Expr::Not(a) => {
-            let part = expression(alloc, g, names, Asked::ItsValue, a)?;
+            let part = expression(alloc, g, names, AskedSignal::ItsValue, a)?;
             not_part(alloc, g, asked, part)
         }
         Expr::Negate(a) => {
-            let part = expression(alloc, g, names, Asked::ItsValue, a)?;
+            let part = expression(alloc, g, names, AskedSignal::ItsValue, a)?;
             negated_part(alloc, g, names, asked, part)
         }
         Expr::Next(a) => {
-            let part = expression(alloc, g, &names.at_next(), Asked::ItsValue, a)?;
+            let part = expression(alloc, g, &names.at_next(), AskedSignal::ItsValue, a)?;
             answer(alloc, g, asked, part)
         }
         Expr::Binary(op, a, b) => match form_of(*op) {
@@ -58,18 +58,18 @@ pub fn expression(
                 union_part(g, left, right)
             }
             Form::Within => {
-                let left = expression(alloc, g, names, Asked::ItsValue, a)?;
-                let found = expression(alloc, g, names, Asked::WhetherHas(&left.signal), b)?;
+                let left = expression(alloc, g, names, AskedSignal::ItsValue, a)?;
+                let found = expression(alloc, g, names, AskedSignal::WhetherHas(&left.signal), b)?;
                 answer(alloc, g, asked, as_truth(found))
             }
             Form::Values => {
-                let left = expression(alloc, g, names, Asked::ItsValue, a)?;
-                let right = expression(alloc, g, names, Asked::ItsValue, b)?;
+                let left = expression(alloc, g, names, AskedSignal::ItsValue, a)?;
+                let right = expression(alloc, g, names, AskedSignal::ItsValue, b)?;
                 applied_part(alloc, g, names, asked, *op, left, right)
             }
         },
         Expr::Choice(c, a, b) => {
-            let condition = expression(alloc, g, names, Asked::ItsValue, c)?;
+            let condition = expression(alloc, g, names, AskedSignal::ItsValue, c)?;
             let first = expression(alloc, g, names, asked, a)?;
             let second = expression(alloc, g, names, asked, b)?;
             chosen_part(alloc, g, names, condition, first, second)
@@ -91,8 +91,8 @@ pub fn expression(
 fn some_member(
     alloc: Global,
     g: &mut Gates,
-    names: &Names<'_>,
-    asked: Asked<'_>,
+    names: &NamedSignals<'_>,
+    asked: AskedSignal<'_>,
     members: &[Expr<Flat>],
 ) -> Result<Lit, OutOfMemory>
     requires named { IsNamed g.old names.now }
@@ -112,10 +112,10 @@ fn some_member(
 fn each_branch(
     alloc: Global,
     g: &mut Gates,
-    names: &Names<'_>,
-    asked: Asked<'_>,
+    names: &NamedSignals<'_>,
+    asked: AskedSignal<'_>,
     branches: &[(Expr<Flat>, Expr<Flat>)],
-) -> Result<Parts, OutOfMemory>
+) -> Result<BranchSignals, OutOfMemory>
     requires named { IsNamed g.old names.now }
     requires asked { IsAskedIn g.old (asked_of asked) }
     ensures { IfOk result (BuildsBranches names.now (asked_of asked.entry) (branches_map leaf_of (branches_of branches.now)) g.old g.new) }
@@ -125,7 +125,7 @@ fn each_branch(
     for (condition, value) in branches {
         left -= 1;
         if left > 0 {
-            let c = expression(alloc, g, names, Asked::ItsValue, condition)?;
+            let c = expression(alloc, g, names, AskedSignal::ItsValue, condition)?;
             parts = with_condition(g, parts, c)?;
         }
         let value = expression(alloc, g, names, asked, value)?;

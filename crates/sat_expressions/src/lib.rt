@@ -3,10 +3,10 @@
 //! What the values of an expression are in a circuit is a [`signal::Signal`]: a truth value is a literal, and a
 //! number or a symbol a word of literals. Contracts see `signal_of` it, the signal of `sat_encoding_laws`, and the call
 //! of each operator promises the circuit that the definitions give, clause for clause: `BuildsSignal s r t e` of
-//! `specs/Built.antt` says that r, which was built onto the circuit s, is t with the signal e, whose variables
+//! `specs/BuiltSignals.antt` says that r, which was built onto the circuit s, is t with the signal e, whose variables
 //! stand in t.
 //!
-//! [`expression::expression`] makes the gates of an expression over the [`names::Names`] of a model, operands
+//! [`expression::expression`] makes the gates of an expression over the [`names::NamedSignals`] of a model, operands
 //! first and from left to right, in one go: it answers the signal of the value with what is known of it, or
 //! whether the value of another signal is among its values, as on the right of `in`. Contracts say that what
 //! was built is `encoded` of `sat_encoding_laws`, clause for clause (`BuildsPart` of `specs/Parts.antt`).

@@ -1,9 +1,8 @@
 //! What the names of a model are in a circuit: the signals of its variables and definitions, and the numbers of its
 //! symbols.
 //!
-//! [`Copied`] has the signals at one moment, [`Names`] those now and at the next one, and [`Names::signal`] is what
-//! an expression asks. Under `next` [`Names::at_next`] puts the next moment in the place of now.
-
+//! [`Copied`] has the signals at one moment, [`NamedSignals`] those now and at the next one, and [`NamedSignals::signal`] is what
+//! an expression asks. Under `next` [`NamedSignals::at_next`] puts the next moment in the place of now.
 ghost use Rattle.std.specs.Prelude.{◌≡◌, ◌≤◌, IfOk, pos, slice_get};
 ghost use Rattle.smv_language.specs.ModelTree.{leaf_of};
 ghost use Rattle.smv_type_laws.specs.Models.{kind_of_leaf};
@@ -12,8 +11,8 @@ ghost use Rattle.sat_circuits.specs.Words.{fit};
 ghost use Rattle.sat_circuits.specs.Numbers.{number_word};
 ghost use Rattle.sat_encoding_laws.specs.Signals.{word};
 ghost use Rattle.sat_encoding_laws.specs.Lists.{leaf_signal, signal_or_false};
-ghost use Rattle.sat_expressions.specs.Built.{signal_of, signals_of};
-ghost use Rattle.sat_expressions.specs.Naming.{copy_of, model_of, IsNamed};
+ghost use Rattle.sat_expressions.specs.BuiltSignals.{signal_of, signals_of};
+ghost use Rattle.sat_expressions.specs.ModelNames.{copy_of, model_of, IsNamed};
 
 use crate::signal::Signal;
 use base_values::{Items, OutOfMemory};
@@ -48,7 +47,7 @@ pub struct Copied {
 
 /// The names of a model now and at the next moment, and the bits of its symbols.
 #[derive(Clone, Copy)]
-pub struct Names<'a> {
+pub struct NamedSignals<'a> {
     /// The model, for what is known of the values.
     pub model: &'a Typed,
     /// The signals now.
@@ -59,12 +58,12 @@ pub struct Names<'a> {
     pub symbols: u32,
 }
 
-impl<'a> Names<'a> {
+impl<'a> NamedSignals<'a> {
     /// The names at one moment alone.
-    pub fn at(model: &'a Typed, current: &'a Copied, symbols: u32) -> Names<'a>
+    pub fn at(model: &'a Typed, current: &'a Copied, symbols: u32) -> NamedSignals<'a>
         ensures { result ≡ record { model = model.entry; current = current.entry; next = current.entry; symbols = symbols } }
     {
-        Names {
+        NamedSignals {
             model,
             current,
             next: current,
@@ -73,10 +72,10 @@ impl<'a> Names<'a> {
     }
 
     /// Under `next` a name is what it is at the next moment.
-    pub fn at_next(&self) -> Names<'a>
+    pub fn at_next(&self) -> NamedSignals<'a>
         ensures { result ≡ record { model = self.now.model; current = self.now.next; next = self.now.next; symbols = self.now.symbols } }
     {
-        Names {
+        NamedSignals {
             model: self.model,
             current: self.next,
             next: self.next,
@@ -88,7 +87,8 @@ impl<'a> Names<'a> {
     pub fn signal(&self, alloc: Global, g: &Gates, name: Flat) -> Result<Signal, OutOfMemory>
         requires { IsNamed g.now self.now }
         ensures value { IfOk result (λ e. signal_of e
-            ≡ leaf_signal (model_of self.now).symbols (copy_of self.now.current.now).variables (copy_of self.now.current.now).definitions (leaf_of name)) }
+            ≡ leaf_signal (model_of self.now).symbols (copy_of self.now.current.now).variables (copy_of self.now.current.now).definitions
+            (leaf_of name)) }
     {
         match name {
             Flat::Var(i) => signal_at(g, &self.current.variables, i),

@@ -3,7 +3,6 @@
 //! [`operator`] is the main function, for all operators with two operands; [`negated`] is the sign turned round.
 //! Each has a function of its own, which first sees that the circuit has room. Arithmetic goes to `sat_circuits`,
 //! cut to a width that the caller takes from what is known of the result.
-
 ghost use Rattle.std.specs.Prelude.{◌≤◌, IfOk};
 ghost use Rattle.sat_clauses.specs.Literal.{opposite};
 ghost use Rattle.sat_clauses.specs.Models.{IsBelow};
@@ -13,7 +12,7 @@ ghost use Rattle.sat_circuits.specs.Products.{multiply_gates};
 ghost use Rattle.sat_circuits.specs.Quotients.{divide_gates, remainder_gates};
 ghost use Rattle.sat_encoding_laws.specs.Signals.{literal_in, word_in, as_bit, as_word, turned, same_gates, operator_gates};
 ghost use Rattle.sat_encoding_laws.specs.Meanings.{IsSignal};
-ghost use Rattle.sat_expressions.specs.Built.{signal_of, BuildsLiteral, BuildsSignal};
+ghost use Rattle.sat_expressions.specs.BuiltSignals.{signal_of, BuildsLiteral, BuildsSignal};
 
 use crate::room::{check_room, check_width};
 use crate::signal::{Signal, is_less, same};
@@ -116,7 +115,8 @@ fn remaining(
     requires some { 1 ≤ width }
     requires left { IsSignal g.old (signal_of a) }
     requires right { IsSignal g.old (signal_of b) }
-    ensures { IfOk result (BuildsSignal g.old (as_word (remainder_gates (word_in (signal_of a)) (word_in (signal_of b)) width g.old)) g.new) }
+    ensures { IfOk result
+        (BuildsSignal g.old (as_word (remainder_gates (word_in (signal_of a)) (word_in (signal_of b)) width g.old)) g.new) }
 {
     check_room(g)?;
     check_width(width)?;
@@ -249,7 +249,8 @@ fn difference(g: &mut Gates, a: Signal, b: Signal) -> Result<Signal, OutOfMemory
 fn agreement(g: &mut Gates, a: Signal, b: Signal) -> Result<Signal, OutOfMemory>
     requires left { IsSignal g.old (signal_of a) }
     requires right { IsSignal g.old (signal_of b) }
-    ensures { IfOk result (BuildsSignal g.old (as_bit (turned (xor_gate (literal_in (signal_of a)) (literal_in (signal_of b)) g.old))) g.new) }
+    ensures { IfOk result
+        (BuildsSignal g.old (as_bit (turned (xor_gate (literal_in (signal_of a)) (literal_in (signal_of b)) g.old))) g.new) }
 {
     check_room(g)?;
     let l = g.xor(a.literal(g), b.literal(g))?;
@@ -260,7 +261,8 @@ fn agreement(g: &mut Gates, a: Signal, b: Signal) -> Result<Signal, OutOfMemory>
 fn implication(g: &mut Gates, a: Signal, b: Signal) -> Result<Signal, OutOfMemory>
     requires left { IsSignal g.old (signal_of a) }
     requires right { IsSignal g.old (signal_of b) }
-    ensures { IfOk result (BuildsSignal g.old (as_bit (or_gate (opposite (literal_in (signal_of a))) (literal_in (signal_of b)) g.old)) g.new) }
+    ensures { IfOk result
+        (BuildsSignal g.old (as_bit (or_gate (opposite (literal_in (signal_of a))) (literal_in (signal_of b)) g.old)) g.new) }
 {
     check_room(g)?;
     let l = g.or(a.literal(g).neg(), b.literal(g))?;

@@ -1,5 +1,4 @@
 //! The value of an expression, and what is asked of it.
-
 ghost use Rattle.std.specs.Prelude.{◌≡◌, ◌≤◌, IfOk};
 ghost use Rattle.sat_clauses.specs.Literal.{opposite};
 ghost use Rattle.sat_clauses.specs.Models.{IsBelow};
@@ -13,13 +12,13 @@ ghost use Rattle.sat_encoding_laws.specs.Signals.{bit, word, literal_in, word_in
 ghost use Rattle.sat_encoding_laws.specs.Expressions.{span_gates};
 ghost use Rattle.sat_encoding_laws.specs.Meanings.{IsSignal};
 ghost use Rattle.sat_encoding_laws.specs.Laws.{IsAskedIn};
-ghost use Rattle.sat_expressions.specs.Built.{signal_of, BuildsLiteral, BuildsSignal};
-ghost use Rattle.sat_expressions.specs.Naming.{model_of, names_in, IsNamed};
+ghost use Rattle.sat_expressions.specs.BuiltSignals.{signal_of, BuildsLiteral, BuildsSignal};
+ghost use Rattle.sat_expressions.specs.ModelNames.{model_of, names_in, IsNamed};
 ghost use Rattle.sat_expressions.specs.Sorts.{sort_width, literal_sort, negative_sort, operation_sort, joined_sort};
 ghost use Rattle.sat_expressions.specs.Branches.{parts_sort};
 ghost use Rattle.sat_expressions.specs.Parts.{form_of, asked_of, truth_sort, IsBit, Answers};
 
-use crate::names::Names;
+use crate::names::NamedSignals;
 use crate::operator::{either, negated, operator};
 use crate::signal::{Signal, between, choice, same};
 use crate::width::sort_width;
@@ -34,7 +33,7 @@ use std::alloc::Global;
 
 /// What is asked of an expression: its value, or whether that of a signal is among its values.
 #[derive(Clone, Copy)]
-pub enum Asked<'a> {
+pub enum AskedSignal<'a> {
     /// Its value.
     ItsValue,
     /// Whether the value of this signal is among its values, as on the right of `in`.
@@ -66,7 +65,7 @@ pub fn form_of(op: Op) -> Form
 
 /// The value of an expression: its signal, and what is known of it.
 #[derive(Drop)]
-pub struct Part {
+pub struct ExpressionSignal {
     /// The literal of a truth value, or the word of a number or a symbol.
     pub signal: Signal,
     /// What is known of the value, which gives the widths of words.
@@ -94,22 +93,22 @@ pub fn sort_or_truth(sort: Option<Sort>) -> Sort
 }
 
 /// A truth value.
-pub fn truth(l: Lit) -> Part
+pub fn truth(l: Lit) -> ExpressionSignal
     ensures signal { signal_of result.signal ≡ bit l }
     ensures sort { result.sort ≡ truth_sort }
 {
-    Part {
+    ExpressionSignal {
         signal: Signal::Bit(l),
         sort: truth_sort(),
     }
 }
 
 /// The same signal, as that of a truth value.
-pub fn as_truth(part: Part) -> Part
+pub fn as_truth(part: ExpressionSignal) -> ExpressionSignal
     ensures signal { result.signal ≡ part.signal }
     ensures sort { result.sort ≡ truth_sort }
 {
-    Part {
+    ExpressionSignal {
         signal: part.signal,
         sort: truth_sort(),
     }
@@ -119,16 +118,16 @@ pub fn as_truth(part: Part) -> Part
 pub fn answer(
     alloc: Global,
     g: &mut Gates,
-    asked: Asked<'_>,
-    part: Part,
-) -> Result<Part, OutOfMemory>
+    asked: AskedSignal<'_>,
+    part: ExpressionSignal,
+) -> Result<ExpressionSignal, OutOfMemory>
     requires asked { IsAskedIn g.old (asked_of asked) }
     requires usable { IsSignal g.old (signal_of part.signal) }
     ensures { IfOk result (Answers (asked_of asked.entry) g.old (g.old, signal_of part.signal) part.sort g.new) }
 {
     match asked {
-        Asked::ItsValue => Ok(part),
-        Asked::WhetherHas(wanted) => {
+        AskedSignal::ItsValue => Ok(part),
+        AskedSignal::WhetherHas(wanted) => {
             let l = same(alloc, g, wanted, &part.signal)?;
             Ok(truth(l))
         }
@@ -139,9 +138,9 @@ pub fn answer(
 pub fn truth_part(
     alloc: Global,
     g: &mut Gates,
-    asked: Asked<'_>,
+    asked: AskedSignal<'_>,
     b: bool,
-) -> Result<Part, OutOfMemory>
+) -> Result<ExpressionSignal, OutOfMemory>
     requires { IsAskedIn g.old (asked_of asked) }
     ensures { IfOk result (Answers (asked_of asked.entry) g.old (g.old, bit (constant_lit b)) truth_sort g.new) }
 {
@@ -153,14 +152,14 @@ pub fn truth_part(
 pub fn number_part(
     alloc: Global,
     g: &mut Gates,
-    asked: Asked<'_>,
+    asked: AskedSignal<'_>,
     n: i64,
-) -> Result<Part, OutOfMemory>
+) -> Result<ExpressionSignal, OutOfMemory>
     requires { IsAskedIn g.old (asked_of asked) }
     ensures { IfOk result (Answers (asked_of asked.entry) g.old (g.old, word (number_word n)) (literal_sort n) g.new) }
 {
     let word = number(alloc, g, n)?;
-    let part = Part {
+    let part = ExpressionSignal {
         signal: Signal::Word(word),
         sort: literal(n).sort,
     };
@@ -171,10 +170,10 @@ pub fn number_part(
 pub fn leaf_part(
     alloc: Global,
     g: &mut Gates,
-    names: &Names<'_>,
-    asked: Asked<'_>,
+    names: &NamedSignals<'_>,
+    asked: AskedSignal<'_>,
     name: Flat,
-) -> Result<Part, OutOfMemory>
+) -> Result<ExpressionSignal, OutOfMemory>
     requires named { IsNamed g.old names.now }
     requires asked { IsAskedIn g.old (asked_of asked) }
     ensures { IfOk result (Answers (asked_of asked.entry) g.old (g.old, (names_in names.now).now (leaf_of name))
@@ -185,7 +184,12 @@ pub fn leaf_part(
 }
 
 /// The value of a name.
-fn named_part(alloc: Global, g: &Gates, names: &Names<'_>, name: Flat) -> Result<Part, OutOfMemory>
+fn named_part(
+    alloc: Global,
+    g: &Gates,
+    names: &NamedSignals<'_>,
+    name: Flat,
+) -> Result<ExpressionSignal, OutOfMemory>
     requires { IsNamed g.now names.now }
     ensures signal { IfOk result (λ p. signal_of p.signal ≡ (names_in names.now).now (leaf_of name)) }
     ensures usable { IfOk result (λ p. IsSignal g.now (signal_of p.signal)) }
@@ -194,7 +198,7 @@ fn named_part(alloc: Global, g: &Gates, names: &Names<'_>, name: Flat) -> Result
     // The variable of the constants is below the next free one.
     let _ = g.constant(false);
     let signal = names.signal(alloc, g, name)?;
-    Ok(Part {
+    Ok(ExpressionSignal {
         signal,
         sort: names.sort(name),
     })
@@ -204,12 +208,15 @@ fn named_part(alloc: Global, g: &Gates, names: &Names<'_>, name: Flat) -> Result
 pub fn not_part(
     alloc: Global,
     g: &mut Gates,
-    asked: Asked<'_>,
-    a: Part,
-) -> Result<Part, OutOfMemory>
+    asked: AskedSignal<'_>,
+    a: ExpressionSignal,
+) -> Result<ExpressionSignal, OutOfMemory>
     requires asked { IsAskedIn g.old (asked_of asked) }
     requires usable { IsSignal g.old (signal_of a.signal) }
-    ensures { IfOk result (Answers (asked_of asked.entry) g.old (g.old, bit (opposite (literal_in (signal_of a.signal)))) truth_sort g.new) }
+    ensures { IfOk result (Answers (asked_of asked.entry) g.old (
+      g.old,
+      bit (opposite (literal_in (signal_of a.signal))),
+    ) truth_sort g.new) }
 {
     let l = a.signal.literal(g).neg();
     answer(alloc, g, asked, truth(l))
@@ -219,19 +226,20 @@ pub fn not_part(
 pub fn negated_part(
     alloc: Global,
     g: &mut Gates,
-    names: &Names<'_>,
-    asked: Asked<'_>,
-    a: Part,
-) -> Result<Part, OutOfMemory>
+    names: &NamedSignals<'_>,
+    asked: AskedSignal<'_>,
+    a: ExpressionSignal,
+) -> Result<ExpressionSignal, OutOfMemory>
     requires symbols { 1 ≤ names.now.symbols }
     requires asked { IsAskedIn g.old (asked_of asked) }
     requires usable { IsSignal g.old (signal_of a.signal) }
     ensures { IfOk result (Answers (asked_of asked.entry) g.old
-        (as_word (negate_gates (word_in (signal_of a.signal)) (sort_width names.now.symbols (negative_sort a.sort)) g.old)) (negative_sort a.sort) g.new) }
+        (as_word (negate_gates (word_in (signal_of a.signal)) (sort_width names.now.symbols (negative_sort a.sort)) g.old))
+        (negative_sort a.sort) g.new) }
 {
     let width = sort_width(names.symbols, negative(kept(a.sort)).sort);
     let signal = negated(alloc, g, width, a.signal)?;
-    let part = Part {
+    let part = ExpressionSignal {
         signal,
         sort: negative(kept(a.sort)).sort,
     };
@@ -242,17 +250,18 @@ pub fn negated_part(
 pub fn applied_part(
     alloc: Global,
     g: &mut Gates,
-    names: &Names<'_>,
-    asked: Asked<'_>,
+    names: &NamedSignals<'_>,
+    asked: AskedSignal<'_>,
     op: Op,
-    a: Part,
-    b: Part,
-) -> Result<Part, OutOfMemory>
+    a: ExpressionSignal,
+    b: ExpressionSignal,
+) -> Result<ExpressionSignal, OutOfMemory>
     requires symbols { 1 ≤ names.now.symbols }
     requires asked { IsAskedIn g.old (asked_of asked) }
     requires left { IsSignal g.old (signal_of a.signal) }
     requires right { IsSignal g.old (signal_of b.signal) }
-    ensures { IfOk result (Answers (asked_of asked.entry) g.old (operator_gates op (sort_width names.now.symbols (operation_sort op a.sort b.sort))
+    ensures { IfOk result
+        (Answers (asked_of asked.entry) g.old (operator_gates op (sort_width names.now.symbols (operation_sort op a.sort b.sort))
         (signal_of a.signal) (signal_of b.signal) g.old) (operation_sort op a.sort b.sort) g.new) }
 {
     let width = sort_width(
@@ -260,7 +269,7 @@ pub fn applied_part(
         operation(false, op, kept(a.sort), kept(b.sort)).sort,
     );
     let signal = operator(alloc, g, op, width, a.signal, b.signal)?;
-    let part = Part {
+    let part = ExpressionSignal {
         signal,
         sort: operation(false, op, kept(a.sort), kept(b.sort)).sort,
     };
@@ -268,7 +277,11 @@ pub fn applied_part(
 }
 
 /// Whether one of two is TRUE.
-pub fn union_part(g: &mut Gates, a: Part, b: Part) -> Result<Part, OutOfMemory>
+pub fn union_part(
+    g: &mut Gates,
+    a: ExpressionSignal,
+    b: ExpressionSignal,
+) -> Result<ExpressionSignal, OutOfMemory>
     requires left { IsSignal g.old (signal_of a.signal) }
     requires right { IsSignal g.old (signal_of b.signal) }
     ensures signal { IfOk result (λ p. BuildsSignal g.old (as_bit
@@ -280,7 +293,7 @@ pub fn union_part(g: &mut Gates, a: Part, b: Part) -> Result<Part, OutOfMemory>
 }
 
 /// Whether the literal is TRUE or the part is.
-pub fn or_part(g: &mut Gates, l: Lit, a: Part) -> Result<Lit, OutOfMemory>
+pub fn or_part(g: &mut Gates, l: Lit, a: ExpressionSignal) -> Result<Lit, OutOfMemory>
     requires left { IsBelow g.old.free l }
     requires right { IsSignal g.old (signal_of a.signal) }
     ensures { IfOk result (BuildsLiteral g.old (or_gate l (literal_in (signal_of a.signal)) g.old) g.new) }
@@ -302,11 +315,11 @@ pub fn joined_sort(a: Sort, b: Sort) -> Sort
 pub fn chosen_part(
     alloc: Global,
     g: &mut Gates,
-    names: &Names<'_>,
-    c: Part,
-    a: Part,
-    b: Part,
-) -> Result<Part, OutOfMemory>
+    names: &NamedSignals<'_>,
+    c: ExpressionSignal,
+    a: ExpressionSignal,
+    b: ExpressionSignal,
+) -> Result<ExpressionSignal, OutOfMemory>
     requires symbols { 1 ≤ names.now.symbols }
     requires condition { IsSignal g.old (signal_of c.signal) }
     requires left { IsSignal g.old (signal_of a.signal) }
@@ -318,7 +331,7 @@ pub fn chosen_part(
     let width = sort_width(names.symbols, joined_sort(a.sort, b.sort));
     let l = c.signal.literal(g);
     let signal = choice(alloc, g, width, l, a.signal, b.signal)?;
-    Ok(Part {
+    Ok(ExpressionSignal {
         signal,
         sort: joined_sort(a.sort, b.sort),
     })
@@ -328,17 +341,17 @@ pub fn chosen_part(
 pub fn span_part(
     alloc: Global,
     g: &mut Gates,
-    asked: Asked<'_>,
+    asked: AskedSignal<'_>,
     lo: i64,
     hi: i64,
-) -> Result<Part, OutOfMemory>
+) -> Result<ExpressionSignal, OutOfMemory>
     requires { IsAskedIn g.old (asked_of asked) }
     ensures signal { IfOk result (λ p. BuildsSignal g.old (span_gates (asked_of asked.entry) lo hi g.old) g.new p.signal) }
     ensures bit { IfOk result (λ p. IsBit (signal_of p.signal)) }
 {
     match asked {
-        Asked::ItsValue => Ok(truth(g.constant(false))),
-        Asked::WhetherHas(wanted) => {
+        AskedSignal::ItsValue => Ok(truth(g.constant(false))),
+        AskedSignal::WhetherHas(wanted) => {
             let word = wanted.to_word(alloc)?;
             let l = between(alloc, g, &word, lo, hi)?;
             Ok(truth(l))

@@ -3,7 +3,6 @@
 //! comes to the first, where its inputs have at most 2^30 bits and its top event, faults and size are within their
 //! limits: its circuit ends with room (`lists_use_states` of `sat_encoding_laws`), and circuits only grow. That no word
 //! of a typed expression comes to the second is open.
-
 ghost use Rattle.std.specs.Prelude.{◌≤◌, ◌-◌, ◌^◌, length, IsOk, OnOk};
 
 use base_values::OutOfMemory;

@@ -3,7 +3,6 @@
 //! [`Signal`] is that. [`same`] compares two, [`choice`] is the one or the other by a condition, [`between`] tests
 //! a word by the ends of an interval, and [`is_less`] compares words. Each sees first that the circuit has room for
 //! its gates, and answers want of memory where it has not.
-
 ghost use Rattle.std.specs.Prelude.{◌≡◌, ◌≤◌, ◌<◌, ◌-◌, ◌^◌, length, IfOk, OnOk};
 ghost use Rattle.sat_clauses.specs.Models.{IsBelow};
 ghost use Rattle.sat_circuits.specs.Words.{IsWordOf, fit};
@@ -11,9 +10,10 @@ ghost use Rattle.sat_circuits.specs.Gates.{xor_gate, mux_gate};
 ghost use Rattle.sat_circuits.specs.Numbers.{number_word};
 ghost use Rattle.sat_circuits.specs.Sums.{equal_gates, less_gates};
 ghost use Rattle.sat_circuits.specs.Quotients.{choose_gates};
-ghost use Rattle.sat_encoding_laws.specs.Signals.{literal_in, word_in, fitted, as_bit, as_word, turned, same_gates, choice_gates, between_gates};
+ghost use Rattle.sat_encoding_laws.specs.Signals.{literal_in, word_in, fitted, as_bit, as_word, turned, same_gates, choice_gates};
+ghost use Rattle.sat_encoding_laws.specs.Signals.{between_gates};
 ghost use Rattle.sat_encoding_laws.specs.Meanings.{IsSignal};
-ghost use Rattle.sat_expressions.specs.Built.{signal_of, IsSigned, BuildsLiteral, BuildsSignal};
+ghost use Rattle.sat_expressions.specs.BuiltSignals.{signal_of, IsSigned, BuildsLiteral, BuildsSignal};
 
 use crate::room::{check_narrow, check_room, check_width};
 use base_values::{Items, OutOfMemory};
@@ -199,7 +199,9 @@ fn chosen_word(
     requires condition { IsBelow g.old.free c }
     requires left { IsSignal g.old (signal_of a) }
     requires right { IsSignal g.old (signal_of b) }
-    ensures { IfOk result (BuildsSignal g.old (as_word (choose_gates c (fit width (word_in (signal_of a))) (fit width (word_in (signal_of b))) g.old)) g.new) }
+    ensures { IfOk result
+        (BuildsSignal g.old (as_word (choose_gates c (fit width (word_in (signal_of a))) (fit width (word_in (signal_of b))) g.old))
+        g.new) }
 {
     check_room(g)?;
     check_width(width)?;

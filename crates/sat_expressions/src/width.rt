@@ -1,7 +1,6 @@
 //! How many bits words have: those of numbers in an interval, of symbols, and of whatever an expression's values are.
 //!
 //! [`sort_width`] is the main function, and [`word_width`] that of an interval: the digits of its wider end, and a sign.
-
 ghost use Rattle.std.specs.Prelude.{◌≡◌, ◌≤◌, ◌<◌, ◌^◌};
 ghost use Rattle.sat_encoding_laws.specs.Widths.{digits_beside_sign, word_width};
 ghost use Rattle.sat_expressions.specs.Sorts.{symbols_width, sort_width};

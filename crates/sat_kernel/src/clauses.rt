@@ -4,7 +4,7 @@ use std::alloc::Global;
 
 /// A clause.
 #[derive(Clone, Copy)]
-pub struct Span {
+pub struct ClauseSpan {
     /// Where its literals begin.
     pub start: u32,
     /// Where they end.
@@ -28,7 +28,7 @@ pub struct Watch {
 #[derive(Drop)]
 pub struct Clauses {
     pub codes: Vec<u32>,
-    pub spans: Vec<Span>,
+    pub spans: Vec<ClauseSpan>,
     pub watches: Vec<Vec<Watch>>,
 }
 
@@ -97,7 +97,7 @@ impl Clauses {
         let start = small(self.codes.len())?;
         self.codes.extend_from_slice(codes)?;
         let end = small(self.codes.len())?;
-        self.spans.push(Span {
+        self.spans.push(ClauseSpan {
             start,
             end,
             number,

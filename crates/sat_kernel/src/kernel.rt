@@ -3,7 +3,7 @@ ghost use Rattle.std.specs.Prelude.{◌≡◌, ◌<◌, ◌^◌};
 
 use crate::analysis::literal;
 use crate::clauses::{Clauses, at, exchange, put, small};
-use crate::trail::{FALSE, FREE, TRUE, Trail};
+use crate::trail::{FALSE, FREE, KernelTrail, TRUE};
 use base_values::OutOfMemory;
 use sat_adviser::Panel;
 use sat_clauses::lit::Lit;
@@ -36,7 +36,7 @@ pub struct Kernel {
     pub alloc: Global,
     pub vars: u32,
     pub clauses: Clauses,
-    pub trail: Trail,
+    pub trail: KernelTrail,
     /// The places of the given clauses.
     pub given: Vec<u32>,
     /// The places of those that were learned, and how many there may be.
@@ -84,7 +84,7 @@ impl Kernel {
             alloc,
             vars: 0,
             clauses: Clauses::new(alloc),
-            trail: Trail::new(alloc),
+            trail: KernelTrail::new(alloc),
             given: Vec::new(alloc),
             lessons: Vec::new(alloc),
             most: MOST_LESSONS,

@@ -6,7 +6,7 @@ use base_values::OutOfMemory;
 
 /// What becomes of a clause one of whose watched literals is false.
 #[derive(Clone, Copy)]
-enum Look {
+enum WatchLook {
     /// It has a true literal: this one.
     Stays(u32),
     /// It watches the first literal from now on, and has the second one.
@@ -18,7 +18,13 @@ enum Look {
 }
 
 /// Looks at a clause that lies between two places, of which the first two literals are watched and one of these became false.
-fn outcome_of(codes: &mut [u32], start: usize, end: usize, values: &[u8], falsified: u32) -> Look {
+fn outcome_of(
+    codes: &mut [u32],
+    start: usize,
+    end: usize,
+    values: &[u8],
+    falsified: u32,
+) -> WatchLook {
     let beside = start.saturating_add(1);
     if at(codes, start) == falsified {
         exchange(codes, start, beside);
@@ -26,19 +32,19 @@ fn outcome_of(codes: &mut [u32], start: usize, end: usize, values: &[u8], falsif
     let first = at(codes, start);
     let known = value_in(values, first);
     if known == TRUE {
-        return Look::Stays(first);
+        return WatchLook::Stays(first);
     }
     for place in start.saturating_add(2)..end {
         let next = at(codes, place);
         if value_in(values, next) != FALSE {
             exchange(codes, beside, place);
-            return Look::Goes(next, first);
+            return WatchLook::Goes(next, first);
         }
     }
     if known == FALSE {
-        return Look::Broken(first);
+        return WatchLook::Broken(first);
     }
-    Look::Unit(first)
+    WatchLook::Unit(first)
 }
 
 impl Kernel {
@@ -108,16 +114,16 @@ impl Kernel {
             &self.trail.values,
             falsified,
         ) {
-            Look::Stays(glance) => Ok(Some(glance)),
-            Look::Goes(code, glance) => {
+            WatchLook::Stays(glance) => Ok(Some(glance)),
+            WatchLook::Goes(code, glance) => {
                 self.clauses.watch(code, place, glance)?;
                 Ok(None)
             }
-            Look::Unit(code) => {
+            WatchLook::Unit(code) => {
                 self.trail.set(code, place.saturating_add(1))?;
                 Ok(Some(code))
             }
-            Look::Broken(glance) => {
+            WatchLook::Broken(glance) => {
                 *broken = Some(place);
                 Ok(Some(glance))
             }

@@ -12,7 +12,7 @@ pub const FALSE: u8 = 2;
 
 /// The literals that are true, in order.
 #[derive(Drop)]
-pub struct Trail {
+pub struct KernelTrail {
     /// For each code what is known of the literal.
     pub values: Vec<u8>,
     /// For each variable the level at which it got its value.
@@ -33,10 +33,10 @@ pub struct Trail {
     pub least: u32,
 }
 
-impl Trail {
+impl KernelTrail {
     /// No variable yet.
-    pub fn new(alloc: Global) -> Trail {
-        Trail {
+    pub fn new(alloc: Global) -> KernelTrail {
+        KernelTrail {
             values: Vec::new(alloc),
             levels: Vec::new(alloc),
             reasons: Vec::new(alloc),

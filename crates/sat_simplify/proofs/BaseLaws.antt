@@ -4,13 +4,13 @@ use Rattle.std.proofs.lemmas.List.{append-nil, append_assoc, map_more, map-appen
 use Rattle.sat_clauses.specs.Literal.{Literal, opposite}
 use Rattle.sat_clauses.specs.Derivation.{IsUpTo}
 use Rattle.sat_clauses.specs.Code.{code_of}
-use Rattle.sat_simplify.specs.Meeting.{IsOwn, AreMetAlike, HasNoHigherVariable}
+use Rattle.sat_simplify.specs.SamePlaces.{IsOwn, AreMetAlike, HasNoHigherVariable}
 use Rattle.sat_simplify.specs.Slots.{Slot, AreNoted, IsSimpler, standing}
 use Rattle.sat_simplify.specs.Elimination.{resolvents, unless_tautology}
 use Rattle.sat_simplify.specs.Resolution.{each_once}
 use Rattle.sat_simplify.specs.Changes.{slot_at, changed, dropped, shrunk, gathered, taken_out, resolvents_in, covered, entered}
-use Rattle.sat_simplify.specs.Occurring.{noted_at}
-use Rattle.sat_simplify.specs.Based.{IsSound, Becomes, Adds, AddsAll, TakesOut, Assigns, Covers, IsEntered}
+use Rattle.sat_simplify.specs.OccurrenceLists.{noted_at}
+use Rattle.sat_simplify.specs.ClauseBase.{IsSound, Becomes, Adds, AddsAll, TakesOut, Assigns, Covers, IsEntered}
 use Rattle.sat_simplify.specs.declared.base.Base.{Base}
 use Rattle.sat_simplify.proofs.SlotLaws.{noted_changed, dropped_lessens, shrunk_lessens, covered_lessens}
 use Rattle.sat_simplify.proofs.SimplerLaws.{simpler_itself, simpler_all, unit_law, subsumption_law, elimination_law}

@@ -6,7 +6,7 @@ use Rattle.sat_clauses.specs.Models.{TotalAssignment, clause_value, Satisfies}
 use Rattle.sat_clauses.proofs.ModelLemmas.{Satisfies-from_All}
 use Rattle.sat_clauses.proofs.ClauseLists.{member_true}
 use Rattle.sat_clauses.proofs.FalseLemmas.{opposite-opposite}
-use Rattle.sat_simplify.specs.Meeting.{IsMet, IsOwn, AreMetAlike}
+use Rattle.sat_simplify.specs.SamePlaces.{IsMet, IsOwn, AreMetAlike}
 use Rattle.sat_simplify.specs.Elimination.{resolvents, IsElimination}
 use Rattle.sat_simplify.proofs.ClauseLaws.{AreTrue, HasTurn, has_turn, turned, turned_other, lacking_stays, resolvents_follow}
 use Rattle.sat_simplify.proofs.SimplerLaws.{all_from_members}

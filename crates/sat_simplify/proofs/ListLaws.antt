@@ -8,7 +8,7 @@ use Rattle.sat_clauses.specs.Derivation.{IsUpTo}
 use Rattle.sat_clauses.specs.Models.{TotalAssignment, clause_value, Satisfies}
 use Rattle.sat_clauses.proofs.ModelLemmas.{Satisfies-from_All}
 use Rattle.sat_clauses.proofs.ClauseLists.{member_true}
-use Rattle.sat_simplify.specs.Meeting.{IsMet, AreMetAlike, HasNoHigherVariable}
+use Rattle.sat_simplify.specs.SamePlaces.{IsMet, AreMetAlike, HasNoHigherVariable}
 use Rattle.sat_simplify.specs.Resolution.{each_once}
 use Rattle.sat_simplify.specs.Elimination.{unless_tautology}
 use Rattle.sat_simplify.specs.Slots.{Slot, standing, IsMade, Makes, IsOver, IsSlotOver, IsSimpler}

@@ -5,7 +5,7 @@ use Rattle.std.proofs.lemmas.List.{get_or-set_same, get_or-set_other, get_or_app
 use Rattle.std.proofs.lemmas.List.Elements.{Contains-append_left, Contains-push, All-more, All-weaker, All-nil}
 use Rattle.sat_clauses.specs.Literal.{Literal}
 use Rattle.sat_clauses.specs.Code.{code_of}
-use Rattle.sat_simplify.specs.Occurring.{noted_at, KeepsNotes, IsNotedAt, HasNoted}
+use Rattle.sat_simplify.specs.OccurrenceLists.{noted_at, KeepsNotes, IsNotedAt, HasNoted}
 
 -- a list more keeps all notes
 pub keeps_grown : (old : List (List ℕ)) → KeepsNotes old (old ++ [] ∷ [])

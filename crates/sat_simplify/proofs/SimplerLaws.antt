@@ -9,12 +9,12 @@ use Rattle.sat_clauses.specs.Code.{code_of}
 use Rattle.sat_clauses.specs.Models.{TotalAssignment, literal_value, clause_value}
 use Rattle.sat_clauses.proofs.ModelLemmas.{literal_value-opposite}
 use Rattle.sat_clauses.proofs.FalseLemmas.{opposite-opposite}
-use Rattle.sat_simplify.specs.Meeting.{IsOwn}
+use Rattle.sat_simplify.specs.SamePlaces.{IsOwn}
 use Rattle.sat_simplify.specs.Resolution.{has_literal, without, each_once, resolvent, is_tautology}
 use Rattle.sat_simplify.specs.Elimination.{unless_tautology, resolvents_with, resolvents}
 use Rattle.sat_simplify.specs.Slots.{Slot, IsMade, Makes, IsOver, IsSlotOver, IsSimpler, AreNoted}
 use Rattle.sat_simplify.specs.Changes.{slot_at, changed, dropped, shrunk, picked, gathered, taken_out, resolvents_in, eliminated, assigned, covered, covered_by}
-use Rattle.sat_simplify.specs.Occurring.{noted_at}
+use Rattle.sat_simplify.specs.OccurrenceLists.{noted_at}
 use Rattle.sat_simplify.proofs.Members.{Contains-nil, cons_cases, from_flat_map, in_flat_map, contains_from_has, has_from_contains, from_without, from_once, from_joined}
 use Rattle.sat_simplify.proofs.ClauseLaws.{AreTrue, turned, turned_other, lacking_stays, HasTurn, has_turn, resolvents_follow, true_literal}
 use Rattle.sat_simplify.proofs.SlotLaws.{all_after, all_before, dropped_cases, dropped_made, dropped_back, dropped_over, shrunk_made, shrunk_back, shrunk_over, covered_made, covered_back, covered_over, slot_to}

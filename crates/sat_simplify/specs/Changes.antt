@@ -4,7 +4,7 @@ use Rattle.std.specs.List.{flat_map}
 use Rattle.sat_clauses.specs.Literal.{Literal, opposite}
 use Rattle.sat_clauses.specs.Code.{code_of}
 use Rattle.sat_simplify.specs.Slots.{Slot}
-use Rattle.sat_simplify.specs.Occurring.{noted_at}
+use Rattle.sat_simplify.specs.OccurrenceLists.{noted_at}
 use Rattle.sat_simplify.specs.Resolution.{has_literal, without, each_once, subsumes}
 use Rattle.sat_simplify.specs.Elimination.{unless_tautology, resolvents}
 
@@ -56,11 +56,15 @@ gathered l slots at = flat_map (λ i. picked l (slot_at slots i)) at
 
 -- all clauses of a literal and of its opposite are taken out
 abbrev pub taken_out : List (List ℕ) → Literal → List Slot → List Slot
-taken_out occurrences l slots = changed (dropped (opposite l)) (changed (dropped l) slots (noted_at occurrences (code_of l))) (noted_at occurrences (code_of (opposite l)))
+taken_out occurrences l slots =
+    changed (dropped (opposite l)) (changed (dropped l) slots (noted_at occurrences (code_of l)))
+    (noted_at occurrences (code_of (opposite l)))
 
 -- the resolvents of the clauses of a literal with those of its opposite
 abbrev pub resolvents_in : List (List ℕ) → Literal → List Slot → List (List Literal)
-resolvents_in occurrences l slots = resolvents l (gathered l slots (noted_at occurrences (code_of l))) (gathered (opposite l) slots (noted_at occurrences (code_of (opposite l))))
+resolvents_in occurrences l slots =
+    resolvents l (gathered l slots (noted_at occurrences (code_of l)))
+    (gathered (opposite l) slots (noted_at occurrences (code_of (opposite l))))
 
 -- the resolvents stand in the place of all clauses of a literal and of its opposite
 abbrev pub eliminated : List (List ℕ) → Literal → List Slot → List Slot
@@ -68,7 +72,9 @@ eliminated occurrences l slots = taken_out occurrences l slots ++ map Some (reso
 
 -- a literal is true: its clauses go, its opposite goes out of clauses, and it stands as a clause of its own
 abbrev pub assigned : List (List ℕ) → Literal → List Slot → List Slot
-assigned occurrences l slots = changed (shrunk (opposite l)) (changed (dropped l) slots (noted_at occurrences (code_of l))) (noted_at occurrences (code_of (opposite l))) ++ Some (l ∷ []) ∷ []
+assigned occurrences l slots =
+    changed (shrunk (opposite l)) (changed (dropped l) slots (noted_at occurrences (code_of l)))
+    (noted_at occurrences (code_of (opposite l))) ++ Some (l ∷ []) ∷ []
 
 -- what the clause subsumes among the clauses of a literal is taken out, itself too, and the clause stands at the end
 abbrev pub covered_by : List (List ℕ) → Literal → List Literal → List Slot → List Slot

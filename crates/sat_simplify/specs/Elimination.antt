@@ -17,7 +17,8 @@ abbrev pub resolvents : Literal → List (List Literal) → List (List Literal) 
 resolvents l cs ds = flat_map (resolvents_with l ds) cs
 
 -- of 1 or 2, and 1 or 3, with -1 or -2: the one with 2 is a tautology
-example : resolvents (plain 1) ((plain 1 ∷ plain 2 ∷ []) ∷ (plain 1 ∷ plain 3 ∷ []) ∷ []) ((opposite (plain 1) ∷ opposite (plain 2) ∷ []) ∷ []) ≡ (plain 3 ∷ opposite (plain 2) ∷ []) ∷ []
+example : resolvents (plain 1) ((plain 1 ∷ plain 2 ∷ []) ∷ (plain 1 ∷ plain 3 ∷ []) ∷ []) ((opposite (plain 1) ∷ opposite (plain 2) ∷ [])
+    ∷ []) ≡ (plain 3 ∷ opposite (plain 2) ∷ []) ∷ []
 example = refl
 
 -- the list with all clauses of a variable, and the list after its elimination

@@ -1,8 +1,8 @@
-pub mod Meeting
+pub mod SamePlaces
 pub mod Resolution
 pub mod Elimination
 pub mod Slots
 pub mod Changes
-pub mod Occurring
-pub mod Based
-pub mod Compacting
+pub mod OccurrenceLists
+pub mod ClauseBase
+pub mod CompactNumbers

@@ -46,4 +46,5 @@ pub record IsSimpler (places : ℕ) (old new : List Slot) : Type 0 where
 
 -- each clause that stands is noted at each of its literals
 pub record AreNoted (occurrences : List (List ℕ)) (slots : List Slot) : Type 0 where
-  pub at : (i : ℕ) (c : List Literal) (l : Literal) → slice_get slots i ≡ Some (Some c) → Contains c l → Contains (slice_index_or occurrences (code_of l) []) i
+  pub at : (i : ℕ) (c : List Literal) (l : Literal) → slice_get slots i ≡ Some (Some c) → Contains c l →
+      Contains (slice_index_or occurrences (code_of l) []) i

@@ -4,10 +4,10 @@
 //! all clauses of a variable. [`Base::eliminate`] and [`Base::propagate`] are the main calls. When which call pays is
 //! asked elsewhere: each of them says the same of the places whenever it is called.
 ghost use Rattle.std.specs.Prelude.{◌≡◌, ◌^◌, ◌↔◌, ◌<◌, ◌++◌, ◌∷◌, [], IfOk, OnOk, IfSome, IsTrue, Some, map};
-ghost use Rattle.sat_simplify.specs.Meeting.{IsOwn};
+ghost use Rattle.sat_simplify.specs.SamePlaces.{IsOwn};
 ghost use Rattle.sat_simplify.specs.Changes.{slot_at, resolvents_in};
 ghost use Rattle.sat_simplify.specs.Slots.{IsSimpler, AreNoted};
-ghost use Rattle.sat_simplify.specs.Based.{IsSound, Becomes, Adds, AddsAll, TakesOut, Assigns, Covers};
+ghost use Rattle.sat_simplify.specs.ClauseBase.{IsSound, Becomes, Adds, AddsAll, TakesOut, Assigns, Covers};
 
 use crate::occurrences::Occurrences;
 use crate::resolving::resolve_all;

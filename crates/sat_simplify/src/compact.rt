@@ -2,10 +2,11 @@
 //!
 //! Whoever searches a list gives each variable up to its highest a value, so numbers that no clause has any more would
 //! cost as much as those that stand. [`compact`] is the main function: which variables above the places stand is
-//! marked, how many below each do not is counted, and each goes down by so many (`specs/Compacting.antt`).
+//! marked, how many below each do not is counted, and each goes down by so many (`specs/CompactNumbers.antt`).
 ghost use Rattle.std.specs.Prelude.{◌≡◌, ◌<◌, ◌^◌, IfOk, OnOk, All, IsTrue, length, slice_index_or, false};
-ghost use Rattle.sat_simplify.specs.Meeting.{AreMetAlike, HasNoHigherVariable};
-ghost use Rattle.sat_simplify.specs.Compacting.{KeepsMarks, IsMarked, HasMarked, gap_after, gaps, compacted_literal, compacted_clause, compacted_list};
+ghost use Rattle.sat_simplify.specs.SamePlaces.{AreMetAlike, HasNoHigherVariable};
+ghost use Rattle.sat_simplify.specs.CompactNumbers.{KeepsMarks, IsMarked, HasMarked, gap_after, gaps, compacted_literal, compacted_clause};
+ghost use Rattle.sat_simplify.specs.CompactNumbers.{compacted_list};
 
 use base_values::OutOfMemory;
 use sat_clauses::clause::{Clause, ClauseList};

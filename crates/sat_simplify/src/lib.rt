@@ -2,7 +2,7 @@
 //!
 //! A list says something of its places, the variables 2 to the highest place: a state now, the next one and inputs. All
 //! other variables are the list's own. `IsMet places list v` says that some values which agree with v on the places make
-//! the list true (`specs/Meeting.antt`). [`simplified`] is the one public call: its list is met exactly where the old
+//! the list true (`specs/SamePlaces.antt`). [`simplified`] is the one public call: its list is met exactly where the old
 //! one is, and has no higher variables. The frames search such lists.
 //!
 //! Clauses of one literal are propagated; a clause that another one subsumes is taken out; and a variable that is no
@@ -20,7 +20,7 @@
 #![tactic(auto)]
 
 ghost use Rattle.std.specs.Prelude.{IfOk};
-ghost use Rattle.sat_simplify.specs.Meeting.{AreMetAlike, HasNoHigherVariable};
+ghost use Rattle.sat_simplify.specs.SamePlaces.{AreMetAlike, HasNoHigherVariable};
 
 mod base;
 mod compact;

@@ -6,7 +6,7 @@ ghost use Rattle.std.specs.Option.{option_to_list};
 ghost use Rattle.sat_simplify.specs.Slots.{standing as stands};
 ghost use Rattle.sat_simplify.specs.Resolution.{each_once as once};
 ghost use Rattle.sat_simplify.specs.Elimination.{unless_tautology};
-ghost use Rattle.sat_simplify.specs.Based.{IsEntered};
+ghost use Rattle.sat_simplify.specs.ClauseBase.{IsEntered};
 
 use crate::base::Base;
 use crate::literals::each_once;

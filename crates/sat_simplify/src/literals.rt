@@ -3,7 +3,8 @@
 //! [`resolvent`] is the main function. Each function answers exactly what its definition computes
 //! (`specs/Resolution.antt`). Clauses are short, so all of them look through the literals.
 ghost use Rattle.std.specs.Prelude.{◌≡◌, ◌++◌, ◌∷◌, [], IfOk, OnOk};
-ghost use Rattle.sat_simplify.specs.Resolution.{has_literal, is_tautology as tautology, joined, each_once as once, resolvent as resolved, with_literal, without as rest_of};
+ghost use Rattle.sat_simplify.specs.Resolution.{has_literal, is_tautology as tautology, joined, each_once as once, resolvent as resolved};
+ghost use Rattle.sat_simplify.specs.Resolution.{with_literal, without as rest_of};
 
 use base_values::OutOfMemory;
 use sat_clauses::clause::Clause;

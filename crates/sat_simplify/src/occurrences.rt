@@ -3,7 +3,7 @@
 //! Numbers are noted and never taken back, so a list may name clauses that are gone or that have lost the literal.
 ghost use Rattle.std.specs.Prelude.{◌≡◌, ◌<◌, ◌++◌, ◌∷◌, [], OnOk, length, slice_set};
 ghost use Rattle.sat_clauses.specs.Code.{code_of};
-ghost use Rattle.sat_simplify.specs.Occurring.{noted_at, KeepsNotes, IsNotedAt, HasNoted};
+ghost use Rattle.sat_simplify.specs.OccurrenceLists.{noted_at, KeepsNotes, IsNotedAt, HasNoted};
 
 use base_values::OutOfMemory;
 use sat_clauses::lit::Lit;

@@ -4,7 +4,7 @@
 //! that others subsume, and variables are eliminated, until a round eliminates none. Variables with few clauses are tried
 //! first, and those of the resolvents once more (`src/queue.rt`). What a pass tries is a matter of what pays: that the
 //! clauses say the same of the places holds for each of its changes.
-ghost use Rattle.sat_simplify.specs.Based.{IsSound, Becomes};
+ghost use Rattle.sat_simplify.specs.ClauseBase.{IsSound, Becomes};
 ghost use Rattle.std.specs.Prelude.{OnOk};
 
 use crate::base::Base;
@@ -111,7 +111,8 @@ fn subsume_all(base: &mut Base) -> Result<(), OutOfMemory>
     Ok(())
 }
 
-// One round: subsumed clauses are taken out, variables are eliminated, and what that left of one literal is propagated. Answers whether one was.
+// One round: subsumed clauses are taken out, variables are eliminated, and what that left of one literal is propagated. Answers whether one
+// was.
 #[tactic(auto, using(crate::proofs::BaseLaws::becomes_all))]
 fn one_round(base: &mut Base) -> Result<bool, OutOfMemory>
     requires { IsSound base.old }

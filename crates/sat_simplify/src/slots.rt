@@ -3,7 +3,8 @@
 //! A slot has a clause, or none once that was taken out. Each function changes exactly what its definition says
 //! (`specs/Changes.antt`). An occurrence list may name places that have nothing to do with the literal: those stay.
 ghost use Rattle.std.specs.Prelude.{◌≡◌, ◌++◌, IfOk, OnOk, IfSome, IfNone, MatchOption, Some};
-ghost use Rattle.sat_simplify.specs.Changes.{changed, changed_at, covered, dropped, gathered, picked, shrunk, slot_at, slot_covered as covered_at, slot_has as has_at};
+ghost use Rattle.sat_simplify.specs.Changes.{changed, changed_at, covered, dropped, gathered, picked, shrunk, slot_at};
+ghost use Rattle.sat_simplify.specs.Changes.{slot_covered as covered_at, slot_has as has_at};
 ghost use Rattle.sat_simplify.specs.Resolution.{subsumes};
 
 use crate::literals::{has, without};

@@ -8,8 +8,8 @@ use Rattle.sat_clauses.specs.Literal.{Literal}
 use Rattle.sat_clauses.specs.Models.{FollowsFrom, ClauseBelow}
 use Rattle.sat_clauses.specs.StoreRecord.{StoreValue}
 use Rattle.sat_clauses.specs.Derivation.{IsUpTo}
-use Rattle.sat_solver.specs.Kept.{added_of, IsKept}
-use Rattle.sat_solver.specs.Alive.{IsAlive}
+use Rattle.sat_solver.specs.LearnedClauses.{added_of, IsKept}
+use Rattle.sat_solver.specs.LivingClauses.{IsAlive}
 use Rattle.sat_solver.proofs.KeptLemmas.{added_append}
 
 pub same_default : (cs : List (List Literal)) (k : ℕ) (d e : List Literal) → k < length cs → get_or cs k d ≡ get_or cs k e

@@ -6,7 +6,7 @@ use Rattle.std.proofs.lemmas.List.Elements.{All-weaker}
 use Rattle.sat_clauses.specs.Literal.{Literal}
 use Rattle.sat_clauses.specs.Assignment.{Assignment, all_free, value_of}
 use Rattle.sat_clauses.specs.Derivation.{IsUpTo}
-use Rattle.sat_solver.specs.declared.trail.Entry.{Entry}
+use Rattle.sat_solver.specs.declared.trail.TrailEntry.{TrailEntry}
 use Rattle.sat_solver.specs.declared.trail.Reason.{Reason}
 use Rattle.sat_solver.specs.declared.trail.Reason.TheVariants.{Assumed, Chosen}
 use Rattle.sat_solver.specs.TrailRecord.{TrailValue}
@@ -15,36 +15,36 @@ use Rattle.sat_solver.specs.Search.{IsReason, IsJustified, IsSound}
 use Rattle.sat_solver.proofs.ExplainLemmas.{value_part, IsPart-more}
 
 -- one of these was made true for this reason
-abbrev HasReason : Reason → List Entry → Type 0
+abbrev HasReason : Reason → List TrailEntry → Type 0
 HasReason q [] = ⊥
 HasReason q (e ∷ es) = (e.reason ≡ q) ⊎ HasReason q es
 
-reason_left : (q : Reason) (xs ys : List Entry) → HasReason q xs → HasReason q (xs ++ ys)
+reason_left : (q : Reason) (xs ys : List TrailEntry) → HasReason q xs → HasReason q (xs ++ ys)
 reason_left q [] ys h = absurd h
 reason_left q (x ∷ xs) ys h = ⊎_elim (λ here. inl here) (λ later. inr (reason_left q xs ys later)) h
 
-reason_right : (q : Reason) (xs ys : List Entry) → HasReason q ys → HasReason q (xs ++ ys)
+reason_right : (q : Reason) (xs ys : List TrailEntry) → HasReason q ys → HasReason q (xs ++ ys)
 reason_right q [] ys h = h
 reason_right q (x ∷ xs) ys h = inr (reason_right q xs ys h)
 
-reason_reverse : (q : Reason) (xs : List Entry) → HasReason q xs → HasReason q (reverse xs)
+reason_reverse : (q : Reason) (xs : List TrailEntry) → HasReason q xs → HasReason q (reverse xs)
 reason_reverse q [] h = h
 reason_reverse q (x ∷ xs) h =
     subst (HasReason q) (sym (reverse-append (x ∷ []) xs))
     (⊎_elim (λ here. reason_right q (reverse xs) (x ∷ []) (inl here)) (λ later. reason_left q (reverse xs) (x ∷ []) (reason_reverse q xs later)) h)
 
-reason_at : (q : Reason) (xs : List Entry) (i : ℕ) (e : Entry) → slice_get xs i ≡ Some e → e.reason ≡ q → HasReason q xs
+reason_at : (q : Reason) (xs : List TrailEntry) (i : ℕ) (e : TrailEntry) → slice_get xs i ≡ Some e → e.reason ≡ q → HasReason q xs
 reason_at q [] i e is same = cc
 reason_at q (x ∷ xs) zero e is here = inl (same x e is ∙ here)
   where
-    same : (x e : Entry) → Some x ≡ Some e → x.reason ≡ e.reason
+    same : (x e : TrailEntry) → Some x ≡ Some e → x.reason ≡ e.reason
     same x e is = cc
 reason_at q (x ∷ xs) (suc i) e is same = inr (reason_at q xs i e is same)
 
 -- where the reason says that these literals were true, they still are
 true_since : (clauses : List (List Literal)) (assumptions : List Literal) (n : ℕ) (q : Reason) (ls : List Literal) →
     ((a : Assignment) (l : Literal) → IsReason clauses assumptions a l q → All (λ p. value_of a p ≡ Some true) ls) →
-    (es : List Entry) → IsFresh n es → IsJustified clauses assumptions n es → HasReason q es → All (λ p. value_of (assigned n es) p ≡ Some true) ls
+    (es : List TrailEntry) → IsFresh n es → IsJustified clauses assumptions n es → HasReason q es → All (λ p. value_of (assigned n es) p ≡ Some true) ls
 true_since clauses assumptions n q ls tells [] fresh just h = absurd h
 true_since clauses assumptions n q ls tells (e ∷ es) fresh just h =
     All-weaker (λ p. value_of (assigned n es) p ≡ Some true) (λ p. value_of (assigned n (e ∷ es)) p ≡ Some true)

@@ -6,7 +6,7 @@ use Rattle.std.proofs.lemmas.List.{get_or_default}
 use Rattle.sat_clauses.specs.Literal.{Literal, signed}
 use Rattle.sat_clauses.specs.Assignment.{Assignment, value_of}
 use Rattle.sat_clauses.proofs.TruthLemmas.{truth_of-True}
-use Rattle.sat_solver.specs.Found.{IsTrueIn}
+use Rattle.sat_solver.specs.ClauseFindings.{IsTrueIn}
 use Rattle.sat_solver.specs.Complete.{WouldBeTrue, WouldHold, WouldHoldBetween, IsFilled}
 
 true_literal : (a b : Assignment) → IsFilled a b → (l : Literal) → WouldBeTrue a l → value_of b l ≡ Some true

@@ -6,7 +6,7 @@ use Rattle.sat_clauses.specs.Literal.{Literal}
 use Rattle.sat_clauses.specs.Assignment.{Assignment, value_of, made_true}
 use Rattle.sat_clauses.specs.Trail.{assigned_from, assigned_by}
 use Rattle.sat_clauses.proofs.TrailLemmas.{assigned_from_push}
-use Rattle.sat_solver.specs.declared.trail.Entry.{Entry}
+use Rattle.sat_solver.specs.declared.trail.TrailEntry.{TrailEntry}
 use Rattle.sat_solver.specs.TrailRecord.{TrailValue}
 use Rattle.sat_solver.specs.declared.solve.Verdict.{Verdict}
 use Rattle.sat_solver.specs.declared.solve.Verdict.TheVariants.{Sat, Unsat}
@@ -16,14 +16,14 @@ use Rattle.sat_solver.specs.Verdict.{IsAdvance}
 use Rattle.sat_solver.proofs.TrailLemmas.{slice_push}
 use Rattle.sat_solver.proofs.LessonLemmas.{fresh_at}
 
-lits_of_push : (xs : List Entry) (e : Entry) → lits_of (xs ++ e ∷ []) ≡ lits_of xs ++ e.lit ∷ []
-lits_of_push xs e = map-append (λ (d : Entry). d.lit) xs (e ∷ [])
+lits_of_push : (xs : List TrailEntry) (e : TrailEntry) → lits_of (xs ++ e ∷ []) ≡ lits_of xs ++ e.lit ∷ []
+lits_of_push xs e = map-append (λ (d : TrailEntry). d.lit) xs (e ∷ [])
 
-lits_of_take : (k : ℕ) (xs : List Entry) → take k (lits_of xs) ≡ lits_of (take k xs)
-lits_of_take k xs = take-map (λ (d : Entry). d.lit) k xs
+lits_of_take : (k : ℕ) (xs : List TrailEntry) → take k (lits_of xs) ≡ lits_of (take k xs)
+lits_of_take k xs = take-map (λ (d : TrailEntry). d.lit) k xs
 
-length-lits_of : (xs : List Entry) → length (lits_of xs) ≡ length xs
-length-lits_of xs = length-map xs (λ (d : Entry). d.lit)
+length-lits_of : (xs : List TrailEntry) → length (lits_of xs) ≡ length xs
+length-lits_of xs = length-map xs (λ (d : TrailEntry). d.lit)
 
 -- nothing is followed yet
 pub followed_none : (s : List Literal) (t : TrailValue) → t.followed ≡ 0 → IsFollowed s t
@@ -34,7 +34,7 @@ followed_none s t none = record {
 }
 
 -- one more literal is made true
-pub followed_push : (s : List Literal) (t u : TrailValue) (e : Entry) → u.followed ≡ t.followed → u.entries ≡ t.entries ++ e ∷ [] → IsFollowed s t → IsFollowed s u
+pub followed_push : (s : List Literal) (t u : TrailValue) (e : TrailEntry) → u.followed ≡ t.followed → u.entries ≡ t.entries ++ e ∷ [] → IsFollowed s t → IsFollowed s u
 followed_push s t u e same longer h = record {
   there = let w = h.there in omega arith;
   within = omega (arith, h.within, ap length longer, length-append t.entries (e ∷ []));
@@ -61,7 +61,7 @@ pub followed_begins : (s : List Literal) (t : TrailValue) → IsFollowed s t →
 followed_begins s t h = h.same ∙ lits_of_take t.followed t.entries
 
 -- the store made one more of them true
-pub begins_more : (s : List Literal) (xs : List Entry) (i : ℕ) (e : Entry) → slice_get xs i ≡ Some e → s ≡ lits_of (take i xs) → s ++ e.lit ∷ [] ≡ lits_of (take (i + 1) xs)
+pub begins_more : (s : List Literal) (xs : List TrailEntry) (i : ℕ) (e : TrailEntry) → slice_get xs i ≡ Some e → s ≡ lits_of (take i xs) → s ++ e.lit ∷ [] ≡ lits_of (take (i + 1) xs)
 begins_more s xs i e at is = ap (λ ls. ls ++ e.lit ∷ []) is ∙ (sym (lits_of_push (take i xs) e) ∙ ap lits_of (sym (slice_push xs i e at)))
 
 -- all are followed
@@ -73,7 +73,7 @@ followed_all s t all is = record {
 }
 
 -- the entries, the newest first, and their literals in order make the same assignment
-assigned_same : (n : ℕ) (es : List Entry) → assigned n es ≡ assigned_from (replicate n None) (lits_of (reverse es))
+assigned_same : (n : ℕ) (es : List TrailEntry) → assigned n es ≡ assigned_from (replicate n None) (lits_of (reverse es))
 assigned_same n [] = refl
 assigned_same n (e ∷ es) =
     let start : Assignment = replicate n None in
@@ -82,10 +82,10 @@ assigned_same n (e ∷ es) =
     ∙ ap (assigned_from start) (sym (lits_of_push (reverse es) e) ∙ ap lits_of (sym (reverse-append (e ∷ []) es))))
 
 -- where the store has made true the literals before place i, the one at i is in range and free
-pub next_in_range : (vars n : ℕ) (xs : List Entry) (i : ℕ) (e : Entry) → vars + 1 ≡ n → slice_get xs i ≡ Some e → IsFresh n (reverse xs) → e.lit.var ≤ vars
+pub next_in_range : (vars n : ℕ) (xs : List TrailEntry) (i : ℕ) (e : TrailEntry) → vars + 1 ≡ n → slice_get xs i ≡ Some e → IsFresh n (reverse xs) → e.lit.var ≤ vars
 next_in_range vars n xs i e places at fresh = omega (arith, (fresh_at n xs i e at fresh).1)
 
-pub next_free : (vars n : ℕ) (s : List Literal) (xs : List Entry) (i : ℕ) (e : Entry) → vars + 1 ≡ n → slice_get xs i ≡ Some e → IsFresh n (reverse xs) → s ≡ lits_of (take i xs) → value_of (assigned_by vars s) e.lit ≡ None
+pub next_free : (vars n : ℕ) (s : List Literal) (xs : List TrailEntry) (i : ℕ) (e : TrailEntry) → vars + 1 ≡ n → slice_get xs i ≡ Some e → IsFresh n (reverse xs) → s ≡ lits_of (take i xs) → value_of (assigned_by vars s) e.lit ≡ None
 next_free vars n s xs i e places at fresh is =
     let same : assigned_by vars s ≡ assigned n (below xs i) =
     ap (assigned_by vars) (is ∙ ap lits_of (sym (reverse-reverse (take i xs))))

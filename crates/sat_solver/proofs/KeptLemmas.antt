@@ -11,7 +11,7 @@ use Rattle.sat_clauses.specs.declared.step.Step.{Step}
 use Rattle.sat_solver.specs.TrailRecord.{TrailValue}
 use Rattle.sat_solver.specs.Trail.{IsIdle}
 use Rattle.sat_solver.specs.Search.{AreSteps, with_steps}
-use Rattle.sat_solver.specs.Kept.{added_of, IsKept, IsSearch}
+use Rattle.sat_solver.specs.LearnedClauses.{added_of, IsKept, IsSearch}
 use Rattle.sat_solver.proofs.VerdictLemmas.{all_follow}
 
 pub kept_from_search : (b : Bool) (s : StoreValue) (ms : List Bool) (t : TrailValue) → IsSearch b s ms t → b ≡ false → IsKept s ms × IsIdle s.vars t

@@ -11,7 +11,7 @@ use Rattle.sat_clauses.specs.Assignment.{value_of}
 use Rattle.sat_clauses.specs.Truth.{truth_of, IsUnit}
 use Rattle.sat_clauses.specs.declared.clause.Truth.TheVariants.{Unit as UnitClause}
 use Rattle.sat_clauses.proofs.TruthLemmas.{truth_of-Unit}
-use Rattle.sat_solver.specs.declared.trail.Entry.{Entry}
+use Rattle.sat_solver.specs.declared.trail.TrailEntry.{TrailEntry}
 use Rattle.sat_solver.specs.declared.trail.Reason.{Reason}
 use Rattle.sat_solver.specs.declared.trail.Reason.TheVariants.{Assumed, Chosen, Implied}
 use Rattle.sat_solver.specs.Trail.{assigned, IsFresh, below}
@@ -39,7 +39,7 @@ not_empty k lt = by (eqb k 0) refl where
   by false e = refl
   by true e = absurd (omega (arith, eqb-true k 0 e))
 
-false_in_more : (n : ℕ) (e : Entry) (es : List Entry) (c : List Literal) → IsFresh n (e ∷ es) → All (λ m. value_of (assigned n es) m ≡ Some false) c → All (λ m. value_of (assigned n (e ∷ es)) m ≡ Some false) c
+false_in_more : (n : ℕ) (e : TrailEntry) (es : List TrailEntry) (c : List Literal) → IsFresh n (e ∷ es) → All (λ m. value_of (assigned n es) m ≡ Some false) c → All (λ m. value_of (assigned n (e ∷ es)) m ≡ Some false) c
 false_in_more n e es c fresh all = λ k d lt. value_part (assigned n es) (assigned n (e ∷ es)) (get_or c k d) false (IsPart-more (assigned n es) e.lit fresh.2) (all k d lt)
 
 not_one : (k : ℕ) → 2 ≤ k → eqb k 1 ≡ false
@@ -54,13 +54,13 @@ decision_is Chosen e = tt
 decision_is (Implied x) e = absurd (both_ways false refl e)
 
 -- once the clause has two literals, only literals that are false join it
-pub record Joins (n : ℕ) (es : List Entry) (s t : AnalysisValue) : Type 0 where
+pub record Joins (n : ℕ) (es : List TrailEntry) (s t : AnalysisValue) : Type 0 where
   pub more : List Literal
   pub lits : t.lits ≡ s.lits ++ more
   pub are_false : All (λ m. value_of (assigned n es) m ≡ Some false) more
   pub target : t.target ≡ s.target
 
-joins : (cs : List (List Literal)) (n : ℕ) (es : List Entry) (s : AnalysisValue) → IsFresh n es → 2 ≤ length s.lits → Joins n es s (analysed cs false s es)
+joins : (cs : List (List Literal)) (n : ℕ) (es : List TrailEntry) (s : AnalysisValue) → IsFresh n es → 2 ≤ length s.lits → Joins n es s (analysed cs false s es)
 joins cs n [] s fresh some = record { more = []; lits = sym (append-nil s.lits); are_false = All-nil (λ m. value_of (assigned n []) m ≡ Some false); target = refl }
 joins cs n (e ∷ es) s fresh some =
     by_mark (get_or s.marks e.lit.var false) (λ s' some'. joins cs n es s' fresh.0 some')
@@ -98,7 +98,7 @@ joins cs n (e ∷ es) s fresh some =
         (with_kept (go kept (omega (arith, length-append s.lits (opposite e.lit ∷ [])))))
 
 -- with one literal l, the target stays
-pub record Stays (n : ℕ) (es : List Entry) (s t : AnalysisValue) (l : Literal) : Type 0 where
+pub record Stays (n : ℕ) (es : List TrailEntry) (s t : AnalysisValue) (l : Literal) : Type 0 where
   pub more : List Literal
   pub lits : t.lits ≡ l ∷ more
   pub are_false : All (λ m. value_of (assigned n es) m ≡ Some false) more
@@ -106,10 +106,10 @@ pub record Stays (n : ℕ) (es : List Entry) (s t : AnalysisValue) (l : Literal)
   pub not_alone : is_alone s.marks es ≡ false
 
 -- or the target comes to be at a decision of es, beneath which the other literals are false
-pub record Aims (n : ℕ) (es : List Entry) (t : AnalysisValue) (l : Literal) : Type 0 where
-  pub above : List Entry
-  pub decision : Entry
-  pub beneath : List Entry
+pub record Aims (n : ℕ) (es : List TrailEntry) (t : AnalysisValue) (l : Literal) : Type 0 where
+  pub above : List TrailEntry
+  pub decision : TrailEntry
+  pub beneath : List TrailEntry
   pub in_turn : es ≡ above ++ decision ∷ beneath
   pub is_decision : IsDecision decision.reason
   pub rest : List Literal
@@ -117,7 +117,7 @@ pub record Aims (n : ℕ) (es : List Entry) (t : AnalysisValue) (l : Literal) : 
   pub are_false : All (λ m. value_of (assigned n beneath) m ≡ Some false) rest
   pub target : t.target ≡ length beneath
 
-stays_or_aims : (cs : List (List Literal)) (n : ℕ) (l : Literal) (es : List Entry) (s : AnalysisValue) → IsFresh n es → s.lits ≡ l ∷ [] → Stays n es s (analysed cs false s es) l ⊎ Aims n es (analysed cs false s es) l
+stays_or_aims : (cs : List (List Literal)) (n : ℕ) (l : Literal) (es : List TrailEntry) (s : AnalysisValue) → IsFresh n es → s.lits ≡ l ∷ [] → Stays n es s (analysed cs false s es) l ⊎ Aims n es (analysed cs false s es) l
 stays_or_aims cs n l [] s fresh one = inl (record { more = []; lits = one; are_false = All-nil (λ m. value_of (assigned n []) m ≡ Some false); target = refl; not_alone = refl })
 stays_or_aims cs n l (e ∷ es) s fresh one =
     by_mark (get_or s.marks e.lit.var false) refl (λ s' one'. stays_or_aims cs n l es s' fresh.0 one')
@@ -191,19 +191,19 @@ stays_or_aims cs n l (e ∷ es) s fresh one =
         subst (λ p. Stays n (e ∷ es) s (analysed cs false (visited_by cs s e (length es) p) es) l ⊎ Aims n (e ∷ es) (analysed cs false (visited_by cs s e (length es) p) es) l) (sym none)
         (inl (with_kept is))
 
-pub fresh_after : (n : ℕ) (above es : List Entry) → IsFresh n (above ++ es) → IsFresh n es
+pub fresh_after : (n : ℕ) (above es : List TrailEntry) → IsFresh n (above ++ es) → IsFresh n es
 fresh_after n [] es fresh = fresh
 fresh_after n (e ∷ above) es fresh = fresh_after n above es fresh.0
 
-part_after : (n : ℕ) (above es : List Entry) → IsFresh n (above ++ es) → IsPart (assigned n es) (assigned n (above ++ es))
+part_after : (n : ℕ) (above es : List TrailEntry) → IsFresh n (above ++ es) → IsPart (assigned n es) (assigned n (above ++ es))
 part_after n [] es fresh = λ x v h. h
 part_after n (e ∷ above) es fresh = λ x v h. IsPart-more (assigned n (above ++ es)) e.lit fresh.2 x v (part_after n above es fresh.0 x v h)
 
 -- a decision above `beneath`: the first literal of the clause is free beneath it, and the others are false
-pub record Asserts (n : ℕ) (es : List Entry) (t : AnalysisValue) : Type 0 where
-  pub above : List Entry
-  pub decision : Entry
-  pub beneath : List Entry
+pub record Asserts (n : ℕ) (es : List TrailEntry) (t : AnalysisValue) : Type 0 where
+  pub above : List TrailEntry
+  pub decision : TrailEntry
+  pub beneath : List TrailEntry
   pub in_turn : es ≡ above ++ decision ∷ beneath
   pub is_decision : IsDecision decision.reason
   pub first : Literal
@@ -214,7 +214,7 @@ pub record Asserts (n : ℕ) (es : List Entry) (t : AnalysisValue) : Type 0 wher
   pub are_false : All (λ m. value_of (assigned n beneath) m ≡ Some false) rest
   pub target : t.target ≡ length beneath
 
-asserts : (cs : List (List Literal)) (n : ℕ) (es : List Entry) (s : AnalysisValue) → IsFresh n es → s.lits ≡ [] → ((analysed cs false s es).lits ≡ []) ⊎ Asserts n es (analysed cs false s es)
+asserts : (cs : List (List Literal)) (n : ℕ) (es : List TrailEntry) (s : AnalysisValue) → IsFresh n es → s.lits ≡ [] → ((analysed cs false s es).lits ≡ []) ⊎ Asserts n es (analysed cs false s es)
 asserts cs n [] s fresh empty = inl empty
 asserts cs n (e ∷ es) s fresh empty =
     by_mark (get_or s.marks e.lit.var false) (λ s' empty'. asserts cs n es s' fresh.0 empty')
@@ -288,14 +288,14 @@ asserts cs n (e ∷ es) s fresh empty =
     by_mark false go = later _ (go (passed s e (length es)) empty)
     by_mark true go = by_resolver go (resolver e.reason (may_resolve false s es)) refl
 
-pub justified_after : (cs : List (List Literal)) (assumptions : List Literal) (n : ℕ) (above es : List Entry) → IsJustified cs assumptions n (above ++ es) → IsJustified cs assumptions n es
+pub justified_after : (cs : List (List Literal)) (assumptions : List Literal) (n : ℕ) (above es : List TrailEntry) → IsJustified cs assumptions n (above ++ es) → IsJustified cs assumptions n es
 justified_after cs assumptions n [] es justified = justified
 justified_after cs assumptions n (e ∷ above) es justified = justified_after cs assumptions n above es justified.0
 
 -- the first literal of what is learned becomes true in place of the decision
-pub record Turns (n : ℕ) (xs : List Entry) (t : AnalysisValue) (l : Literal) : Type 0 where
-  pub decision : Entry
-  pub after : List Entry
+pub record Turns (n : ℕ) (xs : List TrailEntry) (t : AnalysisValue) (l : Literal) : Type 0 where
+  pub decision : TrailEntry
+  pub after : List TrailEntry
   pub in_turn : xs ≡ (take t.target xs ++ decision ∷ []) ++ after
   pub is_decision : IsDecision decision.reason
   pub places : length (take t.target xs) ≡ t.target
@@ -303,7 +303,7 @@ pub record Turns (n : ℕ) (xs : List Entry) (t : AnalysisValue) (l : Literal) :
   pub in_range : l.var < n
   pub free : value_of (assigned n (below xs t.target)) l ≡ None
 
-turned : (n : ℕ) (xs : List Entry) (t : AnalysisValue) → IsFresh n (reverse xs) → Asserts n (reverse xs) t → (rest : List Literal) (l : Literal) → t.lits ≡ l ∷ rest → Turns n xs t l
+turned : (n : ℕ) (xs : List TrailEntry) (t : AnalysisValue) → IsFresh n (reverse xs) → Asserts n (reverse xs) t → (rest : List Literal) (l : Literal) → t.lits ≡ l ∷ rest → Turns n xs t l
 turned n xs t fresh w rest l is =
     record {
       decision = w.decision;
@@ -350,7 +350,7 @@ turned n xs t fresh w rest l is =
     }
 
 -- what is learned has no literal, or its first one turns a decision
-pub learned_turns : (cs : List (List Literal)) (n : ℕ) (xs : List Entry) (conflict : ℕ) → IsFresh n (reverse xs) → (rest : List Literal) (l : Literal) → (analysed cs false (begun n cs conflict) (reverse xs)).lits ≡ l ∷ rest → Turns n xs (analysed cs false (begun n cs conflict) (reverse xs)) l
+pub learned_turns : (cs : List (List Literal)) (n : ℕ) (xs : List TrailEntry) (conflict : ℕ) → IsFresh n (reverse xs) → (rest : List Literal) (l : Literal) → (analysed cs false (begun n cs conflict) (reverse xs)).lits ≡ l ∷ rest → Turns n xs (analysed cs false (begun n cs conflict) (reverse xs)) l
 learned_turns cs n xs conflict fresh rest l is = by_outcome (asserts cs n (reverse xs) (begun n cs conflict) fresh refl) where
   empty_or_not : (ps : List Literal) → ps ≡ [] → ps ≡ l ∷ rest → ⊥
   empty_or_not ps e f = cc

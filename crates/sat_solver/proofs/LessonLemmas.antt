@@ -13,7 +13,7 @@ use Rattle.sat_clauses.proofs.ModelLemmas.{All-from_Satisfies}
 use Rattle.sat_clauses.proofs.TruthLemmas.{truth_of-False, truth_of-Unit}
 use Rattle.sat_clauses.specs.Hints.{truth_at, HasNoOpposites, LacksOpposite}
 use Rattle.sat_clauses.proofs.FalseLemmas.{made_true_true, opposite-opposite}
-use Rattle.sat_solver.specs.declared.trail.Entry.{Entry}
+use Rattle.sat_solver.specs.declared.trail.TrailEntry.{TrailEntry}
 use Rattle.sat_solver.specs.declared.trail.Reason.{Reason}
 use Rattle.sat_solver.specs.declared.trail.Reason.TheVariants.{Assumed, Chosen, Implied}
 use Rattle.sat_solver.specs.Trail.{assigned, IsFresh, IsLawful, below}
@@ -44,9 +44,9 @@ unit_free cs a r l e =
     ((truth_of-Unit a (numbered cs r) l).0 h.1).free
 
 -- the first literal of a lesson, under the trail that is kept
-pub record IsTurned (n : ℕ) (xs : List Entry) (clause : List Literal) (target : ℕ) (l : Literal) : Type 0 where
-  pub decision : Entry
-  pub after : List Entry
+pub record IsTurned (n : ℕ) (xs : List TrailEntry) (clause : List Literal) (target : ℕ) (l : Literal) : Type 0 where
+  pub decision : TrailEntry
+  pub after : List TrailEntry
   pub in_turn : xs ≡ (take target xs ++ decision ∷ []) ++ after
   pub is_decision : IsDecision decision.reason
   pub places : length (take target xs) ≡ target
@@ -77,45 +77,45 @@ lesson_turns cs assumptions t number clause target l sound lits at some first =
     } in
     subst (λ (c : List Literal). IsTurned n xs c target l) (sym lits) (subst (λ (k : ℕ). IsTurned n xs s.lits k l) (sym at) turned)
 
-pub turned_within : (n : ℕ) (xs : List Entry) (clause : List Literal) (target : ℕ) (l : Literal) → IsTurned n xs clause target l → target + 1 ≤ length xs
+pub turned_within : (n : ℕ) (xs : List TrailEntry) (clause : List Literal) (target : ℕ) (l : Literal) → IsTurned n xs clause target l → target + 1 ≤ length xs
 turned_within n xs clause target l w =
     let whole : length xs ≡ length (take target xs ++ w.decision ∷ []) + length w.after = ap length w.in_turn ∙ length-append (take target xs ++ w.decision ∷ []) w.after in
     omega (arith, whole, length-append (take target xs) (w.decision ∷ []), w.places)
 
 -- an implied literal in place of a decision
-pub turned_rises : (n : ℕ) (xs ys : List Entry) (clause : List Literal) (target : ℕ) (l : Literal) (number : ℕ) → IsTurned n xs clause target l → IsFresh n (reverse xs) → ys ≡ take target xs ++ (record { lit = l; reason = Implied number }) ∷ [] → score n xs + 1 ≤ score n ys
+pub turned_rises : (n : ℕ) (xs ys : List TrailEntry) (clause : List Literal) (target : ℕ) (l : Literal) (number : ℕ) → IsTurned n xs clause target l → IsFresh n (reverse xs) → ys ≡ take target xs ++ (record { lit = l; reason = Implied number }) ∷ [] → score n xs + 1 ≤ score n ys
 turned_rises n xs ys clause target l number w fresh is =
-    let e : Entry = record { lit = l; reason = Implied number } in
+    let e : TrailEntry = record { lit = l; reason = Implied number } in
     let room : length (take target xs) < n = omega (arith, turned_within n xs clause target l w, w.places, counted_most n xs fresh) in
     omega (arith, ap (score n) w.in_turn, ap (score n) is, score_turn n (take target xs) w.after w.decision e number w.is_decision refl room)
 
 -- a true literal stands on the trail
-pub true_listed : (n : ℕ) (es : List Entry) (l : Literal) → All (λ (e : Entry). e.lit ≢ l) es → value_of (assigned n es) l ≡ Some true → ⊥
+pub true_listed : (n : ℕ) (es : List TrailEntry) (l : Literal) → All (λ (e : TrailEntry). e.lit ≢ l) es → value_of (assigned n es) l ≡ Some true → ⊥
 true_listed n [] l none e = let w = value_at (assigned n []) l true e in nothing_free n l.var w.0 w.1
 true_listed n (d ∷ es) l none e =
-    ⊎_elim (λ was. true_listed n es l (All-tail (λ (e : Entry). e.lit ≢ l) d es none) was) (λ same. All-head (λ (e : Entry). e.lit ≢ l) d es none (sym same)) (made_true_true (assigned n es) d.lit l e)
+    ⊎_elim (λ was. true_listed n es l (All-tail (λ (e : TrailEntry). e.lit ≢ l) d es none) was) (λ same. All-head (λ (e : TrailEntry). e.lit ≢ l) d es none (sym same)) (made_true_true (assigned n es) d.lit l e)
 
-pub not_listed : (t : TrailValue) (l : Literal) → IsLawful t → value_of t.values l ≡ Some true → All (λ (e : Entry). e.lit ≢ l) t.entries → ⊥
+pub not_listed : (t : TrailValue) (l : Literal) → IsLawful t → value_of t.values l ≡ Some true → All (λ (e : TrailEntry). e.lit ≢ l) t.entries → ⊥
 not_listed t l lawful is none =
-    true_listed (length t.values) (reverse t.entries) l (All-reverse (λ (e : Entry). e.lit ≢ l) t.entries none)
+    true_listed (length t.values) (reverse t.entries) l (All-reverse (λ (e : TrailEntry). e.lit ≢ l) t.entries none)
     (ap (λ (a : Assignment). value_of a l) (sym lawful.matches) ∙ is)
 
 -- an entry of a sound trail, over those before it
-pub fresh_at : (n : ℕ) (xs : List Entry) (i : ℕ) (e : Entry) → slice_get xs i ≡ Some e → IsFresh n (reverse xs) → IsFresh n (e ∷ below xs i)
+pub fresh_at : (n : ℕ) (xs : List TrailEntry) (i : ℕ) (e : TrailEntry) → slice_get xs i ≡ Some e → IsFresh n (reverse xs) → IsFresh n (e ∷ below xs i)
 fresh_at n xs i e at fresh =
     subst (IsFresh n) (below_more xs i e at) (fresh_after n (reverse (drop (i + 1) xs)) (below xs (i + 1)) (subst (IsFresh n) (split_reverse xs (i + 1)) fresh))
 
-pub justified_at : (cs : List (List Literal)) (assumptions : List Literal) (n : ℕ) (xs : List Entry) (i : ℕ) (e : Entry) → slice_get xs i ≡ Some e → IsJustified cs assumptions n (reverse xs) → IsJustified cs assumptions n (e ∷ below xs i)
+pub justified_at : (cs : List (List Literal)) (assumptions : List Literal) (n : ℕ) (xs : List TrailEntry) (i : ℕ) (e : TrailEntry) → slice_get xs i ≡ Some e → IsJustified cs assumptions n (reverse xs) → IsJustified cs assumptions n (e ∷ below xs i)
 justified_at cs assumptions n xs i e at justified =
     subst (IsJustified cs assumptions n) (below_more xs i e at) (justified_after cs assumptions n (reverse (drop (i + 1) xs)) (below xs (i + 1)) (subst (IsJustified cs assumptions n) (split_reverse xs (i + 1)) justified))
 
 -- before its opposite, a literal is free
-pub free_before : (n : ℕ) (p : Literal) (e : Entry) (es : List Entry) → e.lit ≡ opposite p → IsFresh n (e ∷ es) → value_of (assigned n es) p ≡ None
+pub free_before : (n : ℕ) (p : Literal) (e : TrailEntry) (es : List TrailEntry) → e.lit ≡ opposite p → IsFresh n (e ∷ es) → value_of (assigned n es) p ≡ None
 free_before n p e es is fresh =
     ap (option_map (signed p.negated)) (ap (λ x. get_or (assigned n es) x None) (ap (λ (l : Literal). l.var) (sym is)) ∙ None-from_value e.lit.negated (get_or (assigned n es) e.lit.var None) fresh.2)
 
 -- an assumption's opposite was made true by a clause
-pub only_implied : (cs : List (List Literal)) (assumptions : List Literal) (n : ℕ) (p : Literal) (e : Entry) (es : List Entry) → HasNoOpposites assumptions → Contains assumptions p → e.lit ≡ opposite p → IsFresh n (e ∷ es) → IsJustified cs assumptions n (e ∷ es) → ((x : ℕ) → e.reason ≡ Implied x → ⊥) → ⊥
+pub only_implied : (cs : List (List Literal)) (assumptions : List Literal) (n : ℕ) (p : Literal) (e : TrailEntry) (es : List TrailEntry) → HasNoOpposites assumptions → Contains assumptions p → e.lit ≡ opposite p → IsFresh n (e ∷ es) → IsJustified cs assumptions n (e ∷ es) → ((x : ℕ) → e.reason ≡ Implied x → ⊥) → ⊥
 only_implied cs assumptions n p e es apart has is fresh justified other = by_reason e.reason refl justified.1 where
   by_reason : (q : Reason) → e.reason ≡ q → IsReason cs assumptions (assigned n es) e.lit q → ⊥
   by_reason (Assumed k) same h = (All-contains (LacksOpposite assumptions) assumptions p apart has).absent (subst (Contains assumptions) is h.0)
@@ -123,19 +123,19 @@ only_implied cs assumptions n p e es apart has is fresh justified other = by_rea
   by_reason (Implied x) same h = other x same
 
 -- where an assumption is free, no free choice was made
-none_chosen : (cs : List (List Literal)) (assumptions : List Literal) (n : ℕ) (p : Literal) (es : List Entry) → Contains assumptions p → IsFresh n es → IsJustified cs assumptions n es → value_of (assigned n es) p ≡ None → All (λ (e : Entry). e.reason ≢ Chosen) es
-none_chosen cs assumptions n p [] has fresh justified free = All-nil (λ (e : Entry). e.reason ≢ Chosen)
+none_chosen : (cs : List (List Literal)) (assumptions : List Literal) (n : ℕ) (p : Literal) (es : List TrailEntry) → Contains assumptions p → IsFresh n es → IsJustified cs assumptions n es → value_of (assigned n es) p ≡ None → All (λ (e : TrailEntry). e.reason ≢ Chosen) es
+none_chosen cs assumptions n p [] has fresh justified free = All-nil (λ (e : TrailEntry). e.reason ≢ Chosen)
 none_chosen cs assumptions n p (e ∷ es) has fresh justified free =
     let was = None_part (assigned n es) (assigned n (e ∷ es)) p (IsPart-more (assigned n es) e.lit fresh.2) free in
-    All-cons (λ (d : Entry). d.reason ≢ Chosen) e es
+    All-cons (λ (d : TrailEntry). d.reason ≢ Chosen) e es
     (λ same. none-some true (sym was ∙ All-contains (λ l. value_of (assigned n es) l ≡ Some true) assumptions p (subst (IsReason cs assumptions (assigned n es) e.lit) same justified.1) has))
     (none_chosen cs assumptions n p es has fresh.0 justified.0 was)
 
 -- fully analysed, a clause has negated assumptions alone
-core_lits : (cs : List (List Literal)) (assumptions : List Literal) (n : ℕ) (es : List Entry) (s : AnalysisValue) → IsJustified cs assumptions n es → All (λ (e : Entry). e.reason ≢ Chosen) es → All (λ l. Contains assumptions (opposite l)) s.lits → All (λ l. Contains assumptions (opposite l)) (analysed cs true s es).lits
+core_lits : (cs : List (List Literal)) (assumptions : List Literal) (n : ℕ) (es : List TrailEntry) (s : AnalysisValue) → IsJustified cs assumptions n es → All (λ (e : TrailEntry). e.reason ≢ Chosen) es → All (λ l. Contains assumptions (opposite l)) s.lits → All (λ l. Contains assumptions (opposite l)) (analysed cs true s es).lits
 core_lits cs assumptions n [] s justified none all = all
 core_lits cs assumptions n (e ∷ es) s justified none all =
-    core_lits cs assumptions n es (visited cs true s e es) justified.0 (All-tail (λ (d : Entry). d.reason ≢ Chosen) e es none)
+    core_lits cs assumptions n es (visited cs true s e es) justified.0 (All-tail (λ (d : TrailEntry). d.reason ≢ Chosen) e es none)
     (by_mark (get_or s.marks e.lit.var false))
   where
     by_reason : (q : Reason) → IsReason cs assumptions (assigned n es) e.lit q → q ≢ Chosen → All (λ l. Contains assumptions (opposite l)) (visited_by cs s e (length es) (resolver q true)).lits
@@ -146,13 +146,13 @@ core_lits cs assumptions n (e ∷ es) s justified none all =
 
     by_mark : (m : Bool) → All (λ l. Contains assumptions (opposite l)) (cond m (visited_by cs s e (length es) (resolver e.reason (may_resolve true s es))) (passed s e (length es))).lits
     by_mark false = all
-    by_mark true = by_reason e.reason justified.1 (All-head (λ (d : Entry). d.reason ≢ Chosen) e es none)
+    by_mark true = by_reason e.reason justified.1 (All-head (λ (d : TrailEntry). d.reason ≢ Chosen) e es none)
 
 -- the trail on which an assumption stands in place of its opposite
-pub core_negated : (cs : List (List Literal)) (assumptions : List Literal) (n : ℕ) (p : Literal) (e : Entry) (es : List Entry) (number k : ℕ) → Contains assumptions p → e.reason ≡ Assumed k → IsFresh n es → IsJustified cs assumptions n (e ∷ es) → value_of (assigned n es) p ≡ None → All (λ l. Contains assumptions (opposite l)) (analysed cs true (begun n cs number) (e ∷ es)).lits
+pub core_negated : (cs : List (List Literal)) (assumptions : List Literal) (n : ℕ) (p : Literal) (e : TrailEntry) (es : List TrailEntry) (number k : ℕ) → Contains assumptions p → e.reason ≡ Assumed k → IsFresh n es → IsJustified cs assumptions n (e ∷ es) → value_of (assigned n es) p ≡ None → All (λ l. Contains assumptions (opposite l)) (analysed cs true (begun n cs number) (e ∷ es)).lits
 core_negated cs assumptions n p e es number k has is fresh justified free =
     core_lits cs assumptions n (e ∷ es) (begun n cs number) justified
-    (All-cons (λ (d : Entry). d.reason ≢ Chosen) e es (λ same. differs (sym is ∙ same)) (none_chosen cs assumptions n p es has fresh justified.0 free))
+    (All-cons (λ (d : TrailEntry). d.reason ≢ Chosen) e es (λ same. differs (sym is ∙ same)) (none_chosen cs assumptions n p es has fresh justified.0 free))
     (All-nil (λ l. Contains assumptions (opposite l)))
   where
     differs : Assumed k ≡ Chosen → ⊥

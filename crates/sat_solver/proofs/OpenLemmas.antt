@@ -14,7 +14,7 @@ use Rattle.sat_clauses.specs.declared.clause.Truth.TheVariants.{False, Unit as U
 use Rattle.sat_clauses.proofs.TruthLemmas.{truth_of-False, truth_of-Unit}
 use Rattle.sat_clauses.specs.Hints.{clause_at, truth_at, EndsFalse}
 use Rattle.sat_clauses.proofs.FalseLemmas.{All-slice_get}
-use Rattle.sat_solver.specs.declared.trail.Entry.{Entry}
+use Rattle.sat_solver.specs.declared.trail.TrailEntry.{TrailEntry}
 use Rattle.sat_solver.specs.Trail.{assigned, IsFresh}
 use Rattle.sat_solver.specs.AnalysisRecord.{AnalysisValue}
 use Rattle.sat_solver.specs.Analysis.{marked, numbered, begun}
@@ -24,7 +24,7 @@ use Rattle.sat_solver.proofs.ExplainLemmas.{IsPart, Agrees, value_at, value_part
 use Rattle.sat_clauses.proofs.DeriveTrailLemmas.{None-from_value}
 
 -- es are left; a is their assignment and that of the negated literals of the clause so far
-pub record IsOpen (cs : List (List Literal)) (n : ℕ) (s : AnalysisValue) (es : List Entry) (a : Assignment) : Type 0 where
+pub record IsOpen (cs : List (List Literal)) (n : ℕ) (s : AnalysisValue) (es : List TrailEntry) (a : Assignment) : Type 0 where
   pub places : length a ≡ n
   pub flags : length s.marks ≡ n
   pub part : IsPart (assigned n es) a
@@ -72,7 +72,7 @@ false_later cs a hint hints l e w = record {
 }
 
 -- a false clause begins an analysis
-pub open_begun : (cs : List (List Literal)) (n conflict : ℕ) (es : List Entry) → All (All (λ l. l.var < n)) cs → truth_at cs (assigned n es) conflict ≡ Some False → IsOpen cs n (begun n cs conflict) es (assigned n es)
+pub open_begun : (cs : List (List Literal)) (n conflict : ℕ) (es : List TrailEntry) → All (All (λ l. l.var < n)) cs → truth_at cs (assigned n es) conflict ≡ Some False → IsOpen cs n (begun n cs conflict) es (assigned n es)
 open_begun cs n conflict es in_range e =
     let a = assigned n es in
     let c = numbered cs conflict in
@@ -105,7 +105,7 @@ open_begun cs n conflict es in_range e =
     }
 
 -- how far to go back changes nothing of this
-pub open_aim : (cs : List (List Literal)) (n : ℕ) (s : AnalysisValue) (es : List Entry) (a : Assignment) (t : ℕ) → IsOpen cs n s es a → IsOpen cs n (record s { target = t }) es a
+pub open_aim : (cs : List (List Literal)) (n : ℕ) (s : AnalysisValue) (es : List TrailEntry) (a : Assignment) (t : ℕ) → IsOpen cs n s es a → IsOpen cs n (record s { target = t }) es a
 open_aim cs n s es a t o = record {
   places = o.places;
   flags = o.flags;
@@ -116,7 +116,7 @@ open_aim cs n s es a t o = record {
   covered = o.covered;
 }
 
-module _ (cs : List (List Literal)) (n : ℕ) (s : AnalysisValue) (e : Entry) (es : List Entry) (a : Assignment) (fresh : IsFresh n (e ∷ es)) (o : IsOpen cs n s (e ∷ es) a) where
+module _ (cs : List (List Literal)) (n : ℕ) (s : AnalysisValue) (e : TrailEntry) (es : List TrailEntry) (a : Assignment) (fresh : IsFresh n (e ∷ es)) (o : IsOpen cs n s (e ∷ es) a) where
   inside : e.lit.var < length (assigned n es)
   inside = omega (arith, fresh.1, length-assigned n es)
 

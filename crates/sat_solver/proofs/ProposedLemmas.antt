@@ -10,8 +10,8 @@ use Rattle.sat_clauses.specs.StoreRecord.{StoreValue}
 use Rattle.sat_clauses.specs.Derivation.{IsUpTo}
 use Rattle.sat_clauses.specs.declared.step.Step.{Step}
 use Rattle.sat_solver.specs.Search.{Grows}
-use Rattle.sat_solver.specs.Kept.{added_of, IsKept, IsAnswer, IsRefuted}
-use Rattle.sat_solver.specs.Proposed.{HasTrue, IsRight}
+use Rattle.sat_solver.specs.LearnedClauses.{added_of, IsKept, IsAnswer, IsRefuted}
+use Rattle.sat_solver.specs.Proposals.{HasTrue, IsRight}
 use Rattle.sat_solver.specs.declared.solve.Verdict.{Verdict}
 use Rattle.sat_solver.specs.declared.solve.Verdict.TheVariants.{Sat, Unsat}
 use Rattle.sat_solver.proofs.VerdictLemmas.{all_follow, All-first}

@@ -8,12 +8,12 @@ use Rattle.sat_clauses.specs.declared.clause.Truth.TheVariants.{False}
 use Rattle.sat_clauses.specs.Derivation.{IsUpTo}
 use Rattle.sat_clauses.specs.Hints.{truth_at}
 use Rattle.sat_clauses.specs.declared.step.Step.{Step}
-use Rattle.sat_solver.specs.declared.trail.Entry.{Entry}
+use Rattle.sat_solver.specs.declared.trail.TrailEntry.{TrailEntry}
 use Rattle.sat_solver.specs.TrailRecord.{TrailValue}
 use Rattle.sat_solver.specs.Trail.{assigned, lits_of, followed_whole, IsFresh, IsFollowed, IsIdle}
 use Rattle.sat_solver.specs.Analysis.{analysed, begun}
 use Rattle.sat_solver.specs.Search.{CanSolve, IsJustified, IsReason, IsSound, IsStep, Grows, Extends}
-use Rattle.sat_solver.specs.Running.{IsRunning, Keeps, GoesOn}
+use Rattle.sat_solver.specs.SearchSteps.{IsRunning, Keeps, GoesOn}
 use Rattle.sat_solver.proofs.TrailLemmas.{reverse_push}
 use Rattle.sat_solver.proofs.StepLemmas.{learned_is_step}
 use Rattle.sat_solver.proofs.SearchLemmas.{sound_undone, sound_more}
@@ -41,7 +41,7 @@ running_undone assumptions s t u k h same entries values fewer within = record {
 }
 
 -- one more literal is made true
-sound_pushed : (cs : List (List Literal)) (assumptions : List Literal) (t u : TrailValue) (e : Entry) → IsSound cs assumptions t → IsInRange t.values e.lit → value_of t.values e.lit ≡ None → IsReason cs assumptions t.values e.lit e.reason → u.values ≡ made_true t.values e.lit → u.entries ≡ t.entries ++ e ∷ [] → IsSound cs assumptions u
+sound_pushed : (cs : List (List Literal)) (assumptions : List Literal) (t u : TrailValue) (e : TrailEntry) → IsSound cs assumptions t → IsInRange t.values e.lit → value_of t.values e.lit ≡ None → IsReason cs assumptions t.values e.lit e.reason → u.values ≡ made_true t.values e.lit → u.entries ≡ t.entries ++ e ∷ [] → IsSound cs assumptions u
 sound_pushed cs assumptions t u e sound inside free reason values entries =
     let n = length t.values in
     let same : length u.values ≡ n = ap length values ∙ length-set t.values e.lit.var (Some (not e.lit.negated)) in
@@ -58,7 +58,7 @@ sound_pushed cs assumptions t u e sound inside free reason values entries =
           (sound.justified, subst (λ (a : Assignment). IsReason cs assumptions a e.lit e.reason) sound.lawful.matches reason));
     }
 
-pub running_pushed : {T E : Type 0} (assumptions : List Literal) (s : StoreValue) (t u : TrailValue) (e : Entry) (r : Result T E) → IsRunning assumptions s t → IsInRange t.values e.lit → value_of t.values e.lit ≡ None → IsReason s.clauses assumptions t.values e.lit e.reason → OnOk r (u.values ≡ made_true t.values e.lit) → OnOk r (u.entries ≡ t.entries ++ e ∷ []) → OnOk r (u.followed ≡ t.followed) → OnOk r (IsRunning assumptions s u)
+pub running_pushed : {T E : Type 0} (assumptions : List Literal) (s : StoreValue) (t u : TrailValue) (e : TrailEntry) (r : Result T E) → IsRunning assumptions s t → IsInRange t.values e.lit → value_of t.values e.lit ≡ None → IsReason s.clauses assumptions t.values e.lit e.reason → OnOk r (u.values ≡ made_true t.values e.lit) → OnOk r (u.entries ≡ t.entries ++ e ∷ []) → OnOk r (u.followed ≡ t.followed) → OnOk r (IsRunning assumptions s u)
 running_pushed assumptions s t u e (Ok x) h inside free reason values entries followed = record {
   apart = h.apart;
   in_range = h.in_range;

@@ -14,7 +14,7 @@ use Rattle.sat_clauses.specs.declared.clause.Truth.TheVariants.{Unit as UnitClau
 use Rattle.sat_clauses.specs.Hints.{truth_at}
 use Rattle.sat_clauses.specs.declared.step.Step.{Step}
 use Rattle.sat_clauses.proofs.DeriveTrailLemmas.{count_less, count-free, None-from_value}
-use Rattle.sat_solver.specs.declared.trail.Entry.{Entry}
+use Rattle.sat_solver.specs.declared.trail.TrailEntry.{TrailEntry}
 use Rattle.sat_solver.specs.declared.trail.Reason.{Reason}
 use Rattle.sat_solver.specs.declared.trail.Reason.TheVariants.{Assumed, Chosen, Implied}
 use Rattle.sat_solver.specs.Trail.{assigned, IsFresh, below}
@@ -37,12 +37,12 @@ All-reverse P xs all = λ k d lt.
 pub All-from_reverse : {X : Type 0} (P : X → Type 0) (xs : List X) → All P (reverse xs) → All P xs
 All-from_reverse P xs all = subst (All P) (reverse-reverse xs) (All-reverse P (reverse xs) all)
 
-fresh_in_range : (n : ℕ) (es : List Entry) → IsFresh n es → All (λ (e : Entry). e.lit.var < n) es
-fresh_in_range n [] fresh = All-nil (λ (e : Entry). e.lit.var < n)
-fresh_in_range n (e ∷ es) fresh = All-cons (λ (d : Entry). d.lit.var < n) e es fresh.1 (fresh_in_range n es fresh.0)
+fresh_in_range : (n : ℕ) (es : List TrailEntry) → IsFresh n es → All (λ (e : TrailEntry). e.lit.var < n) es
+fresh_in_range n [] fresh = All-nil (λ (e : TrailEntry). e.lit.var < n)
+fresh_in_range n (e ∷ es) fresh = All-cons (λ (d : TrailEntry). d.lit.var < n) e es fresh.1 (fresh_in_range n es fresh.0)
 
-pub entries_in_range : (n : ℕ) (xs : List Entry) → IsFresh n (reverse xs) → All (λ (e : Entry). e.lit.var < n) xs
-entries_in_range n xs fresh = All-from_reverse (λ (e : Entry). e.lit.var < n) xs (fresh_in_range n (reverse xs) fresh)
+pub entries_in_range : (n : ℕ) (xs : List TrailEntry) → IsFresh n (reverse xs) → All (λ (e : TrailEntry). e.lit.var < n) xs
+entries_in_range n xs fresh = All-from_reverse (λ (e : TrailEntry). e.lit.var < n) xs (fresh_in_range n (reverse xs) fresh)
 
 -- a hint that has a truth names a clause
 pub names_one : (cs : List (List Literal)) (a : Assignment) (r : ℕ) (t : Truth) → truth_at cs a r ≡ Some t → NamesOne (length cs) r
@@ -60,21 +60,21 @@ names_one cs a r t e = by_test (eqb r 0) refl e where
       within = omega (arith, slice_get_within cs (r - 1) c g);
     }
 
-justified_within : (cs : List (List Literal)) (assumptions : List Literal) (n : ℕ) (es : List Entry) → IsJustified cs assumptions n es → All (λ (e : Entry). IsWithin (length cs) e.reason) es
-justified_within cs assumptions n [] j = All-nil (λ (e : Entry). IsWithin (length cs) e.reason)
+justified_within : (cs : List (List Literal)) (assumptions : List Literal) (n : ℕ) (es : List TrailEntry) → IsJustified cs assumptions n es → All (λ (e : TrailEntry). IsWithin (length cs) e.reason) es
+justified_within cs assumptions n [] j = All-nil (λ (e : TrailEntry). IsWithin (length cs) e.reason)
 justified_within cs assumptions n (e ∷ es) j =
-    All-cons (λ (d : Entry). IsWithin (length cs) d.reason) e es (by_reason e.reason j.1) (justified_within cs assumptions n es j.0)
+    All-cons (λ (d : TrailEntry). IsWithin (length cs) d.reason) e es (by_reason e.reason j.1) (justified_within cs assumptions n es j.0)
   where
     by_reason : (q : Reason) → IsReason cs assumptions (assigned n es) e.lit q → IsWithin (length cs) q
     by_reason (Assumed k) h = tt
     by_reason Chosen h = tt
     by_reason (Implied r) h = names_one cs (assigned n es) r (UnitClause e.lit) h
 
-pub reasons_within : (cs : List (List Literal)) (assumptions : List Literal) (n : ℕ) (xs : List Entry) → IsJustified cs assumptions n (reverse xs) → All (λ (e : Entry). IsWithin (length cs) e.reason) xs
-reasons_within cs assumptions n xs j = All-from_reverse (λ (e : Entry). IsWithin (length cs) e.reason) xs (justified_within cs assumptions n (reverse xs) j)
+pub reasons_within : (cs : List (List Literal)) (assumptions : List Literal) (n : ℕ) (xs : List TrailEntry) → IsJustified cs assumptions n (reverse xs) → All (λ (e : TrailEntry). IsWithin (length cs) e.reason) xs
+reasons_within cs assumptions n xs j = All-from_reverse (λ (e : TrailEntry). IsWithin (length cs) e.reason) xs (justified_within cs assumptions n (reverse xs) j)
 
 -- each entry takes one free place
-counted : (n : ℕ) (es : List Entry) → IsFresh n es → length es + count_by is_none (assigned n es) ≡ n
+counted : (n : ℕ) (es : List TrailEntry) → IsFresh n es → length es + count_by is_none (assigned n es) ≡ n
 counted n [] fresh = omega (arith, count-free (replicate n None) n refl)
 counted n (e ∷ es) fresh =
     omega (
@@ -83,7 +83,7 @@ counted n (e ∷ es) fresh =
       count_less (assigned n es) e.lit.var (not e.lit.negated) (omega (arith, fresh.1, length-assigned n es)) (None-from_value e.lit.negated (get_or (assigned n es) e.lit.var None) fresh.2),
     )
 
-pub has_room : (n : ℕ) (xs : List Entry) (l : Literal) → IsFresh n (reverse xs) → l.var < n → value_of (assigned n (reverse xs)) l ≡ None → length xs < n
+pub has_room : (n : ℕ) (xs : List TrailEntry) (l : Literal) → IsFresh n (reverse xs) → l.var < n → value_of (assigned n (reverse xs)) l ≡ None → length xs < n
 has_room n xs l fresh inside free =
     omega (
       arith,
@@ -101,7 +101,7 @@ truth_at_more cs ds a r t e = by_test (eqb r 0) e where
     by_clause None g h = absurd (none-some t h)
     by_clause (Some c) g h = ap (option_map (truth_of a)) (get_left cs ds (r - 1) c g) ∙ h
 
-pub justified_more : (cs ds : List (List Literal)) (assumptions : List Literal) (n : ℕ) (es : List Entry) → IsJustified cs assumptions n es → IsJustified (cs ++ ds) assumptions n es
+pub justified_more : (cs ds : List (List Literal)) (assumptions : List Literal) (n : ℕ) (es : List TrailEntry) → IsJustified cs assumptions n es → IsJustified (cs ++ ds) assumptions n es
 justified_more cs ds assumptions n [] j = tt
 justified_more cs ds assumptions n (e ∷ es) j = (justified_more cs ds assumptions n es j.0, by_reason e.reason j.1) where
   by_reason : (q : Reason) → IsReason cs assumptions (assigned n es) e.lit q → IsReason (cs ++ ds) assumptions (assigned n es) e.lit q
@@ -123,7 +123,7 @@ truth_at_last cs c a r e = ap (λ k. truth_at (cs ++ c ∷ []) a k) e ∙ by_tes
     one_less k = omega arith
 
 -- a trail that is cut stays sound
-pub split_reverse : (xs : List Entry) (k : ℕ) → reverse xs ≡ reverse (drop k xs) ++ below xs k
+pub split_reverse : (xs : List TrailEntry) (k : ℕ) → reverse xs ≡ reverse (drop k xs) ++ below xs k
 split_reverse xs k = ap reverse (sym (take-append-drop k xs)) ∙ reverse-append (take k xs) (drop k xs)
 
 pub sound_undone : (cs : List (List Literal)) (assumptions : List Literal) (old new : TrailValue) (k : ℕ) → IsSound cs assumptions old → length new.values ≡ length old.values → new.entries ≡ take k old.entries → new.values ≡ assigned (length old.values) (reverse (take k old.entries)) → IsSound cs assumptions new
@@ -173,7 +173,7 @@ grows_more vars as' bs cs j k l g h = record {
   kept = h.kept ∙ (ap (option_map (λ ks. ks ++ h.steps)) g.kept ∙ kept_twice j g.steps h.steps);
 }
 
-pub counted_most : (n : ℕ) (xs : List Entry) → IsFresh n (reverse xs) → length xs ≤ n
+pub counted_most : (n : ℕ) (xs : List TrailEntry) → IsFresh n (reverse xs) → length xs ≤ n
 counted_most n xs fresh = omega (arith, length-reverse xs, counted n (reverse xs) fresh)
 
 pub extends_one : (vars : ℕ) (cs ds : List (List Literal)) (s : Step) → IsStep vars cs s → ds ≡ cs ++ s.clause ∷ [] → Extends vars cs ds

@@ -12,7 +12,7 @@ use Rattle.sat_clauses.specs.Derivation.{IsUpTo}
 use Rattle.sat_clauses.specs.Hints.{truth_at, made_false, assumed_false, EndsFalse, HasNoOpposites}
 use Rattle.sat_clauses.proofs.FalseLemmas.{length-made_false, sign_of_false}
 use Rattle.sat_clauses.specs.declared.step.Step.{Step}
-use Rattle.sat_solver.specs.declared.trail.Entry.{Entry}
+use Rattle.sat_solver.specs.declared.trail.TrailEntry.{TrailEntry}
 use Rattle.sat_solver.specs.declared.trail.Reason.{Reason}
 use Rattle.sat_solver.specs.declared.trail.Reason.TheVariants.{Assumed, Chosen, Implied}
 use Rattle.sat_solver.specs.Trail.{assigned, IsFresh}
@@ -122,7 +122,7 @@ resolver_Some Chosen true r e = absurd (none-some r e)
 resolver_Some Chosen false r e = absurd (none-some r e)
 
 -- each entry takes the analysis further, and so all do
-open_analysed : (cs : List (List Literal)) (assumptions : List Literal) (n : ℕ) (f : Bool) (es : List Entry) (s : AnalysisValue) (a : Assignment) → All (All (λ l. l.var < n)) cs → IsFresh n es → IsJustified cs assumptions n es → IsOpen cs n s es a → (b : Assignment) × IsOpen cs n (analysed cs f s es) [] b
+open_analysed : (cs : List (List Literal)) (assumptions : List Literal) (n : ℕ) (f : Bool) (es : List TrailEntry) (s : AnalysisValue) (a : Assignment) → All (All (λ l. l.var < n)) cs → IsFresh n es → IsJustified cs assumptions n es → IsOpen cs n s es a → (b : Assignment) × IsOpen cs n (analysed cs f s es) [] b
 open_analysed cs assumptions n f [] s a in_range fresh justified o = (a, o)
 open_analysed cs assumptions n f (e ∷ es) s a in_range fresh justified o =
     let w = by_mark (get_or s.marks e.lit.var false) refl in
@@ -139,7 +139,7 @@ open_analysed cs assumptions n f (e ∷ es) s a in_range fresh justified o =
     by_mark true is = by_resolver (resolver e.reason (may_resolve f s es)) refl
 
 -- what is learned from a false clause is a step
-pub learned_is_step : (cs : List (List Literal)) (assumptions : List Literal) (vars n : ℕ) (f : Bool) (es : List Entry) (conflict : ℕ) (step : Step) → n ≡ vars + 1 → All (All (λ l. l.var < n)) cs → IsFresh n es → IsJustified cs assumptions n es → truth_at cs (assigned n es) conflict ≡ Some False → step.clause ≡ (analysed cs f (begun n cs conflict) es).lits → step.hints ≡ reverse (analysed cs f (begun n cs conflict) es).used → IsStep vars cs step
+pub learned_is_step : (cs : List (List Literal)) (assumptions : List Literal) (vars n : ℕ) (f : Bool) (es : List TrailEntry) (conflict : ℕ) (step : Step) → n ≡ vars + 1 → All (All (λ l. l.var < n)) cs → IsFresh n es → IsJustified cs assumptions n es → truth_at cs (assigned n es) conflict ≡ Some False → step.clause ≡ (analysed cs f (begun n cs conflict) es).lits → step.hints ≡ reverse (analysed cs f (begun n cs conflict) es).used → IsStep vars cs step
 learned_is_step cs assumptions vars n f es conflict step places in_range fresh justified is_false clause hints =
     let w = open_analysed cs assumptions n f es (begun n cs conflict) (assigned n es) in_range fresh justified (open_begun cs n conflict es in_range is_false) in
     let t = analysed cs f (begun n cs conflict) es in

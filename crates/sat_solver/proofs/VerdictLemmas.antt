@@ -18,8 +18,8 @@ use Rattle.sat_clauses.proofs.ModelLemmas.{All-from_Satisfies, Satisfies-from_Al
 use Rattle.sat_clauses.proofs.TruthLemmas.{truth_of-True, truth_of-False, value_true}
 use Rattle.sat_clauses.proofs.DeriveModelLemmas.{FollowsFrom-EndsFalse}
 use Rattle.sat_clauses.specs.declared.step.Step.{Step}
-use Rattle.sat_solver.specs.Found.{IsTrueIn}
-use Rattle.sat_solver.specs.Kept.{IsRefuted, IsAnswer}
+use Rattle.sat_solver.specs.ClauseFindings.{IsTrueIn}
+use Rattle.sat_solver.specs.LearnedClauses.{IsRefuted, IsAnswer}
 use Rattle.sat_solver.specs.Search.{AreSteps, with_steps, Grows, IsSolution}
 use Rattle.sat_solver.specs.Verdict.{IsFull, IsCore, IsAdvance, IsAmong, IsVerdict}
 use Rattle.sat_solver.specs.TrailRecord.{TrailValue}

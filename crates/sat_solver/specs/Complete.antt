@@ -2,7 +2,7 @@
 use Rattle.std.specs.Prelude.{◌≡◌, ◌≢◌, ◌<◌, ◌≤◌, ℕ, Bool, true, false, List, [], All, Any, Some, None, length, unwrap_or, slice_index_or}
 use Rattle.sat_clauses.specs.Literal.{Literal}
 use Rattle.sat_clauses.specs.Assignment.{Assignment, value_of}
-use Rattle.sat_solver.specs.Found.{IsTrueIn}
+use Rattle.sat_solver.specs.ClauseFindings.{IsTrueIn}
 
 -- the literal is true once each free variable is false
 pub record WouldBeTrue (a : Assignment) (l : Literal) : Type 0 where

@@ -1,6 +1,6 @@
 -- How a search that is kept lies in its parts.
 use Rattle.sat_solver.specs.KeptRecord.{KeptValue}
-use Rattle.sat_solver.specs.Kept.{IsSearch}
+use Rattle.sat_solver.specs.LearnedClauses.{IsSearch}
 use Rattle.sat_solver.specs.declared.kept.Kept.TheInside.{Inside}
 
 -- what contracts see of its parts

@@ -1,5 +1,6 @@
 -- What becomes of the clauses that watch a literal which was just made false.
-use Rattle.std.specs.Prelude.{◌≡◌, ◌≢◌, ◌⊎◌, ℕ, ◌+◌, ◌≤◌, Bool, true, false, not, ◌==◌, ◌&&◌, List, [], All, AllPairs, Contains, Some, unwrap_or, length, slice_index_or}
+use Rattle.std.specs.Prelude.{◌≡◌, ◌≢◌, ◌⊎◌, ℕ, ◌+◌, ◌≤◌, Bool, true, false, not, ◌==◌, ◌&&◌, List, [], All, AllPairs, Contains, Some}
+use Rattle.std.specs.Prelude.{unwrap_or, length, slice_index_or}
 use Rattle.sat_clauses.specs.Literal.{Literal}
 use Rattle.sat_clauses.specs.Code.{code_of}
 use Rattle.sat_clauses.specs.Assignment.{Assignment, value_of}

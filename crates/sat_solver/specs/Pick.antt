@@ -38,11 +38,13 @@ pub record IsBest (vars : ℕ) (trail : List Literal) (but : ℕ) (c : List Lite
   pub all : All (λ m. (code_of m ≡ but) ⊎ IsRankedUpTo vars trail rank m) c
   pub real : All (λ m. 2 ≤ code_of m) c
 
--- p is the code of a literal of the clause, another one than but, after which no other than but became false; or 0 where all have the code but
+-- p is the code of a literal of the clause, another one than but, after which no other than but became false; or 0 where all have the code
+-- but
 pub record IsPick (vars : ℕ) (trail : List Literal) (c : List Literal) (but p : ℕ) : Type 0 where
   pub none : p ≡ 0 → All (λ m. code_of m ≡ but) c
   pub has : p ≢ 0 → HasCode c p
   pub not_spare : p ≢ 1
   pub apart : p ≢ 0 → p ≢ but
   pub real : All (λ m. 2 ≤ code_of m) c
-  pub latest : (k : ℕ) (x : Literal) → Contains c x → code_of x ≡ p → IsFalseAfter vars trail k x → All (λ m. (code_of m ≡ but) ⊎ IsFalseAfter vars trail k m) c
+  pub latest : (k : ℕ) (x : Literal) → Contains c x → code_of x ≡ p → IsFalseAfter vars trail k x →
+      All (λ m. (code_of m ≡ but) ⊎ IsFalseAfter vars trail k m) c

@@ -1,6 +1,6 @@
 -- How far a search has come, as one number: a number in base 3, in which each place of the trail is a digit.
 use Rattle.std.specs.Prelude.{zero, suc, ℕ, ◌+◌, ◌-◌, ◌*◌, List, [], ◌∷◌}
-use Rattle.sat_solver.specs.declared.trail.Entry.{Entry}
+use Rattle.sat_solver.specs.declared.trail.TrailEntry.{TrailEntry}
 use Rattle.sat_solver.specs.declared.trail.Reason.{Reason}
 use Rattle.sat_solver.specs.declared.trail.Reason.TheVariants.{Assumed, Chosen, Implied}
 
@@ -16,11 +16,11 @@ points (Assumed count) each = each
 points Chosen each = each
 
 -- of the entries, the oldest first, the first counts most
-abbrev pub score : ℕ → List Entry → ℕ
+abbrev pub score : ℕ → List TrailEntry → ℕ
 score zero es = 0
 score (suc n) [] = 0
 score (suc n) (e ∷ es) = points e.reason (tripled n) + score n es
 
 -- what is left to a search over n places that may restart so many times
-abbrev pub left : ℕ → ℕ → List Entry → ℕ
+abbrev pub left : ℕ → ℕ → List TrailEntry → ℕ
 left n restarts es = restarts * tripled n + (tripled n - score n es)

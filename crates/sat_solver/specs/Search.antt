@@ -9,7 +9,7 @@ use Rattle.sat_clauses.specs.Derivation.{IsUpTo}
 use Rattle.sat_clauses.specs.Hints.{truth_at, HasNoOpposites}
 pub use Rattle.sat_clauses.specs.Steps.{IsStep, AreSteps, with_steps}
 use Rattle.sat_clauses.specs.declared.step.Step.{Step}
-use Rattle.sat_solver.specs.declared.trail.Entry.{Entry}
+use Rattle.sat_solver.specs.declared.trail.TrailEntry.{TrailEntry}
 use Rattle.sat_solver.specs.declared.trail.Reason.{Reason}
 use Rattle.sat_solver.specs.declared.trail.Reason.TheVariants.{Assumed, Chosen, Implied}
 use Rattle.sat_solver.specs.TrailRecord.{TrailValue}
@@ -23,7 +23,7 @@ IsReason clauses assumptions a l Chosen = All (λ p. value_of a p ≡ Some true)
 IsReason clauses assumptions a l (Implied number) = truth_at clauses a number ≡ Some (UnitClause l)
 
 -- each literal had its reason when it was made true
-abbrev pub IsJustified : List (List Literal) → List Literal → ℕ → List Entry → Type 0
+abbrev pub IsJustified : List (List Literal) → List Literal → ℕ → List TrailEntry → Type 0
 IsJustified clauses assumptions n [] = Unit {0}
 IsJustified clauses assumptions n (e ∷ es) =
     IsJustified clauses assumptions n es × IsReason clauses assumptions (assigned n es) e.lit e.reason
@@ -35,7 +35,8 @@ pub record IsSound (clauses : List (List Literal)) (assumptions : List Literal) 
   pub justified : IsJustified clauses assumptions (length t.values) (reverse t.entries)
 
 -- the clauses have grown by steps, and where a recorder tells its list, it kept these
-pub record Grows (vars : ℕ) (old : List (List Literal)) (kept_old : Option (List Step)) (new : List (List Literal)) (kept_new : Option (List Step)) : Type 0 where
+pub record Grows (vars : ℕ) (old : List (List Literal)) (kept_old : Option (List Step)) (new : List (List Literal))
+    (kept_new : Option (List Step)) : Type 0 where
   pub steps : List Step
   pub are_steps : AreSteps vars old steps
   pub clauses : new ≡ with_steps old steps
@@ -61,7 +62,8 @@ pub record IsSolution (vars : ℕ) (clauses : List (List Literal)) (assumptions 
   pub assumptions_true : All (λ l. value_of a l ≡ Some true) assumptions
 
 -- the clause has only negated assumptions, and follows; the steps show it, and a recorder that tells its list kept them
-pub record IsRefutation (vars : ℕ) (clauses : List (List Literal)) (assumptions : List Literal) (kept_old kept_new : Option (List Step)) (c : List Literal) : Type 0 where
+pub record IsRefutation (vars : ℕ) (clauses : List (List Literal)) (assumptions : List Literal) (kept_old kept_new : Option (List Step))
+    (c : List Literal) : Type 0 where
   pub negated : All (λ l. Contains assumptions (opposite l)) c
   pub follows : FollowsFrom clauses c
   pub steps : List Step

@@ -1,28 +1,29 @@
 -- What holds of a trail. Lists of entries here have the newest first.
-use Rattle.std.specs.Prelude.{◌≡◌, ◌≢◌, ◌<◌, ◌≤◌, ℕ, List, [], ◌∷◌, Some, None, replicate, reverse, take, length, map, slice_get, slice_index_or}
+use Rattle.std.specs.Prelude.{◌≡◌, ◌≢◌, ◌<◌, ◌≤◌, ℕ, List, [], ◌∷◌, Some, None, replicate, reverse, take, length, map, slice_get}
+use Rattle.std.specs.Prelude.{slice_index_or}
 use Rattle.sat_clauses.specs.Literal.{Literal}
 use Rattle.sat_clauses.specs.Assignment.{Assignment, all_free, value_of, made_true}
-use Rattle.sat_solver.specs.declared.trail.Entry.{Entry}
+use Rattle.sat_solver.specs.declared.trail.TrailEntry.{TrailEntry}
 use Rattle.sat_solver.specs.declared.trail.Reason.TheVariants.{Assumed, Chosen}
 use Rattle.sat_solver.specs.TrailRecord.{TrailValue}
 
 -- the assignment of so many places that makes these literals true
-abbrev pub assigned : ℕ → List Entry → Assignment
+abbrev pub assigned : ℕ → List TrailEntry → Assignment
 assigned n [] = replicate n None
 assigned n (e ∷ es) = made_true (assigned n es) e.lit
 
 -- each literal was in range and free when it was made true
-abbrev pub IsFresh : ℕ → List Entry → Type 0
+abbrev pub IsFresh : ℕ → List TrailEntry → Type 0
 IsFresh n [] = Unit {0}
 IsFresh n (e ∷ es) = IsFresh n es × (e.lit.var < n) × (value_of (assigned n es) e.lit ≡ None)
 
 -- the entries before place i, the newest first
-abbrev pub below : List Entry → ℕ → List Entry
+abbrev pub below : List TrailEntry → ℕ → List TrailEntry
 below xs i = reverse (take i xs)
 
 -- the literals of the entries
-abbrev pub lits_of : List Entry → List Literal
-lits_of es = map (λ (e : Entry). e.lit) es
+abbrev pub lits_of : List TrailEntry → List Literal
+lits_of es = map (λ (e : TrailEntry). e.lit) es
 
 -- the store's trail s begins with the literals of t that the store has followed
 pub record IsFollowed (s : List Literal) (t : TrailValue) : Type 0 where
@@ -54,13 +55,13 @@ pub record IsLeast (a : Assignment) (n : ℕ) : Type 0 where
 -- one of the literals is an assumption, and so many of the first assumptions were true when it was made true
 pub record HasAssumed (t : TrailValue) (count : ℕ) : Type 0 where
   pub place : ℕ
-  pub entry : Entry
+  pub entry : TrailEntry
   pub is_there : slice_get t.entries place ≡ Some entry
   pub assumed : entry.reason ≡ Assumed count
 
 -- one of the literals was a free choice
 pub record HasChoice (t : TrailValue) : Type 0 where
   pub place : ℕ
-  pub entry : Entry
+  pub entry : TrailEntry
   pub is_there : slice_get t.entries place ≡ Some entry
   pub chosen : entry.reason ≡ Chosen

@@ -1,6 +1,6 @@
 -- What a search answers.
 use Rattle.std.specs.Prelude.{◌≡◌, ◌+◌, ◌≤◌, ℕ, Bool, true, List, All, Contains, Option, Some, None, length, slice_get}
-use Rattle.sat_solver.specs.declared.trail.Entry.{Entry}
+use Rattle.sat_solver.specs.declared.trail.TrailEntry.{TrailEntry}
 use Rattle.sat_clauses.specs.Literal.{Literal, opposite}
 use Rattle.sat_clauses.specs.Assignment.{Assignment, value_of}
 use Rattle.sat_clauses.specs.Models.{FollowsFrom}
@@ -10,7 +10,7 @@ use Rattle.sat_solver.specs.declared.solve.Verdict.TheVariants.{Sat, Unsat}
 use Rattle.sat_solver.specs.Search.{IsSolution, IsRefutation}
 use Rattle.sat_solver.specs.TrailRecord.{TrailValue}
 use Rattle.sat_solver.specs.Score.{score}
-use Rattle.sat_solver.specs.Found.{IsTrueIn}
+use Rattle.sat_solver.specs.ClauseFindings.{IsTrueIn}
 
 -- an answer is right: a solution, or a refutation whose steps were kept
 abbrev pub IsVerdict : ℕ → List (List Literal) → List Literal → Option (List Step) → Option (List Step) → Verdict → Type 0
@@ -44,8 +44,8 @@ IsLesson clauses assumptions old new None = IsFurther old new
 IsLesson clauses assumptions old new (Some c) = IsCore true clauses assumptions c
 
 -- the entry at this place has this literal
-abbrev pub IsAt : List Entry → ℕ → Literal → Type 0
-IsAt entries i l = (e : Entry) × (slice_get entries i ≡ Some e) × (e.lit ≡ l)
+abbrev pub IsAt : List TrailEntry → ℕ → Literal → Type 0
+IsAt entries i l = (e : TrailEntry) × (slice_get entries i ≡ Some e) × (e.lit ≡ l)
 
 -- a clause that refutes is one of these
 abbrev pub IsAmong : List (List Literal) → Verdict → Type 0

@@ -1,10 +1,10 @@
 //! The clauses of a search that are alive: those that were added, and of the learned ones those that a kernel has not forgotten.
 //!
-//! [`still_alive`] copies them in their order and tells the kernel their new numbers. The kernel is not trusted: whatever it says that it has,
-//! each clause that was added stays, and no clause comes in that was not there.
+//! [`still_alive`] copies them in their order and tells the kernel their new numbers. The kernel is not trusted: whatever it says that it
+//! has, each clause that was added stays, and no clause comes in that was not there.
 ghost use Rattle.std.specs.Prelude.{◌≡◌, ◌+◌, ◌^◌, ◌<◌, All, IfOk, OnOk, IsTrue, true, false, [], length, slice_index_or};
 ghost use Rattle.sat_clauses.specs.Derivation.{IsUpTo};
-ghost use Rattle.sat_solver.specs.Alive.{IsAlive};
+ghost use Rattle.sat_solver.specs.LivingClauses.{IsAlive};
 
 use crate::arena::Arena;
 use crate::proposed::is_learned;

@@ -4,14 +4,16 @@
 //! is resolved by the clause that implied it, or its negation joins the learned clause; the first entry
 //! that stands alone above its decision is the first unique implication point, and is kept, as are all
 //! marked ones below. The numbers of the clauses that were resolved, backwards, are the hints.
-ghost use Rattle.std.specs.Prelude.{◌≡◌, ◌==◌, ◌&&◌, if◌then◌else◌, ◌<◌, ◌≤◌, Bool, false, length, reverse, replicate, All, IfOk, OnOk, Some, slice_get, slice_index_or};
+ghost use Rattle.std.specs.Prelude.{◌≡◌, ◌==◌, ◌&&◌, if◌then◌else◌, ◌<◌, ◌≤◌, Bool, false, length, reverse, replicate, All, IfOk, OnOk};
+ghost use Rattle.std.specs.Prelude.{Some, slice_get, slice_index_or};
 ghost use Rattle.sat_clauses.specs.Assignment.{IsInRange};
 ghost use Rattle.sat_solver.specs.Trail.{below};
-ghost use Rattle.sat_solver.specs.declared.trail.Entry.{Entry};
-ghost use Rattle.sat_solver.specs.Analysis.{marked, is_decision, is_alone, may_resolve, resolver, visited_by, visited, analysed, begun, IsWithin, NamesOne};
+ghost use Rattle.sat_solver.specs.declared.trail.TrailEntry.{TrailEntry};
+ghost use Rattle.sat_solver.specs.Analysis.{marked, is_decision, is_alone, may_resolve, resolver, visited_by, visited, analysed, begun};
+ghost use Rattle.sat_solver.specs.Analysis.{IsWithin, NamesOne};
 
 use crate::clauses::lits;
-use crate::trail::{Entry, Reason, Trail};
+use crate::trail::{Reason, Trail, TrailEntry};
 use base_values::OutOfMemory;
 use sat_clauses::clause::Clause;
 use sat_clauses::lit::Lit;
@@ -65,14 +67,14 @@ impl Marks {
 
 /// How far the analysis of a false clause has come.
 #[derive(Drop)]
-pub struct Analysis {
+pub struct ConflictAnalysis {
     marks: Marks,
     lits: Vec<Lit>,
     used: Vec<u64>,
     target: usize,
 }
 
-impl Model for Analysis {
+impl Model for ConflictAnalysis {
     ghost use Rattle.sat_solver.specs.AnalysisRecord.{AnalysisValue};
 
     ghost Value = { AnalysisValue };
@@ -80,14 +82,14 @@ impl Model for Analysis {
     ghost view = { λ s. record { marks = s.marks; lits = s.lits.items; used = s.used.items; target = s.target } };
 }
 
-impl Analysis {
+impl ConflictAnalysis {
     /// Begins with a false clause.
     fn begin<S: Store>(
         alloc: Global,
         len: usize,
         clauses: &S,
         conflict: u64,
-    ) -> Result<Analysis, OutOfMemory>
+    ) -> Result<ConflictAnalysis, OutOfMemory>
         requires in_range { All (All (λ l. l.var < len)) (S.held clauses.now).clauses }
         requires number { NamesOne (length (S.held clauses.now).clauses) conflict }
         ensures { IfOk result (λ s. s ≡ begun len (S.held clauses.now).clauses conflict) }
@@ -96,7 +98,7 @@ impl Analysis {
         marks.set_all(lits(clauses, conflict as usize - 1));
         let mut used = Vec::new(alloc);
         used.push(conflict)?;
-        Ok(Analysis {
+        Ok(ConflictAnalysis {
             marks,
             lits: Vec::new(alloc),
             used,
@@ -136,7 +138,7 @@ impl Analysis {
         requires within { place < length trail.now.entries }
         requires in_range { All (λ e. e.lit.var < length self.old.marks) trail.now.entries }
         requires reasons { All (λ e. IsWithin (length (S.held clauses.now).clauses) e.reason) trail.now.entries }
-        ensures { OnOk result ((e : Entry) → slice_get trail.now.entries place ≡ Some e
+        ensures { OnOk result ((e : TrailEntry) → slice_get trail.now.entries place ≡ Some e
             → self.new ≡ visited (S.held clauses.now).clauses fully self.old e (below trail.now.entries place)) }
     {
         let entry = trail.at(place);
@@ -150,7 +152,10 @@ impl Analysis {
 
     /// Goes on with an entry that is not marked.
     fn pass(&mut self, reason: Reason, place: usize)
-        ensures { self.new ≡ record self.old { target = if length self.old.lits == 1 && is_decision reason then place else self.old.target } }
+        ensures { self.new ≡ record self.old {
+          target = if length self.old.lits == 1
+              && is_decision reason then place else self.old.target;
+        } }
     {
         if self.lits.len() == 1 && reason.is_decision() {
             self.target = place;
@@ -177,7 +182,7 @@ impl Analysis {
         &mut self,
         clauses: &S,
         resolves: bool,
-        entry: Entry,
+        entry: TrailEntry,
         place: usize,
     ) -> Result<(), OutOfMemory>
         requires clauses_in_range { All (All (λ l. l.var < length self.old.marks)) (S.held clauses.now).clauses }
@@ -242,15 +247,17 @@ pub fn analyse<S: Store>(
     requires reasons { All (λ e. IsWithin (length (S.held clauses.now).clauses) e.reason) trail.now.entries }
     requires number { NamesOne (length (S.held clauses.now).clauses) conflict }
     ensures lits { IfOk result (λ learned. learned.step.clause
-        ≡ (analysed (S.held clauses.now).clauses fully (begun (length trail.now.values) (S.held clauses.now).clauses conflict) (reverse trail.now.entries)).lits) }
+        ≡ (analysed (S.held clauses.now).clauses fully (begun (length trail.now.values) (S.held clauses.now).clauses conflict)
+        (reverse trail.now.entries)).lits) }
     ensures hints { IfOk result (λ learned. learned.step.hints
         ≡ reverse (analysed (S.held clauses.now).clauses fully (begun (length trail.now.values) (S.held clauses.now).clauses conflict)
         (reverse trail.now.entries)).used) }
     ensures target { IfOk result (λ learned. learned.target
-        ≡ (analysed (S.held clauses.now).clauses fully (begun (length trail.now.values) (S.held clauses.now).clauses conflict) (reverse trail.now.entries)).target) }
+        ≡ (analysed (S.held clauses.now).clauses fully (begun (length trail.now.values) (S.held clauses.now).clauses conflict)
+        (reverse trail.now.entries)).target) }
 {
     let len = trail.assign().vars() as usize + 1;
-    let mut analysis = Analysis::begin(alloc, len, clauses, conflict)?;
+    let mut analysis = ConflictAnalysis::begin(alloc, len, clauses, conflict)?;
     let mut i = trail.len();
     while i > 0 {
         i -= 1;

@@ -14,7 +14,7 @@ use sat_clauses::assign::Assign;
 use sat_clauses::clause_store::ClauseStore;
 use sat_clauses::lit::Lit;
 use sat_clauses::store::Store;
-use sat_clauses::trail::Trail;
+use sat_clauses::trail::LiteralTrail;
 use std::alloc::Global;
 use std::marker::Model;
 
@@ -22,7 +22,7 @@ use std::marker::Model;
 #[derive(Drop)]
 pub struct Arena {
     clauses: ClauseStore,
-    trail: Trail,
+    trail: LiteralTrail,
     // Under the code of each literal, the clauses of which it is the first, or the second, watched one.
     firsts: Threads,
     seconds: Threads,
@@ -85,7 +85,7 @@ impl Arena {
         let lists = 2 * vars as usize + 2;
         Ok(Arena {
             clauses: ClauseStore::new(alloc),
-            trail: Trail::with_vars(alloc, vars)?,
+            trail: LiteralTrail::with_vars(alloc, vars)?,
             firsts: Threads::new(alloc, lists)?,
             seconds: Threads::new(alloc, lists)?,
             found: Vec::new(alloc),

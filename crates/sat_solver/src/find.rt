@@ -5,7 +5,7 @@
 ghost use Rattle.std.specs.Prelude.{◌≡◌, ◌≢◌, ◌<◌, ◌≤◌, ℕ, length, take, All, Some, None, true, slice_index_or, IfSome};
 ghost use Rattle.sat_clauses.specs.Assignment.{IsInRange, value_of};
 ghost use Rattle.sat_clauses.specs.Truth.{truth_of};
-ghost use Rattle.sat_solver.specs.Found.{IsFound, IsUseful, IsPick};
+ghost use Rattle.sat_solver.specs.ClauseFindings.{IsFound, IsUseful, IsPick};
 ghost use Rattle.sat_solver.specs.Trail.{HasChoice, HasAssumed};
 
 use crate::clauses::{len, lits};
@@ -18,7 +18,7 @@ use sat_clauses::truth::truth_of_lits;
 
 /// A clause that is false or unit, if one was found.
 #[derive(Clone, Copy)]
-pub enum Found {
+pub enum FoundClause {
     /// The clause of this number is false.
     Conflict(u64),
     /// The clause of this number is unit.
@@ -28,17 +28,17 @@ pub enum Found {
 }
 
 /// Whether the clause of this number is false or unit.
-pub fn try_clause<S: Store>(clauses: &S, assign: &Assign, number: u64) -> Found
+pub fn try_clause<S: Store>(clauses: &S, assign: &Assign, number: u64) -> FoundClause
     requires { All (All (IsInRange assign.now)) (S.held clauses.now).clauses }
     ensures { IsUseful (S.held clauses.now).clauses assign.now result }
 {
     if number == 0 || number as usize > len(clauses) {
-        return Found::Nothing;
+        return FoundClause::Nothing;
     }
     match truth_of_lits(lits(clauses, number as usize - 1), assign) {
-        Truth::False => Found::Conflict(number),
-        Truth::Unit(lit) => Found::Next(number, lit),
-        _ => Found::Nothing,
+        Truth::False => FoundClause::Conflict(number),
+        Truth::Unit(lit) => FoundClause::Next(number, lit),
+        _ => FoundClause::Nothing,
     }
 }
 
@@ -67,7 +67,7 @@ fn decided(lits: &[Lit], assign: &Assign) -> Truth
 }
 
 /// The first clause that is false or unit, where every variable has a value; where there is none, all are true.
-pub fn find<S: Store>(clauses: &S, assign: &Assign) -> Found
+pub fn find<S: Store>(clauses: &S, assign: &Assign) -> FoundClause
     requires in_range { All (All (IsInRange assign.now)) (S.held clauses.now).clauses }
     requires taken { (x : ℕ) → 0 < x → x < length assign.now → slice_index_or assign.now x None ≢ None }
     ensures { IsFound (S.held clauses.now).clauses assign.now result }
@@ -75,13 +75,13 @@ pub fn find<S: Store>(clauses: &S, assign: &Assign) -> Found
     let mut i = 0;
     while i < len(clauses) {
         match decided(lits(clauses, i), assign) {
-            Truth::False => return Found::Conflict(i as u64 + 1),
-            Truth::Unit(lit) => return Found::Next(i as u64 + 1, lit),
+            Truth::False => return FoundClause::Conflict(i as u64 + 1),
+            Truth::Unit(lit) => return FoundClause::Next(i as u64 + 1, lit),
             _ => {}
         }
         i += 1;
     }
-    Found::Nothing
+    FoundClause::Nothing
 }
 
 /// What is to be made true where no clause is unit.
@@ -102,7 +102,8 @@ pub enum Pick {
 pub fn next_pick(trail: &mut Trail, assumptions: &[Lit]) -> Pick
     requires in_range { All (IsInRange trail.old.values) assumptions.now }
     requires assumed { HasChoice trail.old → All (λ p. value_of trail.old.values p ≡ Some true) assumptions.now }
-    requires in_turn { (count : ℕ) → HasAssumed trail.old count → All (λ p. value_of trail.old.values p ≡ Some true) (take count assumptions.now) }
+    requires in_turn { (count : ℕ) → HasAssumed trail.old count →
+        All (λ p. value_of trail.old.values p ≡ Some true) (take count assumptions.now) }
     ensures same { trail.new ≡ trail.old }
     ensures pick { IsPick trail.old.values assumptions.now result }
 {

@@ -5,19 +5,20 @@
 //! each is true in every model of the added ones, and that stays so where learned ones go. A question is first asked of a kernel, whose
 //! answer is looked at ([`crate::proposed`]), and where that has no right one of the search of [`crate::solve`]. A search whose steps
 //! nobody is told can drop the learned clauses that the kernel has forgotten, so that memory is in proportion to what is alive.
-ghost use Rattle.std.specs.Prelude.{◌≡◌, ◌+◌, ◌-◌, ◌^◌, ◌<◌, ◌≤◌, [], ◌∷◌, ◌++◌, true, false, length, replicate, All, Contains, IfOk, IfSome, Some, OnOk, OnErr, IsErr};
+ghost use Rattle.std.specs.Prelude.{◌≡◌, ◌+◌, ◌-◌, ◌^◌, ◌<◌, ◌≤◌, [], ◌∷◌, ◌++◌, true, false, length, replicate, All, Contains, IfOk};
+ghost use Rattle.std.specs.Prelude.{IfSome, Some, OnOk, OnErr, IsErr};
 ghost use Rattle.sat_solver.specs.declared.solve.Verdict.TheVariants.{Unsat};
 ghost use Rattle.sat_clauses.specs.Models.{FollowsFrom};
 ghost use Rattle.sat_clauses.specs.Derivation.{IsUpTo};
 ghost use Rattle.sat_clauses.specs.Hints.{HasNoOpposites};
-ghost use Rattle.sat_solver.specs.Kept.{added_of, HasLearned, IsAnswer};
+ghost use Rattle.sat_solver.specs.LearnedClauses.{added_of, HasLearned, IsAnswer};
 ghost use Rattle.sat_solver.specs.Search.{CanSolve, Grows};
 ghost use Rattle.sat_solver.specs.Trail.{IsIdle};
-ghost use Rattle.sat_solver.specs.Proposed.{IsRight};
+ghost use Rattle.sat_solver.specs.Proposals.{IsRight};
 
 use crate::alive::still_alive;
 use crate::arena::Arena;
-use crate::proposed::{Question, proposed, refuted};
+use crate::proposed::{SearchQuestion, proposed, refuted};
 use crate::solve::{Verdict, solve_on};
 use crate::trail::Trail;
 use crate::work::Work;
@@ -152,7 +153,8 @@ impl Kept {
     /// Adds a clause.
     fn add(&mut self, lits: &[Lit]) -> Result<(), OutOfMemory>
         requires { All (IsUpTo self.old.vars) lits.now }
-        ensures ok { OnOk result (self.new ≡ record self.old { clauses = self.old.clauses ++ lits.now ∷ []; marks = self.old.marks ++ false ∷ [] }) }
+        ensures ok { OnOk result (self.new
+            ≡ record self.old { clauses = self.old.clauses ++ lits.now ∷ []; marks = self.old.marks ++ false ∷ [] }) }
         ensures failed { self.old.failed ≡ true → IsErr result }
         ensures fails { OnErr result (self.new.failed ≡ true) }
     {
@@ -209,7 +211,9 @@ impl Kept {
     ) -> Result<Verdict, OutOfMemory>
         requires in_range { All (IsUpTo self.old.vars) assumptions.now }
         requires apart { HasNoOpposites assumptions.now }
-        ensures answer { IfOk result (λ verdict. IsAnswer cores self.old.vars (added_of self.old.clauses self.old.marks) self.new.clauses assumptions.now verdict) }
+        ensures answer { IfOk result
+            (λ verdict. IsAnswer cores self.old.vars (added_of self.old.clauses self.old.marks) self.new.clauses assumptions.now
+            verdict) }
         ensures learned { IfOk result (λ _. HasLearned self.old.vars self.old.clauses self.old.marks
             (R.kept recorder.old) self.new.clauses self.new.marks (R.kept recorder.new)) }
         ensures vars { IfOk result (λ _. self.new.vars ≡ self.old.vars) }
@@ -229,7 +233,7 @@ impl Kept {
             &mut self.trail,
             &mut self.store,
             &self.marks,
-            Question { assumptions, cores },
+            SearchQuestion { assumptions, cores },
             panel,
             recorder,
         )?;
@@ -239,8 +243,8 @@ impl Kept {
         Ok(verdict)
     }
 
-    /// Asks for a clause that refutes the assumptions, of which none is found where there is none, and may be found none elsewhere too. It is
-    /// kept with the others where `cores` holds.
+    /// Asks for a clause that refutes the assumptions, of which none is found where there is none, and may be found none elsewhere too. It
+    /// is kept with the others where `cores` holds.
     fn refute<R: Recorder>(
         &mut self,
         alloc: Global,
@@ -251,7 +255,9 @@ impl Kept {
     ) -> Result<Option<Clause>, OutOfMemory>
         requires in_range { All (IsUpTo self.old.vars) assumptions.now }
         requires apart { HasNoOpposites assumptions.now }
-        ensures answer { IfOk result (λ r. IfSome r (λ core. IsAnswer cores self.old.vars (added_of self.old.clauses self.old.marks) self.new.clauses assumptions.now (Unsat core))) }
+        ensures answer { IfOk result
+            (λ r. IfSome r (λ core. IsAnswer cores self.old.vars (added_of self.old.clauses self.old.marks) self.new.clauses
+            assumptions.now (Unsat core))) }
         ensures learned { IfOk result (λ _. HasLearned self.old.vars self.old.clauses self.old.marks
             (R.kept recorder.old) self.new.clauses self.new.marks (R.kept recorder.new)) }
         ensures vars { IfOk result (λ _. self.new.vars ≡ self.old.vars) }
@@ -269,7 +275,7 @@ impl Kept {
             alloc,
             &mut self.kernel,
             &mut self.store,
-            Question { assumptions, cores },
+            SearchQuestion { assumptions, cores },
             panel,
             recorder,
         )?;
@@ -297,7 +303,7 @@ fn answered<'a, R: Recorder>(
     trail: &mut Trail,
     store: &mut Arena,
     marks: &[bool],
-    question: Question<'a>,
+    question: SearchQuestion<'a>,
     panel: &mut Panel,
     recorder: &mut R,
 ) -> Result<Verdict, OutOfMemory>
@@ -415,7 +421,8 @@ impl<R: Recorder + Drop> Search<R> {
     /// How many clauses there are, added and learned: each is true in every model of the added ones.
     pub fn count(&self) -> usize
         ensures value { result ≡ length self.now.kept.clauses }
-        ensures follow { self.now.kept.failed ≡ false → All (FollowsFrom (added_of self.now.kept.clauses self.now.kept.marks)) self.now.kept.clauses }
+        ensures follow { self.now.kept.failed ≡ false →
+            All (FollowsFrom (added_of self.now.kept.clauses self.now.kept.marks)) self.now.kept.clauses }
     {
         self.kept.count()
     }
@@ -549,7 +556,8 @@ impl Search<KeepNone> {
     /// Drops learned clauses that are of no more use, once many were learned since the last time; the others take new numbers. Each
     /// added clause stays.
     pub fn forget(&mut self) -> Result<(), OutOfMemory>
-        ensures added { OnOk result (added_of self.new.kept.clauses self.new.kept.marks ≡ added_of self.old.kept.clauses self.old.kept.marks) }
+        ensures added { OnOk result (added_of self.new.kept.clauses self.new.kept.marks
+            ≡ added_of self.old.kept.clauses self.old.kept.marks) }
         ensures marked { OnOk result (length self.new.kept.marks ≡ length self.new.kept.clauses) }
         ensures among { OnOk result (All (Contains self.old.kept.clauses) self.new.kept.clauses) }
         ensures fewer { OnOk result (length self.new.kept.clauses ≤ length self.old.kept.clauses) }

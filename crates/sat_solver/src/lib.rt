@@ -5,7 +5,7 @@
 //! true, or `Unsat` with a clause of negated assumptions that is true in every model of the clauses. It
 //! hands each clause that it learns to a recorder, with the numbers of the clauses that show it by unit
 //! propagation, so that a checker which shares no code with the search accepts the derivation.
-//! `specs/Search.antt` says what these answers mean (`IsSolution`, `IsRefutation`, `AreSteps`), `specs/Running.antt`
+//! `specs/Search.antt` says what these answers mean (`IsSolution`, `IsRefutation`, `AreSteps`), `specs/SearchSteps.antt`
 //! what holds between two steps of the search, and `specs/Choice.antt` what [`choose::choose`] answers, whatever the
 //! panel's advisers pick.
 //!

@@ -9,7 +9,7 @@ ghost use Rattle.sat_clauses.specs.Models.{ClauseBelow};
 ghost use Rattle.sat_solver.specs.Pick.{IsRank, IsBest, IsPick};
 
 use sat_clauses::lit::Lit;
-use sat_clauses::trail::Trail;
+use sat_clauses::trail::LiteralTrail;
 
 // The code of a literal, or 0, and how late it became false.
 #[derive(Clone, Copy)]
@@ -19,7 +19,7 @@ struct Best {
 }
 
 // The place on the trail at which a literal became false, or the trail's length.
-fn rank(trail: &Trail, lit: Lit) -> usize
+fn rank(trail: &LiteralTrail, lit: Lit) -> usize
     requires { lit.var ≤ trail.now.vars }
     ensures { IsRank trail.now.vars trail.now.lits lit result }
 {
@@ -36,7 +36,7 @@ fn rank(trail: &Trail, lit: Lit) -> usize
 }
 
 // The better of the best one so far and one more literal.
-fn better(trail: &Trail, best: Best, lit: Lit, but: u64) -> Best
+fn better(trail: &LiteralTrail, best: Best, lit: Lit, but: u64) -> Best
     requires { lit.var ≤ trail.now.vars }
     ensures { (c : List Literal) → IsBest trail.now.vars trail.now.lits but c best.code best.rank →
         IsBest trail.now.vars trail.now.lits but (c ++ lit ∷ []) result.code result.rank }
@@ -53,7 +53,7 @@ fn better(trail: &Trail, best: Best, lit: Lit, but: u64) -> Best
 }
 
 /// The code of a literal of the clause that became false last, other than the one with this code, or 0.
-pub fn pick(lits: &[Lit], trail: &Trail, but: u64) -> u64
+pub fn pick(lits: &[Lit], trail: &LiteralTrail, but: u64) -> u64
     requires { ClauseBelow (trail.now.vars + 1) lits.now }
     ensures { IsPick trail.now.vars trail.now.lits lits.now but result }
 {

@@ -5,14 +5,14 @@
 //! it misses nothing is promised nowhere, and [`crate::find`] looks at all clauses before an answer.
 ghost use Rattle.std.specs.Prelude.{◌≡◌, All};
 ghost use Rattle.sat_clauses.specs.Assignment.{IsInRange};
-ghost use Rattle.sat_solver.specs.Found.{IsUseful};
+ghost use Rattle.sat_solver.specs.ClauseFindings.{IsUseful};
 
-use crate::find::{Found, try_clause};
+use crate::find::{FoundClause, try_clause};
 use crate::trail::Trail;
 use sat_clauses::store::Store;
 
 /// The next clause that the literals of the trail make unit or false, as far as it is found.
-pub fn propagate<S: Store>(store: &S, trail: &mut Trail) -> Found
+pub fn propagate<S: Store>(store: &S, trail: &mut Trail) -> FoundClause
     requires { All (All (IsInRange trail.old.values)) (S.held store.now).clauses }
     ensures same { trail.new ≡ trail.old }
     ensures found { IsUseful (S.held store.now).clauses trail.old.values result }
@@ -22,9 +22,9 @@ pub fn propagate<S: Store>(store: &S, trail: &mut Trail) -> Found
         let number = trail.next_due();
         let found = try_clause(store, trail.assign(), number);
         match found {
-            Found::Nothing => {}
+            FoundClause::Nothing => {}
             _ => return found,
         }
     }
-    Found::Nothing
+    FoundClause::Nothing
 }

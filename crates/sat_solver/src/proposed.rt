@@ -1,22 +1,23 @@
-//! Answers that a kernel proposes. Nothing that it says is trusted: a clause that it learned is kept only where it follows by its hints from
-//! those before it, an assignment is answered only where it makes all added clauses and the assumptions true, and a clause
+//! Answers that a kernel proposes. Nothing that it says is trusted: a clause that it learned is kept only where it follows by its hints
+//! from those before it, an assignment is answered only where it makes all added clauses and the assumptions true, and a clause
 //! only where it has negated assumptions alone and follows. Where that is not so there is no answer, and the search of
 //! [`crate::solve`] gives it.
-ghost use Rattle.std.specs.Prelude.{◌≡◌, ◌^◌, ◌<◌, ◌≤◌, ◌+◌, List, All, Any, Contains, IsTrue, IfOk, IfSome, Some, true, false, [], length, slice_index_or};
+ghost use Rattle.std.specs.Prelude.{◌≡◌, ◌^◌, ◌<◌, ◌≤◌, ◌+◌, List, All, Any, Contains, IsTrue, IfOk, IfSome, Some, true, false, [], length};
+ghost use Rattle.std.specs.Prelude.{slice_index_or};
 ghost use Rattle.sat_clauses.specs.Models.{FollowsFrom};
 ghost use Rattle.sat_clauses.specs.Literal.{Literal, opposite};
 ghost use Rattle.sat_clauses.specs.Assignment.{IsInRange, all_free, value_of};
 ghost use Rattle.sat_clauses.specs.Derivation.{IsUpTo};
 ghost use Rattle.sat_solver.specs.Search.{IsStep, IsSolution, Grows};
-ghost use Rattle.sat_solver.specs.Kept.{added_of};
-ghost use Rattle.sat_solver.specs.Proposed.{HasTrue, IsRight};
+ghost use Rattle.sat_solver.specs.LearnedClauses.{added_of};
+ghost use Rattle.sat_solver.specs.Proposals.{HasTrue, IsRight};
 
 use crate::arena::Arena;
 use crate::solve::Verdict;
 use base_values::OutOfMemory;
 use sat_adviser::Panel;
 use sat_clauses::assign::Assign;
-use sat_clauses::checker_trail::Trail;
+use sat_clauses::checker_trail::CheckerTrail;
 use sat_clauses::clause::Clause;
 use sat_clauses::clause_store::ClauseStore;
 use sat_clauses::hints::{follow, has_no_opposites};
@@ -28,7 +29,7 @@ use sat_kernel::{Kernel, Proposal};
 use std::alloc::Global;
 
 /// Whether a step's clause follows by its hints.
-fn is_step(judge: &mut Trail, clauses: &ClauseStore, step: &Step, vars: u64) -> bool
+fn is_step(judge: &mut CheckerTrail, clauses: &ClauseStore, step: &Step, vars: u64) -> bool
     requires small { vars < 2 ^ 62 }
     requires free { judge.old ≡ all_free vars }
     requires in_range { All (All (IsUpTo vars)) clauses.now.clauses }
@@ -44,7 +45,7 @@ fn is_step(judge: &mut Trail, clauses: &ClauseStore, step: &Step, vars: u64) -> 
 
 /// Keeps the clause of a step and tells the recorder, where it follows; answers whether it does.
 fn keep_step<R: Recorder>(
-    judge: &mut Trail,
+    judge: &mut CheckerTrail,
     store: &mut Arena,
     step: &Step,
     recorder: &mut R,
@@ -83,7 +84,7 @@ fn keep_steps<R: Recorder>(
     if steps.is_empty() {
         return Ok(true);
     }
-    let mut judge = Trail::with_vars(alloc, store.vars())?;
+    let mut judge = CheckerTrail::with_vars(alloc, store.vars())?;
     for step in steps {
         if !keep_step(&mut judge, store, step, recorder)? {
             return Ok(false);
@@ -188,7 +189,7 @@ fn values_of(alloc: Global, kernel: &Kernel, vars: u64) -> Result<Assign, OutOfM
 
 /// A question: the assumptions, and whether a clause that refutes them is kept with the others.
 #[derive(Clone, Copy)]
-pub(crate) struct Question<'a> {
+pub(crate) struct SearchQuestion<'a> {
     pub assumptions: &'a [Lit],
     pub cores: bool,
 }
@@ -200,7 +201,7 @@ fn model<'a>(
     proposal: &Proposal,
     store: &Arena,
     marks: &[bool],
-    question: Question<'a>,
+    question: SearchQuestion<'a>,
 ) -> Result<Option<Assign>, OutOfMemory>
     requires small { store.now.vars < 2 ^ 62 }
     requires in_range { All (All (IsUpTo store.now.vars)) store.now.clauses }
@@ -233,7 +234,7 @@ fn refutes<R: Recorder>(
     ensures listed { IfOk result (λ is_right. IsTrue is_right → cores ≡ true → Contains store.new.clauses step.now.clause) }
     ensures follows { IfOk result (λ is_right. IsTrue is_right → FollowsFrom store.old.clauses step.now.clause) }
 {
-    let mut judge = Trail::with_vars(alloc, store.vars())?;
+    let mut judge = CheckerTrail::with_vars(alloc, store.vars())?;
     if cores {
         let is_kept = keep_step(&mut judge, store, step, recorder)?;
         return Ok(is_kept);
@@ -247,7 +248,7 @@ fn core<'a, R: Recorder>(
     alloc: Global,
     store: &mut Arena,
     step: Step,
-    question: Question<'a>,
+    question: SearchQuestion<'a>,
     recorder: &mut R,
 ) -> Result<Option<Verdict>, OutOfMemory>
     requires small { store.old.vars < 2 ^ 62 }
@@ -273,7 +274,7 @@ pub(crate) fn proposed<'a, R: Recorder>(
     asked: &mut Option<Kernel>,
     store: &mut Arena,
     marks: &[bool],
-    question: Question<'a>,
+    question: SearchQuestion<'a>,
     panel: &mut Panel,
     recorder: &mut R,
 ) -> Result<Option<Verdict>, OutOfMemory>
@@ -314,7 +315,7 @@ pub(crate) fn refuted<'a, R: Recorder>(
     alloc: Global,
     asked: &mut Option<Kernel>,
     store: &mut Arena,
-    question: Question<'a>,
+    question: SearchQuestion<'a>,
     panel: &mut Panel,
     recorder: &mut R,
 ) -> Result<Option<Verdict>, OutOfMemory>

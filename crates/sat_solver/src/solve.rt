@@ -8,7 +8,8 @@
 //! these, `IsFurther` of two trails says that the second stands higher, and `IsCore` of a clause that it
 //! refutes the assumptions. Such a clause has a literal for each assumption that it needs and would be visited ever
 //! after, so it is one of the clauses only where `cores` holds.
-ghost use Rattle.std.specs.Prelude.{◌≡◌, ◌≢◌, ◌↔◌, IsTrue, ℕ, ◌+◌, ◌<◌, ◌≤◌, true, false, [], ◌∷◌, ◌++◌, length, reverse, All, Contains, IfOk, OnOk, OnErr, Some, None, slice_index_or};
+ghost use Rattle.std.specs.Prelude.{◌≡◌, ◌≢◌, ◌↔◌, IsTrue, ℕ, ◌+◌, ◌<◌, ◌≤◌, true, false, [], ◌∷◌, ◌++◌, length, reverse, All, Contains};
+ghost use Rattle.std.specs.Prelude.{IfOk, OnOk, OnErr, Some, None, slice_index_or};
 ghost use Rattle.sat_clauses.specs.Assignment.{IsInRange, value_of};
 ghost use Rattle.sat_clauses.specs.Derivation.{IsUpTo};
 ghost use Rattle.sat_clauses.specs.Hints.{truth_at};
@@ -16,9 +17,9 @@ ghost use Rattle.sat_clauses.specs.Models.{FollowsFrom};
 ghost use Rattle.sat_solver.specs.Trail.{IsLawful, IsIdle};
 ghost use Rattle.sat_solver.specs.Analysis.{analysed, begun};
 ghost use Rattle.sat_solver.specs.Search.{Extends, CanSolve, HasKept, IsReason, Grows};
-ghost use Rattle.sat_solver.specs.Found.{IsUseful};
-ghost use Rattle.sat_solver.specs.Kept.{IsAnswer};
-ghost use Rattle.sat_solver.specs.Running.{IsRunning, Keeps, GoesOn};
+ghost use Rattle.sat_solver.specs.ClauseFindings.{IsUseful};
+ghost use Rattle.sat_solver.specs.LearnedClauses.{IsAnswer};
+ghost use Rattle.sat_solver.specs.SearchSteps.{IsRunning, Keeps, GoesOn};
 ghost use Rattle.sat_solver.specs.Verdict.{IsAmong, IsAt, IsCore, IsFurther, IsLesson, IsAdvance, IsVerdict};
 
 use crate::analysis::{Learned, analyse};
@@ -26,7 +27,7 @@ use crate::arena::Arena;
 use crate::choose::choose_from;
 use crate::clauses::{append, fill, len, lits};
 use crate::complete::complete;
-use crate::find::{Found, Pick, find, next_pick};
+use crate::find::{FoundClause, Pick, find, next_pick};
 use crate::follow::follow;
 use crate::propagate::propagate;
 use crate::trail::{Reason, Trail};
@@ -75,7 +76,8 @@ pub fn solve<R: Recorder>(
     recorder: &mut R,
 ) -> Result<Verdict, OutOfMemory>
     requires { CanSolve vars clauses.now assumptions.now }
-    ensures verdict { IfOk result (λ verdict. IsVerdict vars clauses.now assumptions.now (R.kept recorder.old) (R.kept recorder.new) verdict) }
+    ensures verdict { IfOk result
+        (λ verdict. IsVerdict vars clauses.now assumptions.now (R.kept recorder.old) (R.kept recorder.new) verdict) }
     ensures kept { IfOk result (λ _. HasKept vars clauses.now (R.kept recorder.old) (R.kept recorder.new)) }
     ensures ready { OnOk result (panel.new.vars ≡ vars) }
     ensures restarts { panel.new.rotated ≤ panel.old.rotated + 64 }
@@ -199,7 +201,8 @@ fn advance<S: Store, R: Recorder>(
 ) -> Result<Option<Verdict>, OutOfMemory>
     requires running { IsRunning assumptions.now (S.held store.old) trail.old }
     ensures keeps { Keeps (S.held store.old) (S.held store.new) }
-    ensures goes_on { IfOk result (λ _. GoesOn assumptions.now (S.held store.old) (S.held store.new) (R.kept recorder.old) (R.kept recorder.new) trail.new) }
+    ensures goes_on { IfOk result
+        (λ _. GoesOn assumptions.now (S.held store.old) (S.held store.new) (R.kept recorder.old) (R.kept recorder.new) trail.new) }
     ensures advance { IfOk result (λ answer. IsAdvance cores (S.held store.new).clauses assumptions.now trail.old trail.new answer) }
     ensures ready { panel.new.vars ≡ panel.old.vars }
     ensures rotated { panel.new.rotated ≡ panel.old.rotated }
@@ -226,20 +229,21 @@ fn take_step<S: Store, R: Recorder>(
     store: &mut S,
     assumptions: &[Lit],
     cores: bool,
-    found: Found,
+    found: FoundClause,
     panel: &mut Panel,
     recorder: &mut R,
 ) -> Result<Option<Verdict>, OutOfMemory>
     requires running { IsRunning assumptions.now (S.held store.old) trail.old }
     requires found { IsUseful (S.held store.old).clauses trail.old.values found }
     ensures keeps { Keeps (S.held store.old) (S.held store.new) }
-    ensures goes_on { IfOk result (λ _. GoesOn assumptions.now (S.held store.old) (S.held store.new) (R.kept recorder.old) (R.kept recorder.new) trail.new) }
+    ensures goes_on { IfOk result
+        (λ _. GoesOn assumptions.now (S.held store.old) (S.held store.new) (R.kept recorder.old) (R.kept recorder.new) trail.new) }
     ensures advance { IfOk result (λ answer. IsAdvance cores (S.held store.new).clauses assumptions.now trail.old trail.new answer) }
     ensures ready { panel.new.vars ≡ panel.old.vars }
     ensures rotated { panel.new.rotated ≡ panel.old.rotated }
 {
     match found {
-        Found::Conflict(number) => resolve(
+        FoundClause::Conflict(number) => resolve(
             alloc,
             trail,
             store,
@@ -248,11 +252,11 @@ fn take_step<S: Store, R: Recorder>(
             panel,
             recorder,
         ),
-        Found::Next(number, lit) => {
+        FoundClause::Next(number, lit) => {
             push(trail, store, assumptions, lit, Reason::Implied(number))?;
             Ok(None)
         }
-        Found::Nothing => decide(alloc, trail, store, assumptions, cores, panel, recorder),
+        FoundClause::Nothing => decide(alloc, trail, store, assumptions, cores, panel, recorder),
     }
 }
 
@@ -268,7 +272,8 @@ fn decide<S: Store, R: Recorder>(
 ) -> Result<Option<Verdict>, OutOfMemory>
     requires running { IsRunning assumptions.now (S.held store.old) trail.old }
     ensures keeps { Keeps (S.held store.old) (S.held store.new) }
-    ensures goes_on { IfOk result (λ _. GoesOn assumptions.now (S.held store.old) (S.held store.new) (R.kept recorder.old) (R.kept recorder.new) trail.new) }
+    ensures goes_on { IfOk result
+        (λ _. GoesOn assumptions.now (S.held store.old) (S.held store.new) (R.kept recorder.old) (R.kept recorder.new) trail.new) }
     ensures advance { IfOk result (λ answer. IsAdvance cores (S.held store.new).clauses assumptions.now trail.old trail.new answer) }
     ensures ready { panel.new.vars ≡ panel.old.vars }
     ensures rotated { panel.new.rotated ≡ panel.old.rotated }
@@ -317,13 +322,14 @@ fn settle<S: Store, R: Recorder>(
     requires taken { (x : ℕ) → 0 < x → x < length trail.old.values → slice_index_or trail.old.values x None ≢ None }
     requires assumed { All (λ l. value_of trail.old.values l ≡ Some true) assumptions.now }
     ensures keeps { Keeps (S.held store.old) (S.held store.new) }
-    ensures goes_on { IfOk result (λ _. GoesOn assumptions.now (S.held store.old) (S.held store.new) (R.kept recorder.old) (R.kept recorder.new) trail.new) }
+    ensures goes_on { IfOk result
+        (λ _. GoesOn assumptions.now (S.held store.old) (S.held store.new) (R.kept recorder.old) (R.kept recorder.new) trail.new) }
     ensures advance { IfOk result (λ answer. IsAdvance true (S.held store.new).clauses assumptions.now trail.old trail.new answer) }
     ensures ready { panel.new.vars ≡ panel.old.vars }
     ensures rotated { panel.new.rotated ≡ panel.old.rotated }
 {
     match find(store, trail.assign()) {
-        Found::Conflict(number) => resolve(
+        FoundClause::Conflict(number) => resolve(
             alloc,
             trail,
             store,
@@ -332,11 +338,11 @@ fn settle<S: Store, R: Recorder>(
             panel,
             recorder,
         ),
-        Found::Next(number, lit) => {
+        FoundClause::Next(number, lit) => {
             push(trail, store, assumptions, lit, Reason::Implied(number))?;
             Ok(None)
         }
-        Found::Nothing => {
+        FoundClause::Nothing => {
             let assign = trail.assign().copy()?;
             Ok(Some(Verdict::Sat(assign)))
         }
@@ -356,7 +362,8 @@ fn resolve<S: Store, R: Recorder>(
     requires running { IsRunning assumptions.now (S.held store.old) trail.old }
     requires is_false { truth_at (S.held store.old).clauses trail.old.values number ≡ Some Truth.False }
     ensures keeps { Keeps (S.held store.old) (S.held store.new) }
-    ensures goes_on { IfOk result (λ _. GoesOn assumptions.now (S.held store.old) (S.held store.new) (R.kept recorder.old) (R.kept recorder.new) trail.new) }
+    ensures goes_on { IfOk result
+        (λ _. GoesOn assumptions.now (S.held store.old) (S.held store.new) (R.kept recorder.old) (R.kept recorder.new) trail.new) }
     ensures advance { IfOk result (λ answer. IsAdvance true (S.held store.new).clauses assumptions.now trail.old trail.new answer) }
     ensures ready { panel.new.vars ≡ panel.old.vars }
     ensures rotated { panel.new.rotated ≡ panel.old.rotated }
@@ -384,7 +391,8 @@ fn learn<S: Store, R: Recorder>(
     requires running { IsRunning assumptions.now (S.held store.old) trail.old }
     requires is_false { truth_at (S.held store.old).clauses trail.old.values number ≡ Some Truth.False }
     ensures keeps { Keeps (S.held store.old) (S.held store.new) }
-    ensures goes_on { IfOk result (λ _. GoesOn assumptions.now (S.held store.old) (S.held store.new) (R.kept recorder.old) (R.kept recorder.new) trail.new) }
+    ensures goes_on { IfOk result
+        (λ _. GoesOn assumptions.now (S.held store.old) (S.held store.new) (R.kept recorder.old) (R.kept recorder.new) trail.new) }
     ensures lesson { IfOk result (λ answer. IsLesson (S.held store.new).clauses assumptions.now trail.old trail.new answer) }
     ensures ready { panel.new.vars ≡ panel.old.vars }
     ensures rotated { panel.new.rotated ≡ panel.old.rotated }
@@ -429,7 +437,8 @@ fn refute<S: Store, R: Recorder>(
     requires assumed { Contains assumptions.now assumption }
     requires is_false { value_of trail.old.values assumption ≡ Some false }
     ensures keeps { Keeps (S.held store.old) (S.held store.new) }
-    ensures goes_on { IfOk result (λ _. GoesOn assumptions.now (S.held store.old) (S.held store.new) (R.kept recorder.old) (R.kept recorder.new) trail.new) }
+    ensures goes_on { IfOk result
+        (λ _. GoesOn assumptions.now (S.held store.old) (S.held store.new) (R.kept recorder.old) (R.kept recorder.new) trail.new) }
     ensures core { IfOk result (λ c. IsCore cores (S.held store.new).clauses assumptions.now c) }
     ensures ready { panel.new.vars ≡ panel.old.vars }
     ensures rotated { panel.new.rotated ≡ panel.old.rotated }
@@ -469,9 +478,11 @@ fn take_core<S: Store, R: Recorder>(
     requires running { IsRunning assumptions.now (S.held store.old) trail.now }
     requires is_false { truth_at (S.held store.old).clauses trail.now.values number ≡ Some Truth.False }
     ensures keeps { Keeps (S.held store.old) (S.held store.new) }
-    ensures goes_on { IfOk result (λ _. GoesOn assumptions.now (S.held store.old) (S.held store.new) (R.kept recorder.old) (R.kept recorder.new) trail.now) }
+    ensures goes_on { IfOk result
+        (λ _. GoesOn assumptions.now (S.held store.old) (S.held store.new) (R.kept recorder.old) (R.kept recorder.new) trail.now) }
     ensures lits { IfOk result (λ c. c
-        ≡ (analysed (S.held store.old).clauses true (begun (length trail.now.values) (S.held store.old).clauses number) (reverse trail.now.entries)).lits) }
+        ≡ (analysed (S.held store.old).clauses true (begun (length trail.now.values) (S.held store.old).clauses number)
+        (reverse trail.now.entries)).lits) }
     ensures listed { IfOk result (λ c. cores ≡ true → Contains (S.held store.new).clauses c) }
     ensures follows { IfOk result (λ c. FollowsFrom (S.held store.new).clauses c) }
     ensures ready { panel.new.vars ≡ panel.old.vars }
@@ -509,12 +520,15 @@ fn take_lesson<S: Store, R: Recorder>(
     requires running { IsRunning assumptions.now (S.held store.old) trail.now }
     requires is_false { truth_at (S.held store.old).clauses trail.now.values number ≡ Some Truth.False }
     ensures keeps { Keeps (S.held store.old) (S.held store.new) }
-    ensures goes_on { IfOk result (λ _. GoesOn assumptions.now (S.held store.old) (S.held store.new) (R.kept recorder.old) (R.kept recorder.new) trail.now) }
+    ensures goes_on { IfOk result
+        (λ _. GoesOn assumptions.now (S.held store.old) (S.held store.new) (R.kept recorder.old) (R.kept recorder.new) trail.now) }
     ensures clauses { IfOk result (λ learned. (S.held store.new).clauses ≡ (S.held store.old).clauses ++ learned.step.clause ∷ []) }
     ensures lits { IfOk result (λ learned. learned.step.clause
-        ≡ (analysed (S.held store.old).clauses fully (begun (length trail.now.values) (S.held store.old).clauses number) (reverse trail.now.entries)).lits) }
+        ≡ (analysed (S.held store.old).clauses fully (begun (length trail.now.values) (S.held store.old).clauses number)
+        (reverse trail.now.entries)).lits) }
     ensures target { IfOk result (λ learned. learned.target
-        ≡ (analysed (S.held store.old).clauses fully (begun (length trail.now.values) (S.held store.old).clauses number) (reverse trail.now.entries)).target) }
+        ≡ (analysed (S.held store.old).clauses fully (begun (length trail.now.values) (S.held store.old).clauses number)
+        (reverse trail.now.entries)).target) }
     ensures ready { panel.new.vars ≡ panel.old.vars }
     ensures rotated { panel.new.rotated ≡ panel.old.rotated }
 {

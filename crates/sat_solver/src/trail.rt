@@ -4,7 +4,8 @@
 //! number of its own. `undo` takes back whole levels, and propagation then goes on from there. The trail also knows
 //! a variable below which none is free, and where a free choice stands, so that a decision need not look at all variables
 //! and all assumptions anew.
-ghost use Rattle.std.specs.Prelude.{◌≡◌, ◌≢◌, ℕ, ◌↔◌, IsTrue, ◌^◌, ◌<◌, ◌≤◌, [], ◌∷◌, ◌++◌, length, reverse, take, IfOk, OnOk, Some, None, slice_get, slice_index_or};
+ghost use Rattle.std.specs.Prelude.{◌≡◌, ◌≢◌, ℕ, ◌↔◌, IsTrue, ◌^◌, ◌<◌, ◌≤◌, [], ◌∷◌, ◌++◌, length, reverse, take, IfOk, OnOk, Some, None};
+ghost use Rattle.std.specs.Prelude.{slice_get, slice_index_or};
 ghost use Rattle.sat_clauses.specs.Assignment.{all_free, IsInRange, value_of, made_true};
 ghost use Rattle.sat_solver.specs.declared.trail.Reason.TheVariants as reason;
 ghost use Rattle.sat_solver.specs.Trail.{assigned, followed_whole, IsLawful, HasChoice, HasAssumed, IsLeast};
@@ -52,7 +53,7 @@ impl Reason {
 
 /// A literal, and why it was made true.
 #[derive(Clone, Copy)]
-pub struct Entry {
+pub struct TrailEntry {
     /// The literal that was made true.
     pub lit: Lit,
     /// Why.
@@ -142,7 +143,7 @@ impl Agenda {
 #[derive(Drop)]
 pub struct Trail {
     assign: Assign,
-    entries: Vec<Entry>,
+    entries: Vec<TrailEntry>,
     // How many of the first literals the store has followed.
     followed: usize,
     // No variable below this one is free.
@@ -275,7 +276,7 @@ impl Trail {
     }
 
     /// The literal at place `i`, from 0, and why.
-    pub fn at(&self, i: usize) -> Entry
+    pub fn at(&self, i: usize) -> TrailEntry
         requires { i < length self.now.entries }
         ensures { slice_get self.now.entries i ≡ Some result }
     {
@@ -331,7 +332,7 @@ impl Trail {
     {
         let choice = self.next_choice(reason);
         let place = self.entries.len();
-        self.entries.push(Entry { lit, reason })?;
+        self.entries.push(TrailEntry { lit, reason })?;
         self.assign.set(lit);
         self.choice = choice;
         if let Reason::Assumed(_) = reason {

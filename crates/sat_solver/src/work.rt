@@ -1,5 +1,4 @@
 //! What a search has done so far, in numbers. No contract speaks of them: they are for measuring.
-
 /// How much a search has done since it began. Each count stays at the greatest number of 64 bits.
 #[derive(Clone, Copy, Debug, PartialEq, Eq)]
 pub struct Work {

@@ -7,15 +7,15 @@ use Rattle.smv_language.specs.Values.{one}
 use Rattle.smv_language.specs.Evaluate.{Leaves, evaluate, evaluate_trees, evaluate_branches}
 use Rattle.base_values.specs.declared.value.Value.{Value}
 use Rattle.base_values.specs.declared.value.Value.TheVariants.{Bool as truth, Num}
-use Rattle.smv_type_laws.specs.Safe.{GivesSmall, IsSafe, AreSafe, AreSafeBranches}
-use Rattle.smv_evaluation.specs.declared.ask.Asked.{Asked}
-use Rattle.smv_evaluation.specs.declared.ask.Asked.TheVariants.{ItsValue}
-use Rattle.smv_evaluation.specs.Asked.{on_left, on_right, asked_of, members_of, taken_of}
-use Rattle.smv_evaluation.specs.Named.{IsNumbered}
+use Rattle.smv_type_laws.specs.KindValues.{GivesSmall, IsSafe, AreSafe, AreSafeBranches}
+use Rattle.smv_evaluation.specs.declared.ask.AskedValue.{AskedValue}
+use Rattle.smv_evaluation.specs.declared.ask.AskedValue.TheVariants.{ItsValue}
+use Rattle.smv_evaluation.specs.Evaluation.{on_left, on_right, asked_of, members_of, taken_of}
+use Rattle.smv_evaluation.specs.EvaluableModels.{IsNumbered}
 use Rattle.smv_evaluation.proofs.AskedLaws.{members_truth, either_is}
 use Rattle.smv_evaluation.proofs.Rows.{Answers, value_row, not_row, negative_row, binary_row, choice_row, span_row, union_row, no_member_row, no_branch_row}
 use Rattle.smv_language.specs.Texts.{AreApart}
-use Rattle.smv_language.specs.Told.{told_value}
+use Rattle.smv_language.specs.NumberedValues.{told_value}
 
 small_of : {L : Type 0} (now next : Leaves L) (t : Tree L) → IsSafe now next t → GivesSmall (evaluate now next t)
 small_of now next (is_truth b) s = s
@@ -40,7 +40,7 @@ module _ (L : Type 0) (symbols : List Text) (apart : AreApart symbols) (good : L
   Knows leaves values = (l : L) → good l → HasValue leaves values l
 
   mutual
-    pub answered : (now next : Leaves L) (v w : L → Value) → Knows now v → Knows next w → (asked : Asked) (t : Tree L) → AllLeaves good t → IsSafe now next t →
+    pub answered : (now next : Leaves L) (v w : L → Value) → Knows now v → Knows next w → (asked : AskedValue) (t : Tree L) → AllLeaves good t → IsSafe now next t →
         Answers symbols asked (evaluate now next t) (asked_of v w asked t)
     answered now next v w p q asked (is_truth b) g s = value_row symbols apart asked _ (truth b) tt refl
     answered now next v w p q asked (is_number n) g s = value_row symbols apart asked _ (Num n) tt refl
@@ -60,7 +60,7 @@ module _ (L : Type 0) (symbols : List Text) (apart : AreApart symbols) (good : L
     answered now next v w p q asked (set_of ts) g s = members_answered now next v w p q asked ts g s.1
     answered now next v w p q asked (span lo hi) g s = span_row symbols apart asked lo hi
 
-    members_answered : (now next : Leaves L) (v w : L → Value) → Knows now v → Knows next w → (asked : Asked) (ts : Trees L) → AllLeavesOfTrees good ts → AreSafe now next ts →
+    members_answered : (now next : Leaves L) (v w : L → Value) → Knows now v → Knows next w → (asked : AskedValue) (ts : Trees L) → AllLeavesOfTrees good ts → AreSafe now next ts →
         Answers symbols asked (evaluate_trees now next ts) (members_of v w asked ts)
     members_answered now next v w p q asked no_tree g s = no_member_row symbols apart asked
     members_answered now next v w p q asked (tree_then t ts) g s =
@@ -68,7 +68,7 @@ module _ (L : Type 0) (symbols : List Text) (apart : AreApart symbols) (good : L
         (union_row symbols apart asked (evaluate now next t) (evaluate_trees now next ts) (asked_of v w asked t) (members_of v w asked ts)
         (answered now next v w p q asked t g.0 s.0) (members_answered now next v w p q asked ts g.1 s.1))
 
-    taken_answered : (now next : Leaves L) (v w : L → Value) → Knows now v → Knows next w → (asked : Asked) (bs : Branches L) → AllLeavesOfBranches good bs →
+    taken_answered : (now next : Leaves L) (v w : L → Value) → Knows now v → Knows next w → (asked : AskedValue) (bs : Branches L) → AllLeavesOfBranches good bs →
         AreSafeBranches now next bs → Answers symbols asked (evaluate_branches now next bs) (taken_of v w asked bs)
     taken_answered now next v w p q asked no_branch g s = no_branch_row symbols apart asked
     taken_answered now next v w p q asked (branch_then c a bs) g s =

@@ -3,7 +3,7 @@ use Rattle.std.proofs.Common.{◌≡◌, ◌↔◌, Bool, true, false, ◌&&◌,
 use Rattle.smv_language.specs.Trace.{Each}
 use Rattle.smv_language.specs.Values as told
 use Rattle.smv_language.specs.Values.{Values, one, has, same_bool}
-use Rattle.smv_language.specs.Written.{tree_of}
+use Rattle.smv_language.specs.ExpressionTree.{tree_of}
 use Rattle.smv_language.proofs.ValueLaws.{both_true}
 use Rattle.smv_language.specs.Flat.{FlatModel as ModelTree, Holds}
 use Rattle.smv_language.specs.declared.model.Formula.{Formula}
@@ -12,14 +12,14 @@ use Rattle.smv_language.specs.ModelTree.{formula_tree, model_tree}
 use Rattle.smv_type_laws.specs.Laws.{ReadsOwn, ReadOwn, IsDecided}
 use Rattle.smv_type_laws.specs.Models.{IsTyped}
 use Rattle.smv_type_laws.proofs.Typed.{conditions_decided}
-use Rattle.smv_evaluation.specs.declared.ask.Asked.TheVariants.{ItsValue}
+use Rattle.smv_evaluation.specs.declared.ask.AskedValue.TheVariants.{ItsValue}
 use Rattle.smv_evaluation.specs.Entries.{Entries}
-use Rattle.smv_evaluation.specs.Filled.{answer_in, holds, all_hold, first_holds, step_holds}
-use Rattle.smv_evaluation.specs.Named.{IsEvaluable, IsFilled}
+use Rattle.smv_evaluation.specs.MomentTables.{answer_in, holds, all_hold, first_holds, step_holds}
+use Rattle.smv_evaluation.specs.EvaluableModels.{IsEvaluable, IsFilled}
 use Rattle.smv_evaluation.specs.Stops.{IsFirstMoment, IsNextMoment}
 use Rattle.smv_evaluation.proofs.Rows.{Is, truth_is}
 use Rattle.smv_evaluation.proofs.ValueLaws.{answers}
-use Rattle.smv_language.specs.Told.{told_moment}
+use Rattle.smv_language.specs.NumberedValues.{told_moment}
 
 truth_true : (b : Bool) → same_bool b true ≡ b
 truth_true true = refl

@@ -6,11 +6,11 @@ use Rattle.smv_language.specs.Values as told
 use Rattle.base_values.specs.declared.value.Value.{Value}
 use Rattle.base_values.specs.declared.value.Value.TheVariants.{Bool as truth, Num, Sym}
 use Rattle.smv_language.specs.Flat.{FlatLeaf, flat_variable, flat_definition}
-use Rattle.smv_evaluation.specs.declared.ask.Asked.{Asked}
-use Rattle.smv_evaluation.specs.declared.ask.Asked.TheVariants.{ItsValue, Whether}
-use Rattle.smv_evaluation.specs.Asked.{leaf_value, asked_of}
-use Rattle.smv_evaluation.specs.Failed.{has_symbol}
-use Rattle.smv_language.specs.Told.{told_moment}
+use Rattle.smv_evaluation.specs.declared.ask.AskedValue.{AskedValue}
+use Rattle.smv_evaluation.specs.declared.ask.AskedValue.TheVariants.{ItsValue, Whether}
+use Rattle.smv_evaluation.specs.Evaluation.{leaf_value, asked_of}
+use Rattle.smv_evaluation.specs.SymbolTests.{has_symbol}
+use Rattle.smv_language.specs.NumberedValues.{told_moment}
 
 -- a variable that is 3 now and 4 next, with a definition that is TRUE now and FALSE next
 abbrev now_value : FlatLeaf → Value
@@ -19,7 +19,7 @@ now_value = leaf_value (Num (pos 3) ∷ []) (truth true ∷ [])
 abbrev next_value : FlatLeaf → Value
 next_value = leaf_value (Num (pos 4) ∷ []) (truth false ∷ [])
 
-abbrev answer_of : Asked → Tree FlatLeaf → Value
+abbrev answer_of : AskedValue → Tree FlatLeaf → Value
 answer_of = asked_of now_value next_value
 
 abbrev minus_seven : Tree FlatLeaf

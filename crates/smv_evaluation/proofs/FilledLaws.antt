@@ -8,7 +8,7 @@ use Rattle.smv_language.specs.Trace.{Each, EachBoth}
 use Rattle.smv_language.specs.Values as told
 use Rattle.smv_language.specs.Values.{Values, one}
 use Rattle.smv_language.specs.Evaluate.{evaluate}
-use Rattle.smv_language.specs.Written.{tree_of}
+use Rattle.smv_language.specs.ExpressionTree.{tree_of}
 use Rattle.base_values.specs.declared.value.Value.{Value}
 use Rattle.smv_language.specs.Flat.{FlatLeaf, flat_variable, flat_symbol, flat_definition, FlatVariable, FlatModel as ModelTree, flat_leaves, table_after}
 use Rattle.smv_flat_laws.specs.FlatTrace.{AreInDomains}
@@ -16,7 +16,7 @@ use Rattle.smv_flat_laws.proofs.Lists.{get_within, length_end, map_joined}
 use Rattle.smv_language.specs.declared.model.Formula.{Formula}
 use Rattle.smv_language.specs.declared.model.FlatModel.{FlatModel}
 use Rattle.smv_language.specs.ModelTree.{leaf_of, flat_tree, formula_tree, variable_tree, model_tree}
-use Rattle.smv_type_laws.specs.Judged.{Judged, judge}
+use Rattle.smv_type_laws.specs.ExpressionKinds.{Judged, judge}
 use Rattle.smv_type_laws.specs.Models.{leaf_kind, judged_variables, judged_after, IsTyped}
 use Rattle.smv_type_laws.specs.Laws.{IsKnown, AreInOrder}
 use Rattle.smv_type_laws.proofs.Parts.{Alone}
@@ -24,11 +24,11 @@ use Rattle.smv_type_laws.proofs.TreeLaws.{sound, single}
 use Rattle.smv_type_laws.proofs.SafeLaws.{safe}
 use Rattle.smv_type_laws.proofs.ModelLaws.{each_end, each_before, ValueHolds, GivenHolds, IsRight, names_hold}
 use Rattle.smv_type_laws.proofs.Typed.{variables_hold, parts_of, as_many_variables}
-use Rattle.smv_evaluation.specs.declared.ask.Asked.TheVariants.{ItsValue}
-use Rattle.smv_evaluation.specs.Asked.{leaf_value, asked_of}
-use Rattle.smv_evaluation.specs.Failed.{HasVariable}
-use Rattle.smv_evaluation.specs.Filled.{definition_value, definition_values, filled, HasValues}
-use Rattle.smv_evaluation.specs.Named.{gives_one, IsNumbered, IsEvaluable, IsLawful, IsFilled}
+use Rattle.smv_evaluation.specs.declared.ask.AskedValue.TheVariants.{ItsValue}
+use Rattle.smv_evaluation.specs.Evaluation.{leaf_value, asked_of}
+use Rattle.smv_evaluation.specs.SymbolTests.{HasVariable}
+use Rattle.smv_evaluation.specs.MomentTables.{definition_value, definition_values, filled, HasValues}
+use Rattle.smv_evaluation.specs.EvaluableModels.{gives_one, IsNumbered, IsEvaluable, IsLawful, IsFilled}
 use Rattle.smv_evaluation.proofs.Rows.{Is}
 use Rattle.smv_evaluation.proofs.Answered.{Knows, answered}
 use Rattle.smv_evaluation.proofs.Mapped.{asked_mapped}
@@ -37,7 +37,7 @@ use Rattle.smv_language.proofs.EachLaws.{each_end as each_join}
 use Rattle.smv_language.proofs.ListLaws.{get_map, map_length}
 use Rattle.smv_flat_laws.proofs.BothLaws.{both_push, both_size}
 use Rattle.smv_language.specs.Texts.{AreApart}
-use Rattle.smv_language.specs.Told.{told_moment, told_value}
+use Rattle.smv_language.specs.NumberedValues.{told_moment, told_value}
 
 pub domains_length : (xs : List FlatVariable) (v : List told.Value) → AreInDomains xs v → length xs ≡ length v
 domains_length [] [] h = refl

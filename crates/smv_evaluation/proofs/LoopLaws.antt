@@ -8,8 +8,8 @@ use Rattle.smv_language.specs.declared.model.Formula.{Formula}
 use Rattle.smv_language.specs.declared.model.FlatModel.{FlatModel}
 use Rattle.smv_evaluation.specs.declared.trace.Replayed.TheVariants.{BadStep}
 use Rattle.smv_evaluation.specs.Entries.{Entries}
-use Rattle.smv_evaluation.specs.Filled.{definition_value, definition_values, filled, step_holds}
-use Rattle.smv_evaluation.specs.Replayed.{replayed_from}
+use Rattle.smv_evaluation.specs.MomentTables.{definition_value, definition_values, filled, step_holds}
+use Rattle.smv_evaluation.specs.Replay.{replayed_from}
 
 pub definitions_more : (variables done : List Value) (ds : List Formula) (i : ℕ) (d : Formula) → i < length ds →
     definition_values variables done (drop i ds) ≡ definition_values variables (done ++ definition_value variables done (get_or ds i d) ∷ []) (drop (i + 1) ds)

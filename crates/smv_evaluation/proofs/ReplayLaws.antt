@@ -4,7 +4,7 @@ use Rattle.smv_language.specs.Tree.{Tree}
 use Rattle.smv_language.specs.Trace.{Each, EachPair, AtFirst, AtLast}
 use Rattle.smv_language.specs.Values as told
 use Rattle.smv_language.specs.Values.{truth}
-use Rattle.smv_language.specs.Written.{tree_of}
+use Rattle.smv_language.specs.ExpressionTree.{tree_of}
 use Rattle.smv_language.specs.declared.expr.Expr.{Expr}
 use Rattle.base_values.specs.declared.value.Value.{Value}
 use Rattle.smv_language.specs.Flat.{FlatLeaf, FlatModel as ModelTree, FlatMay}
@@ -14,20 +14,20 @@ use Rattle.smv_language.specs.declared.model.Flat.{Flat}
 use Rattle.smv_language.specs.declared.model.FlatModel.{FlatModel}
 use Rattle.smv_language.specs.declared.model.Formula.{Formula}
 use Rattle.smv_language.specs.ModelTree.{flat_tree, formula_tree, model_tree}
-use Rattle.smv_type_laws.specs.Judged.{KindRule}
+use Rattle.smv_type_laws.specs.ExpressionKinds.{KindRule}
 use Rattle.smv_type_laws.specs.Models.{judged_in, broken_condition, breaches_at, IsTyped}
 use Rattle.smv_type_laws.specs.Laws.{ReadsOwn}
 use Rattle.smv_type_laws.proofs.Typed.{decided}
 use Rattle.smv_evaluation.specs.declared.trace.Replayed.TheVariants.{Reaches, NoTop, BadFirst, BadStep}
 use Rattle.smv_evaluation.specs.Entries.{Entries}
-use Rattle.smv_evaluation.specs.Filled.{filled, first_holds, step_holds}
-use Rattle.smv_evaluation.specs.Named.{IsEvaluable, IsLawful, IsFilled}
+use Rattle.smv_evaluation.specs.MomentTables.{filled, first_holds, step_holds}
+use Rattle.smv_evaluation.specs.EvaluableModels.{IsEvaluable, IsLawful, IsFilled}
 use Rattle.smv_evaluation.specs.Stops.{bad_first, bad_step, no_top, IsFirstMoment, IsNextMoment}
-use Rattle.smv_evaluation.specs.Replayed.{is_reached, replayed_from, replayed, IsReplayed}
+use Rattle.smv_evaluation.specs.Replay.{is_reached, replayed_from, replayed, IsReplayed}
 use Rattle.smv_evaluation.proofs.FilledLaws.{filled_law}
 use Rattle.smv_evaluation.proofs.ConditionLaws.{condition_law, first_law, step_law}
 use Rattle.smv_language.proofs.EachLaws.{each_end}
-use Rattle.smv_language.specs.Told.{told_trace, told_moment}
+use Rattle.smv_language.specs.NumberedValues.{told_trace, told_moment}
 
 pairs_last : {A : Type 0} (R : A → A → Type 0) (xs : List A) (x y : A) → EachPair R (xs ++ x ∷ []) → R x y → EachPair R ((xs ++ x ∷ []) ++ y ∷ [])
 pairs_last R [] x y h r = (r, tt)

@@ -12,14 +12,14 @@ use Rattle.smv_language.proofs.ValueLaws.{same_text_equal, same_text_refl, same_
 use Rattle.base_values.specs.declared.value.Value.{Value}
 use Rattle.base_values.specs.declared.value.Value.TheVariants.{Bool as truth, Num, Sym}
 use Rattle.smv_type_laws.specs.Intervals.{fits_number}
-use Rattle.smv_type_laws.specs.Safe.{GivesSmall, DividesByNoZero}
-use Rattle.smv_evaluation.specs.declared.ask.Asked.{Asked}
-use Rattle.smv_evaluation.specs.declared.ask.Asked.TheVariants.{ItsValue, Whether}
-use Rattle.smv_evaluation.specs.Operated.{same, is_true, opposite, negative, either, between, on_numbers, on_truths, on_symbols, applied}
-use Rattle.smv_evaluation.specs.Asked.{answer, on_left, on_right, operation, in_span}
-use Rattle.smv_evaluation.specs.Named.{IsPlaceOf, IsNumbered}
+use Rattle.smv_type_laws.specs.KindValues.{GivesSmall, DividesByNoZero}
+use Rattle.smv_evaluation.specs.declared.ask.AskedValue.{AskedValue}
+use Rattle.smv_evaluation.specs.declared.ask.AskedValue.TheVariants.{ItsValue, Whether}
+use Rattle.smv_evaluation.specs.OperatorValues.{same, is_true, opposite, negative, either, between, on_numbers, on_truths, on_symbols, applied}
+use Rattle.smv_evaluation.specs.Evaluation.{answer, on_left, on_right, operation, in_span}
+use Rattle.smv_evaluation.specs.EvaluableModels.{IsPlaceOf, IsNumbered}
 use Rattle.smv_type_laws.proofs.LeastLaws.{same_int_self as same_number}
-use Rattle.smv_language.specs.Told.{told_value}
+use Rattle.smv_language.specs.NumberedValues.{told_value}
 
 small_number : (n : ℤ) → (same_int n n ≡ true → fits_number n ≡ true) → fits_number n ≡ true
 small_number n f = f (same_number n)
@@ -43,7 +43,7 @@ module _ (symbols : List Text) where
     pub alone : vs ≡ one (told_value symbols r)
 
   -- the answer is right for what an expression gives
-  abbrev pub Answers : Asked → Option Values → Value → Type 0
+  abbrev pub Answers : AskedValue → Option Values → Value → Type 0
   Answers ItsValue given r = (y : told.Value) → given ≡ Some (one y) → Is r y
   Answers (Whether v) given r = (vs : Values) → given ≡ Some vs → IsNumbered symbols v → r ≡ truth (has vs (told_value symbols v))
 
@@ -80,7 +80,7 @@ module _ (symbols : List Text) (apart : AreApart symbols) where
   same_named (Sym i) (Sym j) p q = same_symbol i j p q
 
   -- what gives one value alone
-  pub answer_row : (asked : Asked) (given : Option Values) (r : Value) → ((vs : Values) → given ≡ Some vs → IsOnly symbols vs r) → Answers symbols asked given (answer asked r)
+  pub answer_row : (asked : AskedValue) (given : Option Values) (r : Value) → ((vs : Values) → given ≡ Some vs → IsOnly symbols vs r) → Answers symbols asked given (answer asked r)
   answer_row ItsValue given r h = λ y e. one_named (h (one y) e)
     where
       one_named : {y : told.Value} → IsOnly symbols (one y) r → Is symbols r y
@@ -88,7 +88,7 @@ module _ (symbols : List Text) (apart : AreApart symbols) where
   answer_row (Whether v) given r h = λ vs e p. ap truth (same_named r v (h vs e).numbered p ∙ ap (λ us. has us (told_value symbols v)) (sym (h vs e).alone))
 
   -- a constant or a name
-  pub value_row : (asked : Asked) (given : Option Values) (r : Value) → IsNumbered symbols r → given ≡ Some (one (told_value symbols r)) → Answers symbols asked given (answer asked r)
+  pub value_row : (asked : AskedValue) (given : Option Values) (r : Value) → IsNumbered symbols r → given ≡ Some (one (told_value symbols r)) → Answers symbols asked given (answer asked r)
   value_row asked given r p e = answer_row asked given r (λ vs f. record { numbered = p; alone = cc (e, f) })
 
   not_only : (g : Option Values) (r : Value) → Answers symbols ItsValue g r → (vs : Values) → gives_not g ≡ Some vs → IsOnly symbols vs (opposite r)
@@ -105,7 +105,7 @@ module _ (symbols : List Text) (apart : AreApart symbols) where
   not_only (Some (one (told.truth b))) (Sym i) h vs e =
       let same : told.symbol (text_or_none (slice_get symbols i)) ≡ told.truth b = (h (told.truth b) refl).name in cc
 
-  pub not_row : (asked : Asked) (g : Option Values) (r : Value) → Answers symbols ItsValue g r → Answers symbols asked (gives_not g) (answer asked (opposite r))
+  pub not_row : (asked : AskedValue) (g : Option Values) (r : Value) → Answers symbols ItsValue g r → Answers symbols asked (gives_not g) (answer asked (opposite r))
   not_row asked g r h = answer_row asked (gives_not g) (opposite r) (not_only g r h)
 
   negated_only : (g : Option Values) (r : Value) → GivesSmall g → Answers symbols ItsValue g r → (vs : Values) → gives_negative g ≡ Some vs → IsOnly symbols vs (negative r)
@@ -124,7 +124,7 @@ module _ (symbols : List Text) (apart : AreApart symbols) where
       let fits : fits_number k ≡ true = ap fits_number is ∙ small_number n (small (one (told.number n)) refl n) in
       rw fits (record { numbered = tt; alone = rw is (cc e) })
 
-  pub negative_row : (asked : Asked) (g : Option Values) (r : Value) → GivesSmall g → Answers symbols ItsValue g r → Answers symbols asked (gives_negative g) (answer asked (negative r))
+  pub negative_row : (asked : AskedValue) (g : Option Values) (r : Value) → GivesSmall g → Answers symbols ItsValue g r → Answers symbols asked (gives_negative g) (answer asked (negative r))
   negative_row asked g r small h = answer_row asked (gives_negative g) (negative r) (negated_only g r small h)
 
   numbers_only : (o : Op) (a b : ℤ) (x : told.Value) → fits_number a ≡ true → fits_number b ≡ true → DividesByNoZero o (Some (one (told.number b))) →
@@ -254,7 +254,7 @@ module _ (symbols : List Text) (apart : AreApart symbols) where
       record { numbered = v.numbered; alone = a.is ∙ ap one (sym v.name) }
 
   -- the values of both sides
-  pub union_row : (asked : Asked) (g h : Option Values) (r s : Value) → Answers symbols asked g r → Answers symbols asked h s → Answers symbols asked (gives_either g h) (either r s)
+  pub union_row : (asked : AskedValue) (g h : Option Values) (r s : Value) → Answers symbols asked g r → Answers symbols asked h s → Answers symbols asked (gives_either g h) (either r s)
   union_row ItsValue None h r s hl hr = λ y e. cc e
   union_row ItsValue (Some a) None r s hl hr = λ y e. cc e
   union_row ItsValue (Some a) (Some b) r s hl hr = λ y e. cc e
@@ -280,7 +280,7 @@ module _ (symbols : List Text) (apart : AreApart symbols) where
       rw right (record { numbered = tt; alone = cc (e, name) })
 
   -- an operator on what both sides answer
-  pub binary_row : (o : Op) (asked : Asked) (g h : Option Values) (r s : Value) → GivesSmall g → GivesSmall h → DividesByNoZero o h →
+  pub binary_row : (o : Op) (asked : AskedValue) (g h : Option Values) (r s : Value) → GivesSmall g → GivesSmall h → DividesByNoZero o h →
       Answers symbols (on_left o asked) g r → Answers symbols (on_right o asked r) h s → Answers symbols asked (gives_binary o g h) (operation o asked r s)
   binary_row op.Times asked g h r s sg sh d hl hr = answer_row asked (gives_applied op.Times g h) (applied op.Times r s) (applied_only op.Times g h r s sg sh d hl hr)
   binary_row op.Over asked g h r s sg sh d hl hr = answer_row asked (gives_applied op.Over g h) (applied op.Over r s) (applied_only op.Over g h r s sg sh d hl hr)
@@ -302,7 +302,7 @@ module _ (symbols : List Text) (apart : AreApart symbols) where
   binary_row op.Iff asked g h r s sg sh d hl hr = answer_row asked (gives_applied op.Iff g h) (applied op.Iff r s) (applied_only op.Iff g h r s sg sh d hl hr)
   binary_row op.Implies asked g h r s sg sh d hl hr = answer_row asked (gives_applied op.Implies g h) (applied op.Implies r s) (applied_only op.Implies g h r s sg sh d hl hr)
 
-  nothing : (asked : Asked) (r : Value) → Answers symbols asked None r
+  nothing : (asked : AskedValue) (r : Value) → Answers symbols asked None r
   nothing ItsValue r = λ y e. cc e
   nothing (Whether v) r = λ vs e p. cc e
 
@@ -312,7 +312,7 @@ module _ (symbols : List Text) (apart : AreApart symbols) where
   truth_is (Sym j) b i = let same : told.symbol (text_or_none (slice_get symbols j)) ≡ told.truth b = i.name in cc
 
   -- the branch taken
-  pub choice_row : (asked : Asked) (g a b : Option Values) (c r s : Value) → Answers symbols ItsValue g c → Answers symbols asked a r → Answers symbols asked b s →
+  pub choice_row : (asked : AskedValue) (g a b : Option Values) (c r s : Value) → Answers symbols ItsValue g c → Answers symbols asked a r → Answers symbols asked b s →
       Answers symbols asked (gives_choice g a b) (cond (is_true c) r s)
   choice_row asked None a b c r s hc hl hr = nothing asked _
   choice_row asked (Some no_value) a b c r s hc hl hr = nothing asked _
@@ -328,16 +328,16 @@ module _ (symbols : List Text) (apart : AreApart symbols) where
   between_named lo hi (Num n) = refl
   between_named lo hi (Sym i) = refl
 
-  pub span_row : (asked : Asked) (lo hi : ℤ) → Answers symbols asked (Some (from_to lo hi)) (in_span asked lo hi)
+  pub span_row : (asked : AskedValue) (lo hi : ℤ) → Answers symbols asked (Some (from_to lo hi)) (in_span asked lo hi)
   span_row ItsValue lo hi = λ y e. cc e
   span_row (Whether v) lo hi = λ vs e p.
       let is : from_to lo hi ≡ vs = cc e in
       ap truth (between_named lo hi v ∙ ap (λ us. has us (told_value symbols v)) is)
 
   -- no members, and no branches
-  pub no_member_row : (asked : Asked) → Answers symbols asked (Some no_value) (truth false)
+  pub no_member_row : (asked : AskedValue) → Answers symbols asked (Some no_value) (truth false)
   no_member_row ItsValue = λ y e. cc e
   no_member_row (Whether v) = λ vs e p. let is : no_value ≡ vs = cc e in ap (λ us. truth (has us (told_value symbols v))) is
 
-  pub no_branch_row : (asked : Asked) → Answers symbols asked None (truth false)
+  pub no_branch_row : (asked : AskedValue) → Answers symbols asked None (truth false)
   no_branch_row asked = nothing asked (truth false)

@@ -5,7 +5,7 @@ use Rattle.smv_language.specs.Tree.{Tree}
 use Rattle.smv_language.specs.Values as told
 use Rattle.smv_language.specs.Values.{Values, one, has}
 use Rattle.smv_language.specs.Evaluate.{evaluate}
-use Rattle.smv_language.specs.Written.{tree_of}
+use Rattle.smv_language.specs.ExpressionTree.{tree_of}
 use Rattle.smv_language.specs.declared.expr.Expr.{Expr}
 use Rattle.base_values.specs.declared.value.Value.{Value}
 use Rattle.smv_language.specs.Flat.{FlatLeaf, FlatFormula, FlatModel, flat_leaves, definition_gives, table_after, leaves_at, FlatGives, FlatMay}
@@ -14,22 +14,22 @@ use Rattle.smv_language.specs.declared.model.Flat.{Flat}
 use Rattle.smv_language.specs.ModelTree.{leaf_of, flat_tree}
 use Rattle.smv_type_laws.specs.Models.{kind_of_leaf, judged_in, IsTyped}
 use Rattle.smv_type_laws.specs.Laws.{IsKnown, ReadsOwn, KeepsKind}
-use Rattle.smv_type_laws.specs.Safe.{IsSafe}
+use Rattle.smv_type_laws.specs.KindValues.{IsSafe}
 use Rattle.smv_type_laws.proofs.TreeLaws.{no_set}
 use Rattle.smv_type_laws.proofs.Typed.{values_lie}
-use Rattle.smv_evaluation.specs.declared.ask.Asked.{Asked}
-use Rattle.smv_evaluation.specs.declared.ask.Asked.TheVariants.{ItsValue, Whether}
-use Rattle.smv_evaluation.specs.Operated.{is_true}
-use Rattle.smv_evaluation.specs.Asked.{leaf_value}
+use Rattle.smv_evaluation.specs.declared.ask.AskedValue.{AskedValue}
+use Rattle.smv_evaluation.specs.declared.ask.AskedValue.TheVariants.{ItsValue, Whether}
+use Rattle.smv_evaluation.specs.OperatorValues.{is_true}
+use Rattle.smv_evaluation.specs.Evaluation.{leaf_value}
 use Rattle.smv_evaluation.specs.Entries.{Entries}
-use Rattle.smv_evaluation.specs.Filled.{answer_in}
-use Rattle.smv_evaluation.specs.Named.{gives_one, IsNumbered, IsEvaluable, IsFilled, Gives}
+use Rattle.smv_evaluation.specs.MomentTables.{answer_in}
+use Rattle.smv_evaluation.specs.EvaluableModels.{gives_one, IsNumbered, IsEvaluable, IsFilled, Gives}
 use Rattle.smv_evaluation.proofs.Rows.{Is, Answers}
 use Rattle.smv_evaluation.proofs.Answered.{Knows, answered}
 use Rattle.smv_evaluation.proofs.Mapped.{asked_mapped}
 use Rattle.smv_evaluation.proofs.FilledLaws.{lawful_is, knows}
 use Rattle.smv_language.proofs.ListLaws.{map_length}
-use Rattle.smv_language.specs.Told.{told_moment, told_value}
+use Rattle.smv_language.specs.NumberedValues.{told_moment, told_value}
 
 table_length : (symbols : List Text) (v : List told.Value) (table : List (Option Values)) (ds : List FlatFormula) → length (table_after symbols v table ds) ≡ length table + length ds
 table_length symbols v table [] = omega arith
@@ -48,7 +48,7 @@ filled_knows m able e f =
     f.definitions (knows m.symbols able.apart (length m.variables) (length m.definitions) e.variables e.definitions as_many so_many f.lawful.numbered f.numbered)
 
 -- what is answered of an expression that is safe
-pub answers : (m : FlatModel) → IsEvaluable m → (now next : Entries) → IsFilled m now → IsFilled m next → (asked : Asked) (e : Expr Flat) → ReadsOwn m (flat_tree e) →
+pub answers : (m : FlatModel) → IsEvaluable m → (now next : Entries) → IsFilled m now → IsFilled m next → (asked : AskedValue) (e : Expr Flat) → ReadsOwn m (flat_tree e) →
     IsSafe (leaves_at m (told_moment m.symbols now.variables)) (leaves_at m (told_moment m.symbols next.variables)) (flat_tree e) →
     Answers m.symbols asked (evaluate (leaves_at m (told_moment m.symbols now.variables)) (leaves_at m (told_moment m.symbols next.variables)) (flat_tree e)) (answer_in now next asked (tree_of e))
 answers m able now next p q asked e own safe =

@@ -1,9 +1,9 @@
-pub mod Operated
-pub mod Asked
+pub mod OperatorValues
+pub mod Evaluation
 pub mod Entries
-pub mod Filled
-pub mod Named
+pub mod MomentTables
+pub mod EvaluableModels
 pub mod Stops
-pub mod Replayed
-pub mod Failed
+pub mod Replay
+pub mod SymbolTests
 pub mod Laws

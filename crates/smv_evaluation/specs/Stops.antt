@@ -4,7 +4,7 @@ use Rattle.smv_language.specs.Tree.{Tree}
 use Rattle.smv_language.specs.Values.{Value}
 use Rattle.smv_language.specs.Flat.{FlatLeaf, FlatModel}
 use Rattle.smv_flat_laws.specs.FlatTrace.{IsFlatMoment, IsFlatStep, IsFlatTrace}
-use Rattle.sat_encoding_laws.specs.Encoded.{IsFlatFirst}
+use Rattle.sat_encoding_laws.specs.Encodings.{IsFlatFirst}
 use Rattle.sat_encoding_laws.specs.FlatTraces.{ReachesTop}
 
 -- the first moment, a step to a moment, or the top event at the last
@@ -26,6 +26,7 @@ pub record IsNextMoment (m : FlatModel) (v w : List Value) : Type 0 where
 -- The moment of a number, from 0, is the first that stops the moments from being a trace that reaches the event.
 pub data Stops (m : FlatModel) (top : Tree FlatLeaf) (trace : List (List Value)) : ℕ → Why → Type 0 where
   bad_first : (v : List Value) (more : List (List Value)) → trace ≡ v ∷ more → (IsFirstMoment m v → ⊥) → Stops m top trace 0 at_first
-  bad_step : (before : List (List Value)) (v w : List Value) (after : List (List Value)) → trace ≡ before ++ v ∷ w ∷ after → IsFlatTrace m (before ++ v ∷ []) →
+  bad_step : (before : List (List Value)) (v w : List Value) (after : List (List Value)) → trace ≡ before ++ v ∷ w ∷ after →
+      IsFlatTrace m (before ++ v ∷ []) →
       (IsNextMoment m v w → ⊥) → Stops m top trace (suc (length before)) at_step
   no_top : IsFlatTrace m trace → (ReachesTop m top trace → ⊥) → Stops m top trace (length trace - 1) at_top

@@ -1,9 +1,9 @@
 //! The value of an expression, or whether it may have a given one, by one pass over its tree ([`ask`]). A set has no value
 //! of its own, so both questions are needed: `x in {1, 2}` asks of the set whether it may have the value of `x`.
-
 ghost use Rattle.std.specs.Prelude.{◌≡◌, slice_get};
-ghost use Rattle.smv_language.specs.Written.{tree_of, trees_of, branches_of};
-ghost use Rattle.smv_evaluation.specs.Asked.{value_at, known_value, answer, on_left, on_right, operation, in_span, asked_of, members_of, taken_of};
+ghost use Rattle.smv_language.specs.ExpressionTree.{tree_of, trees_of, branches_of};
+ghost use Rattle.smv_evaluation.specs.Evaluation.{value_at, known_value, answer, on_left, on_right, operation, in_span, asked_of};
+ghost use Rattle.smv_evaluation.specs.Evaluation.{members_of, taken_of};
 
 use crate::operate::{applied, between, either, is_true, negative, opposite, same};
 use base_values::Value;
@@ -12,20 +12,20 @@ use smv_language::{Expr, Op};
 
 /// The values of variables and definitions, by their numbers.
 #[derive(Clone, Copy)]
-pub(crate) struct Known<'a> {
+pub(crate) struct KnownValues<'a> {
     pub variables: &'a [Value],
     pub definitions: &'a [Value],
 }
 
 /// What is asked of an expression: its value, or whether it may have this one.
 #[derive(Clone, Copy)]
-pub(crate) enum Asked {
+pub(crate) enum AskedValue {
     ItsValue,
     Whether(Value),
 }
 
 /// The value of a name; FALSE where it names nothing.
-fn known_value(known: &Known<'_>, name: Flat) -> Value
+fn known_value(known: &KnownValues<'_>, name: Flat) -> Value
     ensures { result ≡ known_value known.now name }
 {
     match name {
@@ -46,39 +46,39 @@ fn value_at(values: &[Value], number: u32) -> Value
 }
 
 /// The answer where an expression has this one value.
-fn answer(asked: Asked, value: Value) -> Value
+fn answer(asked: AskedValue, value: Value) -> Value
     ensures { result ≡ answer asked value }
 {
     match asked {
-        Asked::ItsValue => value,
-        Asked::Whether(other) => Value::Bool(same(value, other)),
+        AskedValue::ItsValue => value,
+        AskedValue::Whether(other) => Value::Bool(same(value, other)),
     }
 }
 
 /// What is asked of an operator's left side: of a union's what is asked of itself.
-fn on_left(op: Op, asked: Asked) -> Asked
+fn on_left(op: Op, asked: AskedValue) -> AskedValue
     ensures { result ≡ on_left op asked }
 {
     match op {
         Op::Union => asked,
-        _ => Asked::ItsValue,
+        _ => AskedValue::ItsValue,
     }
 }
 
 /// What is asked of its right side, where the left one gave a value: of that of `in` whether it has this
 /// value.
-fn on_right(op: Op, asked: Asked, left: Value) -> Asked
+fn on_right(op: Op, asked: AskedValue, left: Value) -> AskedValue
     ensures { result ≡ on_right op asked left }
 {
     match op {
         Op::Union => asked,
-        Op::Within => Asked::Whether(left),
-        _ => Asked::ItsValue,
+        Op::Within => AskedValue::Whether(left),
+        _ => AskedValue::ItsValue,
     }
 }
 
 /// The answer of an operator, from those of its sides.
-fn operation(op: Op, asked: Asked, left: Value, right: Value) -> Value
+fn operation(op: Op, asked: AskedValue, left: Value, right: Value) -> Value
     ensures { result ≡ operation op asked left right }
 {
     match op {
@@ -89,12 +89,12 @@ fn operation(op: Op, asked: Asked, left: Value, right: Value) -> Value
 }
 
 /// The answer of a span.
-fn in_span(asked: Asked, lo: i64, hi: i64) -> Value
+fn in_span(asked: AskedValue, lo: i64, hi: i64) -> Value
     ensures { result ≡ in_span asked lo hi }
 {
     match asked {
-        Asked::ItsValue => Value::Bool(false),
-        Asked::Whether(value) => Value::Bool(between(lo, hi, value)),
+        AskedValue::ItsValue => Value::Bool(false),
+        AskedValue::Whether(value) => Value::Bool(between(lo, hi, value)),
     }
 }
 
@@ -102,15 +102,20 @@ fn in_span(asked: Asked, lo: i64, hi: i64) -> Value
 /// set no value is told. Takes no memory.
 #[cycle(ask)]
 #[tactic(auto, using(smv_language::proofs::WrittenLaws::tree_of_case, smv_language::proofs::WrittenLaws::tree_of_set))]
-pub(crate) fn ask<'a>(now: &Known<'a>, next: &Known<'a>, asked: Asked, e: &Expr<Flat>) -> Value
+pub(crate) fn ask<'a>(
+    now: &KnownValues<'a>,
+    next: &KnownValues<'a>,
+    asked: AskedValue,
+    e: &Expr<Flat>,
+) -> Value
     ensures { result ≡ asked_of (known_value now.now) (known_value next.now) asked (tree_of e.now) }
 {
     match e {
         Expr::Truth(b) => answer(asked, Value::Bool(*b)),
         Expr::Number(n) => answer(asked, Value::Num(*n)),
         Expr::Leaf(name) => answer(asked, known_value(now, *name)),
-        Expr::Not(a) => answer(asked, opposite(ask(now, next, Asked::ItsValue, a))),
-        Expr::Negate(a) => answer(asked, negative(ask(now, next, Asked::ItsValue, a))),
+        Expr::Not(a) => answer(asked, opposite(ask(now, next, AskedValue::ItsValue, a))),
+        Expr::Negate(a) => answer(asked, negative(ask(now, next, AskedValue::ItsValue, a))),
         Expr::Next(a) => ask(next, next, asked, a),
         Expr::Binary(op, a, b) => {
             let left = ask(now, next, on_left(*op, asked), a);
@@ -118,7 +123,7 @@ pub(crate) fn ask<'a>(now: &Known<'a>, next: &Known<'a>, asked: Asked, e: &Expr<
             operation(*op, asked, left, right)
         }
         Expr::Choice(c, a, b) => {
-            let taken = ask(now, next, Asked::ItsValue, c);
+            let taken = ask(now, next, AskedValue::ItsValue, c);
             if is_true(taken) {
                 ask(now, next, asked, a)
             } else {
@@ -134,7 +139,12 @@ pub(crate) fn ask<'a>(now: &Known<'a>, next: &Known<'a>, asked: Asked, e: &Expr<
 /// TRUE where some member is.
 #[cycle(ask)]
 #[tactic(auto, using(crate::proofs::AskedLaws::members_more))]
-fn ask_members<'a>(now: &Known<'a>, next: &Known<'a>, asked: Asked, members: &[Expr<Flat>]) -> Value
+fn ask_members<'a>(
+    now: &KnownValues<'a>,
+    next: &KnownValues<'a>,
+    asked: AskedValue,
+    members: &[Expr<Flat>],
+) -> Value
     ensures { result ≡ members_of (known_value now.now) (known_value next.now) asked (trees_of members.now) }
 {
     for member in members {
@@ -149,15 +159,15 @@ fn ask_members<'a>(now: &Known<'a>, next: &Known<'a>, asked: Asked, members: &[E
 #[cycle(ask)]
 #[tactic(auto, using(crate::proofs::AskedLaws::taken_more))]
 fn ask_branches<'a>(
-    now: &Known<'a>,
-    next: &Known<'a>,
-    asked: Asked,
+    now: &KnownValues<'a>,
+    next: &KnownValues<'a>,
+    asked: AskedValue,
     branches: &[(Expr<Flat>, Expr<Flat>)],
 ) -> Value
     ensures { result ≡ taken_of (known_value now.now) (known_value next.now) asked (branches_of branches.now) }
 {
     for (condition, value) in branches {
-        if is_true(ask(now, next, Asked::ItsValue, condition)) {
+        if is_true(ask(now, next, AskedValue::ItsValue, condition)) {
             return ask(now, next, asked, value);
         }
     }

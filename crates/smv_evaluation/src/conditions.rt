@@ -1,9 +1,8 @@
 //! The conditions of a model on a first moment ([`holds_first`]), and on a step ([`holds_step`]), tried formula by formula.
-
 ghost use Rattle.std.specs.Prelude.{◌≡◌, ◌↔◌, IsTrue};
 ghost use Rattle.smv_language.specs.ModelTree.{model_tree};
-ghost use Rattle.smv_evaluation.specs.Filled.{holds, all_hold, first_holds, step_holds};
-ghost use Rattle.smv_evaluation.specs.Named.{IsEvaluable, IsFilled, values_in};
+ghost use Rattle.smv_evaluation.specs.MomentTables.{holds, all_hold, first_holds, step_holds};
+ghost use Rattle.smv_evaluation.specs.EvaluableModels.{IsEvaluable, IsFilled, values_in};
 ghost use Rattle.smv_evaluation.specs.Stops.{IsFirstMoment, IsNextMoment};
 
 use crate::table::Table;

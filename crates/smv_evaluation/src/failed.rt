@@ -1,14 +1,13 @@
 //! Which faults a trace has failed ([`has_failed`]): those whose mode stands at some moment.
-
 ghost use Rattle.std.specs.Prelude.{◌≡◌, ◌<◌, length, All};
 ghost use Rattle.std.specs.List.{list_any};
 ghost use Rattle.smv_language.specs.Trace.{Each};
 ghost use Rattle.smv_flat_laws.specs.FlatTrace.{stands_in_some};
 ghost use Rattle.smv_language.specs.ModelTree.{model_tree};
 ghost use Rattle.smv_flat_laws.specs.FaultModes.{mode_of};
-ghost use Rattle.smv_evaluation.specs.Failed.{has_symbol, HasVariable};
-ghost use Rattle.smv_evaluation.specs.Named.{IsEvaluable, IsLawful};
-ghost use Rattle.smv_language.specs.Told.{told_trace};
+ghost use Rattle.smv_evaluation.specs.SymbolTests.{has_symbol, HasVariable};
+ghost use Rattle.smv_evaluation.specs.EvaluableModels.{IsEvaluable, IsLawful};
+ghost use Rattle.smv_language.specs.NumberedValues.{told_trace};
 
 use base_values::{MomentList, Valuation, Value};
 use smv_language::model::Fault;

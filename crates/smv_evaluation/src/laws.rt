@@ -1,5 +1,4 @@
 //! The laws of where moments stop and of the models of programs, which the layer above cites.
-
 ghost use Rattle.smv_evaluation.specs.Laws.{OneStop, ReachingDoesNotStop, FlatModelsAreEvaluable};
 
 /// Moments stop being a trace that reaches an event at most once and for one reason, and they do not where

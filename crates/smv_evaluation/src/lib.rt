@@ -15,7 +15,7 @@
 //! [`Table::for_model`].
 //!
 //! What is answered is what `smv_flat_laws` and `sat_encoding_laws` define over `model_tree` and `flat_tree`:
-//! `specs/Asked.antt` and `Filled.antt` say what the code computes, `Named.antt` reads values by the names of
+//! `specs/Evaluation.antt` and `Filled.antt` say what the code computes, `Named.antt` reads values by the names of
 //! symbols, and `Stops.antt` says where and why moments are no trace that reaches.
 //!
 //! ```text

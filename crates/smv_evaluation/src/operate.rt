@@ -1,10 +1,10 @@
 //! Operators on values. An operator on values that it has no meaning for gives FALSE, which no expression
 //! of a typed model comes to; so do numbers that pass 32 bits and a divisor of 0.
-
 ghost use Rattle.std.specs.Prelude.{◌≡◌, ◌*ℤ◌};
 ghost use Rattle.smv_type_laws.specs.Intervals.{fits_number};
-ghost use Rattle.smv_types.specs.Told.{IsSmall};
-ghost use Rattle.smv_evaluation.specs.Operated.{same, opposite, negative, either, is_true, calculated, fitting, compared, on_numbers, on_truths, on_symbols, applied, between};
+ghost use Rattle.smv_types.specs.NumberAnswers.{IsSmall};
+ghost use Rattle.smv_evaluation.specs.OperatorValues.{same, opposite, negative, either, is_true, calculated, fitting, compared, on_numbers};
+ghost use Rattle.smv_evaluation.specs.OperatorValues.{on_truths, on_symbols, applied, between};
 
 use base_values::Value;
 use smv_language::Op;

@@ -1,12 +1,11 @@
 //! The values of a model's variables and definitions at a moment ([`Table`]). Definitions are evaluated once for each
 //! moment ([`fill`]), so that what names them costs no more than its own size.
-
 ghost use Rattle.std.specs.Prelude.{◌≡◌, [], length, IfOk};
 ghost use Rattle.smv_language.specs.ModelTree.{model_tree};
-ghost use Rattle.smv_evaluation.specs.Filled.{definition_value, definition_values, filled, HasRoom, HasValues};
-ghost use Rattle.smv_evaluation.specs.Named.{IsEvaluable, IsLawful, IsFilled};
+ghost use Rattle.smv_evaluation.specs.MomentTables.{definition_value, definition_values, filled, HasRoom, HasValues};
+ghost use Rattle.smv_evaluation.specs.EvaluableModels.{IsEvaluable, IsLawful, IsFilled};
 
-use crate::ask::{Asked, Known, ask};
+use crate::ask::{AskedValue, KnownValues, ask};
 use base_values::{OutOfMemory, Valuation, Value};
 use smv_language::model::{FlatModel, Formula};
 use smv_types::Typed;
@@ -42,11 +41,11 @@ impl Table {
     }
 
     /// What the table has.
-    pub(crate) fn known(&self) -> Known<'_>
+    pub(crate) fn known(&self) -> KnownValues<'_>
         ensures variables { result.variables.now ≡ self.now.variables }
         ensures definitions { result.definitions.now ≡ self.now.definitions }
     {
-        Known {
+        KnownValues {
             variables: &self.variables,
             definitions: &self.definitions,
         }
@@ -107,9 +106,9 @@ fn write_definitions(definitions: &[Formula], variables: &[Value], into: &mut [V
 fn definition_value(definition: &Formula, variables: &[Value], definitions: &[Value]) -> Value
     ensures { result ≡ definition_value variables.now definitions.now definition.now }
 {
-    let known = Known {
+    let known = KnownValues {
         variables,
         definitions,
     };
-    ask(&known, &known, Asked::ItsValue, &definition.value)
+    ask(&known, &known, AskedValue::ItsValue, &definition.value)
 }

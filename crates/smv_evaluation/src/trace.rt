@@ -1,16 +1,15 @@
 //! Whether a list of moments is a trace that reaches a top event, or where and why it stops being one ([`replay`]). Two
 //! tables go over the moments, one for the moment before and one for the next.
-
 ghost use Rattle.std.specs.Prelude.{◌≡◌, ◌<◌, ◌^◌, [], drop, length, All, false};
 ghost use Rattle.smv_language.specs.Trace.{Each};
-ghost use Rattle.smv_language.specs.Written.{tree_of};
+ghost use Rattle.smv_language.specs.ExpressionTree.{tree_of};
 ghost use Rattle.smv_language.specs.ModelTree.{model_tree, flat_tree};
 ghost use Rattle.smv_type_laws.specs.Laws.{ReadsOwn};
 ghost use Rattle.smv_type_laws.specs.Models.{judged_in, broken_condition};
-ghost use Rattle.smv_evaluation.specs.Filled.{filled, step_holds, HasRoom, HasValues};
-ghost use Rattle.smv_evaluation.specs.Named.{IsEvaluable, IsLawful};
-ghost use Rattle.smv_evaluation.specs.Replayed.{ended, replayed_from, replayed, IsReplayed};
-ghost use Rattle.smv_language.specs.Told.{told_trace};
+ghost use Rattle.smv_evaluation.specs.MomentTables.{filled, step_holds, HasRoom, HasValues};
+ghost use Rattle.smv_evaluation.specs.EvaluableModels.{IsEvaluable, IsLawful};
+ghost use Rattle.smv_evaluation.specs.Replay.{ended, replayed_from, replayed, IsReplayed};
+ghost use Rattle.smv_language.specs.NumberedValues.{told_trace};
 
 use crate::conditions::{first_holds, step_holds};
 use crate::operate::is_true;

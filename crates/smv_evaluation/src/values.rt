@@ -1,17 +1,16 @@
 //! The values of expressions over a typed model, from the tables of a moment and of the next: [`value`] and [`may`]. Both
 //! ask for an expression that breaks no rule.
-
 ghost use Rattle.std.specs.Prelude.{◌≡◌, ◌↔◌, IsTrue, false, true, []};
-ghost use Rattle.smv_language.specs.Written.{tree_of};
+ghost use Rattle.smv_language.specs.ExpressionTree.{tree_of};
 ghost use Rattle.smv_language.specs.ModelTree.{model_tree, flat_tree};
 ghost use Rattle.smv_type_laws.specs.Laws.{ReadsOwn};
 ghost use Rattle.smv_type_laws.specs.Models.{judged_in};
-ghost use Rattle.smv_evaluation.specs.Filled.{answer_in, holds};
-ghost use Rattle.smv_evaluation.specs.Operated.{is_true};
-ghost use Rattle.smv_evaluation.specs.Named.{IsNumbered, IsEvaluable, IsFilled, Gives, MayGive};
-ghost use Rattle.smv_evaluation.specs.declared.ask.Asked.TheVariants.{ItsValue, Whether};
+ghost use Rattle.smv_evaluation.specs.MomentTables.{answer_in, holds};
+ghost use Rattle.smv_evaluation.specs.OperatorValues.{is_true};
+ghost use Rattle.smv_evaluation.specs.EvaluableModels.{IsNumbered, IsEvaluable, IsFilled, Gives, MayGive};
+ghost use Rattle.smv_evaluation.specs.declared.ask.AskedValue.TheVariants.{ItsValue, Whether};
 
-use crate::ask::{Asked, ask};
+use crate::ask::{AskedValue, ask};
 use crate::operate::is_true;
 use crate::table::Table;
 use base_values::Value;
@@ -50,14 +49,14 @@ pub fn may(t: &Typed, e: &Expr<Flat>, now: &Table, next: &Table, v: Value) -> bo
 pub(crate) fn value_in(e: &Expr<Flat>, now: &Table, next: &Table) -> Value
     ensures { result ≡ answer_in now.now next.now ItsValue (tree_of e.now) }
 {
-    ask(&now.known(), &next.known(), Asked::ItsValue, e)
+    ask(&now.known(), &next.known(), AskedValue::ItsValue, e)
 }
 
 /// Whether an expression may have a value.
 fn may_in(e: &Expr<Flat>, now: &Table, next: &Table, v: Value) -> bool
     ensures { result ≡ is_true (answer_in now.now next.now (Whether v) (tree_of e.now)) }
 {
-    is_true(ask(&now.known(), &next.known(), Asked::Whether(v), e))
+    is_true(ask(&now.known(), &next.known(), AskedValue::Whether(v), e))
 }
 
 /// Whether a formula is TRUE.

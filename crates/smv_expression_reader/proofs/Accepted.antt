@@ -8,7 +8,7 @@ use Rattle.smv_language.specs.Tree.{Tree, Trees, Branches}
 use Rattle.smv_language.specs.Lexemes.{Lexeme, word, num, sign, is_reserved}
 use Rattle.smv_language.specs.ProgramTree.{Path}
 use Rattle.smv_language.specs.Spells.{at_expr, at_not, operator, is_repeated, SpellsInt, plain_int, minus_int, SpellsDotted, one_name, more_names, Spells, only_iff, implies, repeated, only_or, chooses, only_not, negates, only_atom, inverts, SpellsMore, no_operator, one_operator, SpellsAtom, is_true, is_false, is_number, is_span, is_name, in_parentheses, is_next, is_set, is_case, SpellsTrees, one_tree, more_trees, SpellsBranches, one_branch, more_branches}
-use Rattle.smv_expression_reader.specs.Recognise.{Role, a_name, an_esac, a_minus, joins, role_of, Frame, group, moment, members, first_choice, condition, outcome, Ended, by_number, by_name, by_other, State, wants, wants_not, wants_high, wants_name, wants_open, wants_branch, had, stuck, step, run, is_whole, start}
+use Rattle.smv_expression_reader.specs.Recogniser.{Role, a_name, an_esac, a_minus, joins, role_of, Frame, group, moment, members, first_choice, condition, outcome, Ended, by_number, by_name, by_other, State, wants, wants_not, wants_high, wants_name, wants_open, wants_branch, had, stuck, step, run, is_whole, start}
 use Rattle.smv_language.proofs.OneTree.{is_none_of}
 
 pub run_append : (st : State) (xs ys : List Lexeme) → run st (xs ++ ys) ≡ run (run st xs) ys

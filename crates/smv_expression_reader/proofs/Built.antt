@@ -9,8 +9,8 @@ use Rattle.smv_language.specs.Tree.{Tree, Trees, Branches, truth, next_of, binar
 use Rattle.smv_language.specs.Lexemes.{Lexeme, word, num, sign, is_reserved}
 use Rattle.smv_language.specs.ProgramTree.{Path}
 use Rattle.smv_language.specs.Spells.{at_expr, at_iff, at_choice, at_or, at_neg, at_not, line_of, operator, minus, begins_span, SpellsInt, plain_int, minus_int, SpellsDotted, one_name, more_names, Spells, only_iff, implies, repeated, only_or, chooses, only_not, negates, only_atom, inverts, SpellsMore, no_operator, one_operator, SpellsAtom, is_true, is_false, is_number, is_span, is_name, in_parentheses, is_next, is_set, is_case, SpellsTrees, one_tree, more_trees, SpellsBranches, one_branch, more_branches}
-use Rattle.smv_expression_reader.specs.Recognise.{Role, an_esac, a_colon, a_semicolon, a_comma, closes, closes_set, role_of}
-use Rattle.smv_expression_reader.specs.Build.{Part, minus_part, bang_part, left_part, answered, asked, group_part, next_part, set_part, condition_part, outcome_part, Hand, number_hand, name_hand, other_hand, Build, ready, name_on, high_on, branch_on, holds, broken, value, looseness, takes_operand, joined, reduce, shut, shut_held, left_held, asked_held, level, span_from, build_step, build, finished, finish, built}
+use Rattle.smv_expression_reader.specs.Recogniser.{Role, an_esac, a_colon, a_semicolon, a_comma, closes, closes_set, role_of}
+use Rattle.smv_expression_reader.specs.TreeBuilder.{Part, minus_part, bang_part, left_part, answered, asked, group_part, next_part, set_part, condition_part, outcome_part, Hand, number_hand, name_hand, other_hand, Build, ready, name_on, high_on, branch_on, holds, broken, value, looseness, takes_operand, joined, reduce, shut, shut_held, left_held, asked_held, level, span_from, build_step, build, finished, finish, built}
 use Rattle.smv_expression_reader.proofs.Accepted.{role_of_name, regrouped_twice}
 use Rattle.smv_expression_reader.proofs.Prepended.{IsLine, IsLineIn, line_is}
 

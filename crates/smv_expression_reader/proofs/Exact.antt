@@ -4,7 +4,7 @@ use Rattle.smv_language.specs.Tree.{Tree}
 use Rattle.smv_language.specs.Lexemes.{Lexeme}
 use Rattle.smv_language.specs.ProgramTree.{Path}
 use Rattle.smv_language.specs.Spells.{at_expr, Spells}
-use Rattle.smv_expression_reader.specs.Recognise.{Frame, group, moment, members, first_choice, condition, outcome, Ended, by_number, by_name, by_other, State, wants, wants_not, wants_low, wants_dots, wants_high, wants_digits, wants_name, wants_open, wants_branch, had, stuck, run, is_whole, is_stuck, start}
+use Rattle.smv_expression_reader.specs.Recogniser.{Frame, group, moment, members, first_choice, condition, outcome, Ended, by_number, by_name, by_other, State, wants, wants_not, wants_low, wants_dots, wants_high, wants_digits, wants_name, wants_open, wants_branch, had, stuck, run, is_whole, is_stuck, start}
 use Rattle.smv_expression_reader.specs.Complete.{close_all, completion}
 use Rattle.smv_expression_reader.proofs.Accepted.{run_append, run_stuck, spelled_accepted}
 use Rattle.smv_expression_reader.proofs.Rest.{accepted_spelled}

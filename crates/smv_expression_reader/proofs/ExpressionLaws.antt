@@ -15,8 +15,8 @@ use Rattle.smv_language.specs.SpellsProgram.{SpellsExpr}
 use Rattle.smv_language.specs.Nesting.{nesting_of}
 use Rattle.smv_language.specs.Bytes.{BytesSpellExpr, HasDepths}
 use Rattle.smv_language.specs.Limits.{deepest}
-use Rattle.smv_expression_reader.specs.Recognise.{run, is_stuck, is_whole, start}
-use Rattle.smv_expression_reader.specs.Build.{built}
+use Rattle.smv_expression_reader.specs.Recogniser.{run, is_stuck, is_whole, start}
+use Rattle.smv_expression_reader.specs.TreeBuilder.{built}
 use Rattle.smv_expression_reader.specs.Extents.{reach_of, is_deep}
 use Rattle.smv_expression_reader.specs.Places.{lexeme_at}
 use Rattle.smv_expression_reader.specs.Stops.{IsExpression, IsFrontOf, Unfinished, IsTooDeep, FaultMeans, is_left_out, stop_fault}

@@ -9,7 +9,7 @@ use Rattle.smv_language.specs.ProgramTree.{Path}
 use Rattle.smv_language.specs.Spells.{at_expr, Spells}
 use Rattle.smv_language.specs.Nesting.{nesting_of}
 use Rattle.smv_language.specs.Limits.{deepest}
-use Rattle.smv_expression_reader.specs.Recognise.{Role, State, stuck, step, run, role_of, is_stuck, is_whole, start}
+use Rattle.smv_expression_reader.specs.Recogniser.{Role, State, stuck, step, run, role_of, is_stuck, is_whole, start}
 use Rattle.smv_expression_reader.specs.Depth.{depth, peak}
 use Rattle.smv_expression_reader.specs.Extents.{reach_of, is_deep, ends_whole}
 use Rattle.smv_expression_reader.proofs.Accepted.{run_stuck, spelled_accepted}

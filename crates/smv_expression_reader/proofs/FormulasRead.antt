@@ -5,9 +5,9 @@ use Rattle.smv_lexer.specs.declared.token.TokenKind.TheVariants as k
 use Rattle.smv_language.specs.ProgramTree.{Formula}
 use Rattle.smv_language.specs.Lexemes.{Lexeme, num, sign}
 use Rattle.smv_language.specs.SpellsProgram.{SpellsExpressions, last_expression, more_expressions, open_ended, ended}
-use Rattle.smv_expression_reader.specs.Recognise.{Role, a_semicolon, role_of, by_number, by_name, by_other, State, had, stuck, is_whole, start}
-use Rattle.smv_expression_reader.specs.Recognise as machine
-use Rattle.smv_expression_reader.specs.Predict.{Means, run, Fits, IsPredictable}
+use Rattle.smv_expression_reader.specs.Recogniser.{Role, a_semicolon, role_of, by_number, by_name, by_other, State, had, stuck, is_whole, start}
+use Rattle.smv_expression_reader.specs.Recogniser as machine
+use Rattle.smv_expression_reader.specs.PredictiveReader.{Means, run, Fits, IsPredictable}
 use Rattle.smv_expression_reader.specs.Formulas.{Sym, formula, more, again, expressions, is_semicolon, live, IsAgain, IsMore, spelled, empty, after_semicolon, next, follow, shortest, formulas}
 use Rattle.smv_expression_reader.proofs.Accepted.{run_stuck, spelled_accepted}
 use Rattle.smv_expression_reader.proofs.Rest.{accepted_spelled, meant_semicolon}
@@ -115,7 +115,7 @@ live_inner_more : (st : State) (s : List Sym) → live st (more ∷ []) ≡ Some
 live_inner_more stuck s e = cc
 live_inner_more st s e = let same : s ≡ formula st refl ∷ more ∷ [] = cc in subst (λ z. Fits Sym formulas z (λ t. false)) (sym same) (λ t g. go (role_of t) g, (λ t g. g, tt))
   where
-    go : (c : Role) → ((Rattle.smv_expression_reader.specs.Predict.is_some Sym formulas (after_semicolon c) || false) || false) ≡ true → is_semicolon c ≡ true
+    go : (c : Role) → ((Rattle.smv_expression_reader.specs.PredictiveReader.is_some Sym formulas (after_semicolon c) || false) || false) ≡ true → is_semicolon c ≡ true
     go a_semicolon g = refl
     go c g = cc
 

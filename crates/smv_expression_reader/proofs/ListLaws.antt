@@ -2,14 +2,14 @@
 use Rattle.std.proofs.Common.{◌≡◌, Bool, true, false, List, [], ◌∷◌, Option, Some, None, refl, sym, ap, ◌∙◌}
 use Rattle.std.specs.Prelude.{◌&&◌, if◌then◌else◌}
 use Rattle.smv_language.specs.Lexemes.{Lexeme}
-use Rattle.smv_expression_reader.specs.Recognise.{Role, Frame, State, stuck, role_of, is_stuck, is_whole, start}
-use Rattle.smv_expression_reader.specs.Recognise as machine
-use Rattle.smv_expression_reader.specs.Predict.{taken, step, all_empty}
+use Rattle.smv_expression_reader.specs.Recogniser.{Role, Frame, State, stuck, role_of, is_stuck, is_whole, start}
+use Rattle.smv_expression_reader.specs.Recogniser as machine
+use Rattle.smv_expression_reader.specs.PredictiveReader.{taken, step, all_empty}
 use Rattle.smv_expression_reader.specs.Formulas.{Sym, formula, more, again, expressions, live, formulas}
 use Rattle.smv_expression_reader.specs.Lists.{place_view, Fits, stepped}
 use Rattle.smv_expression_reader.specs.Readings.{Goes}
-use Rattle.smv_expression_reader.specs.declared.list.Place.{Place}
-use Rattle.smv_expression_reader.specs.declared.list.Place.TheVariants as p
+use Rattle.smv_expression_reader.specs.declared.list.ListPlace.{ListPlace}
+use Rattle.smv_expression_reader.specs.declared.list.ListPlace.TheVariants as p
 use Rattle.smv_expression_reader.specs.Views.{state_with}
 
 pub live_stuck : (st : State) (s : List Sym) → is_stuck st ≡ true → live st s ≡ None
@@ -54,7 +54,7 @@ live_some stuck s h = cc
 live_some st s h = (formula st refl ∷ s, refl)
 
 -- something is expected at each place
-pub fits_goes : (place : Place) (s : List Frame) → Fits place s → Goes Sym formulas (place_view place s)
+pub fits_goes : (place : ListPlace) (s : List Frame) → Fits place s → Goes Sym formulas (place_view place s)
 fits_goes p.First s h = (expressions ∷ [], refl)
 fits_goes p.Again s h = (again ∷ [], refl)
 fits_goes (p.Inside mode) s h = live_some (state_with mode s) (more ∷ []) h

@@ -8,10 +8,10 @@ use Rattle.smv_lexer.specs.Tokens.{HasTokens}
 use Rattle.smv_language.specs.ProgramTree.{Formula}
 use Rattle.smv_language.specs.Lexemes.{Lexeme, sign, lexemes_of}
 use Rattle.smv_language.specs.SpellsProgram.{SpellsExpr, open_ended, ended, SpellsExpressions, last_expression, more_expressions}
-use Rattle.smv_expression_reader.specs.Recognise.{run, is_whole, start}
+use Rattle.smv_expression_reader.specs.Recogniser.{run, is_whole, start}
 use Rattle.smv_expression_reader.specs.Lists.{IsExpressions, BytesSpellExpressions}
-use Rattle.smv_expression_reader.specs.Within.{is_too_deep, are_too_deep, spelling, in_list, AreWithin, HaveDepths, AreTooDeep}
-use Rattle.smv_expression_reader.specs.Reads.{Read, got, deep, none, and_then, answer, with_front, expr_at, each_at, goes_on, next_expr, past_semicolon, exprs_at}
+use Rattle.smv_expression_reader.specs.ExpressionDepths.{is_too_deep, are_too_deep, spelling, in_list, AreWithin, HaveDepths, AreTooDeep}
+use Rattle.smv_expression_reader.specs.SecondPass.{Read, got, deep, none, and_then, answer, with_front, expr_at, each_at, goes_on, next_expr, past_semicolon, exprs_at}
 use Rattle.smv_expression_reader.proofs.Accepted.{spelled_accepted}
 use Rattle.smv_expression_reader.proofs.PartsRead.{answer_got, answer_deep, answer_none}
 use Rattle.smv_expression_reader.proofs.ReadLaws.{read_expr, are_within, within_are}

@@ -5,7 +5,7 @@ use Rattle.smv_lexer.specs.declared.token.TokenKind.TheVariants as k
 use Rattle.smv_language.specs.Lexemes.{Lexeme, word, num, sign, is_reserved, section_words}
 use Rattle.smv_language.specs.Texts.{same_text, is_among}
 use Rattle.smv_language.specs.SpellsProgram.{skipped_words}
-use Rattle.smv_expression_reader.specs.Recognise.{no_role, role_of_word}
+use Rattle.smv_expression_reader.specs.Recogniser.{no_role, role_of_word}
 use Rattle.smv_expression_reader.specs.Places.{is_word}
 use Rattle.smv_expression_reader.specs.Marks.{Mark, w_module, w_var, w_ivar, w_frozen, w_define, w_constants, w_assign, w_init, w_invar, w_trans, w_skipped, w_boolean, w_first, w_after, a_name, a_number, s_becomes, s_dots, s_open, s_close, s_open_brace, s_close_brace, s_comma, s_semicolon, s_colon, s_dot, s_minus, no_mark, mark_of_word, mark_of, is_section}
 use Rattle.smv_language.proofs.OneTree.{same_text_equal, is_none_of}

@@ -1,7 +1,7 @@
 -- What lists of expected symbols stand for, over any grammar that is read by one lexeme at a time.
 use Rattle.std.proofs.Common.{◌≡◌, Bool, List, [], ◌∷◌, ◌++◌, Option, Some, None, refl, sym, ◌∙◌, ap, subst, append-nil}
 use Rattle.smv_language.specs.Lexemes.{Lexeme}
-use Rattle.smv_expression_reader.specs.Predict.{Grammar, Means, Fits}
+use Rattle.smv_expression_reader.specs.PredictiveReader.{Grammar, Means, Fits}
 
 -- a single symbol stands for what it spells
 pub last : {Sym : Type 0} (g : Grammar Sym) (x : Sym) (ts : List Lexeme) → Means Sym g (x ∷ []) ts → g.Spelled x ts

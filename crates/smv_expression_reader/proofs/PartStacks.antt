@@ -1,18 +1,18 @@
 -- A vector of parts as a stack.
 use Rattle.std.proofs.Common.{◌≡◌, ℕ, true, false, List, [], ◌∷◌, ◌++◌, Some, None, refl, sym, ap}
 use Rattle.smv_language.specs.declared.expr.Op.{Op}
-use Rattle.smv_expression_reader.specs.Recognise.{Role}
-use Rattle.smv_expression_reader.specs.declared.parts.Part.{Part}
+use Rattle.smv_expression_reader.specs.Recogniser.{Role}
+use Rattle.smv_expression_reader.specs.declared.parts.Pending.{Pending}
 use Rattle.smv_language.specs.Tree.{Tree}
 use Rattle.smv_language.specs.ProgramTree.{Path}
-use Rattle.smv_expression_reader.specs.Build as machine
+use Rattle.smv_expression_reader.specs.TreeBuilder as machine
 use Rattle.smv_expression_reader.specs.PartViews.{part_view, parts_onto, parts_of, held}
 
-onto : (s : List machine.Part) (xs : List Part) (x : Part) → parts_onto s (xs ++ x ∷ []) ≡ part_view x ∷ parts_onto s xs
+onto : (s : List machine.Part) (xs : List Pending) (x : Pending) → parts_onto s (xs ++ x ∷ []) ≡ part_view x ∷ parts_onto s xs
 onto s [] x = refl
 onto s (y ∷ xs) x = onto (part_view y ∷ s) xs x
 
-pub pushed_part : (xs : List Part) (x : Part) → parts_of (xs ++ x ∷ []) ≡ part_view x ∷ parts_of xs
+pub pushed_part : (xs : List Pending) (x : Pending) → parts_of (xs ++ x ∷ []) ≡ part_view x ∷ parts_of xs
 unfolding parts_of
 pushed_part xs x = onto [] xs x
 

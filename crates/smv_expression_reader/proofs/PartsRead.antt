@@ -8,8 +8,8 @@ use Rattle.smv_language.specs.Spells.{SpellsInt, plain_int, minus_int}
 use Rattle.smv_language.specs.SpellsProgram.{SpellsMany, no_more, one_more}
 use Rattle.smv_expression_reader.specs.Marks.{Mark, mark_of}
 use Rattle.smv_expression_reader.specs.MarkView.{is_mark}
-use Rattle.smv_expression_reader.specs.Within.{Spelling, is_too_deep, are_too_deep, in_many}
-use Rattle.smv_expression_reader.specs.Reads.{Read, got, deep, none, and_then, answer, with_front, expect_at, named_at, name_at, each_at, some_at, int_at}
+use Rattle.smv_expression_reader.specs.ExpressionDepths.{Spelling, is_too_deep, are_too_deep, in_many}
+use Rattle.smv_expression_reader.specs.SecondPass.{Read, got, deep, none, and_then, answer, with_front, expect_at, named_at, name_at, each_at, some_at, int_at}
 use Rattle.smv_expression_reader.proofs.Marks.{mark_of_name}
 
 -- of two lists one is too deep where one of either is

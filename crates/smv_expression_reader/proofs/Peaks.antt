@@ -7,7 +7,7 @@ use Rattle.smv_language.specs.Tree.{Tree, Trees, Branches}
 use Rattle.smv_language.specs.Lexemes.{Lexeme, word, num, sign, is_reserved}
 use Rattle.smv_language.specs.ProgramTree.{Path}
 use Rattle.smv_language.specs.Spells.{at_expr, at_not, operator, SpellsInt, plain_int, minus_int, SpellsDotted, one_name, more_names, Spells, only_iff, implies, repeated, only_or, chooses, only_not, negates, only_atom, inverts, SpellsMore, no_operator, one_operator, SpellsAtom, is_true, is_false, is_number, is_span, is_name, in_parentheses, is_next, is_set, is_case, SpellsTrees, one_tree, more_trees, SpellsBranches, one_branch, more_branches}
-use Rattle.smv_expression_reader.specs.Recognise.{Role, an_esac, role_of, Frame, group, moment, members, first_choice, condition, outcome, Ended, by_number, by_name, by_other, State, wants, wants_not, wants_name, wants_open, wants_branch, had, step, run, start}
+use Rattle.smv_expression_reader.specs.Recogniser.{Role, an_esac, role_of, Frame, group, moment, members, first_choice, condition, outcome, Ended, by_number, by_name, by_other, State, wants, wants_not, wants_name, wants_open, wants_branch, had, step, run, start}
 use Rattle.smv_language.specs.Nesting.{nesting_of, more_nesting, atom_nesting, trees_nesting, branches_nesting}
 use Rattle.smv_expression_reader.specs.Depth.{groups, depth, peak}
 use Rattle.smv_expression_reader.proofs.Accepted.{run_stuck, role_of_name, Takes, then_takes, after_operator, after_question, after_colon, after_condition, after_outcome, after_member, after_members, after_group, after_moment, is_had, takes, takes_branches, no_line, regrouped_twice, Place, anywhere, after_bang, wanted}

@@ -2,7 +2,7 @@
 use Rattle.std.proofs.Common.{◌≡◌, Bool, true, false, List, [], ◌∷◌, ◌++◌, Option, Some, None, refl, sym, ◌∙◌, ap, subst, append_assoc, append-nil}
 use Rattle.std.specs.Prelude.{◌&&◌, ◌||◌, ◌↔◌, if◌then◌else◌}
 use Rattle.smv_language.specs.Lexemes.{Lexeme}
-use Rattle.smv_expression_reader.specs.Predict.{Grammar, Means, taken, step, run, all_empty, is_some, can_start, Fits, IsPredictable}
+use Rattle.smv_expression_reader.specs.PredictiveReader.{Grammar, Means, taken, step, run, all_empty, is_some, can_start, Fits, IsPredictable}
 
 module _ (Sym : Type 0) (g : Grammar Sym) (law : IsPredictable Sym g) where
   join : (s s' : List Sym) (xs ys : List Lexeme) → Means Sym g s xs → Means Sym g s' ys → Means Sym g (s ++ s') (xs ++ ys)

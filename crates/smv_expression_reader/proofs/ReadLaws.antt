@@ -10,12 +10,12 @@ use Rattle.smv_language.specs.Lexemes.{Lexeme}
 use Rattle.smv_language.specs.Nesting.{nesting_of}
 use Rattle.smv_language.specs.SpellsProgram.{SpellsExpr}
 use Rattle.smv_language.specs.Limits.{deepest}
-use Rattle.smv_expression_reader.specs.Recognise.{Role, Ended, by_number, by_name, by_other, State, had, stuck, run, role_of, is_stuck, is_whole, start}
-use Rattle.smv_expression_reader.specs.Recognise as machine
-use Rattle.smv_expression_reader.specs.Build.{built}
+use Rattle.smv_expression_reader.specs.Recogniser.{Role, Ended, by_number, by_name, by_other, State, had, stuck, run, role_of, is_stuck, is_whole, start}
+use Rattle.smv_expression_reader.specs.Recogniser as machine
+use Rattle.smv_expression_reader.specs.TreeBuilder.{built}
 use Rattle.smv_expression_reader.specs.Extents.{reach_of, is_deep, ends_whole}
-use Rattle.smv_expression_reader.specs.Within.{Spelling, IsWithin, AreWithin, is_too_deep, are_too_deep, spelling}
-use Rattle.smv_expression_reader.specs.Reads.{Read, got, deep, none, and_then, answer, with_front, made_of, front_read, expr_at, rest_of, each_at}
+use Rattle.smv_expression_reader.specs.ExpressionDepths.{Spelling, IsWithin, AreWithin, is_too_deep, are_too_deep, spelling}
+use Rattle.smv_expression_reader.specs.SecondPass.{Read, got, deep, none, and_then, answer, with_front, made_of, front_read, expr_at, rest_of, each_at}
 use Rattle.smv_expression_reader.proofs.Accepted.{spelled_accepted}
 use Rattle.smv_expression_reader.proofs.Built.{built_spelled}
 use Rattle.smv_expression_reader.proofs.ExpressionLaws.{expression_made}

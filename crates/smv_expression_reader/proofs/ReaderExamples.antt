@@ -5,8 +5,8 @@ use Rattle.smv_lexer.specs.declared.token.TokenKind.TheVariants as k
 use Rattle.smv_language.specs.declared.expr.Op.TheVariants as op
 use Rattle.smv_language.specs.Tree.{number, leaf, not_of, negate, binary, choice, span}
 use Rattle.smv_language.specs.Lexemes.{Lexeme, word, num, sign}
-use Rattle.smv_expression_reader.specs.Recognise.{run, start, is_stuck, is_whole}
-use Rattle.smv_expression_reader.specs.Build.{built}
+use Rattle.smv_expression_reader.specs.Recogniser.{run, start, is_stuck, is_whole}
+use Rattle.smv_expression_reader.specs.TreeBuilder.{built}
 
 abbrev n1 : Lexeme
 n1 = num 1 (codes "1")

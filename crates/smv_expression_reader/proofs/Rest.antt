@@ -8,7 +8,7 @@ use Rattle.smv_language.specs.Lexemes.{Lexeme, word, num, sign, is_reserved}
 use Rattle.smv_language.specs.Texts.{same_text}
 use Rattle.smv_language.specs.ProgramTree.{Path}
 use Rattle.smv_language.specs.Spells.{at_expr, at_neg, at_not, operator, minus, SpellsInt, plain_int, minus_int, SpellsDotted, one_name, more_names, Spells, only_not, only_atom, inverts, SpellsAtom, is_true, is_false, is_number, is_span, is_name, in_parentheses, is_next, is_set, is_case, SpellsTrees, one_tree, more_trees, SpellsBranches, one_branch, more_branches}
-use Rattle.smv_expression_reader.specs.Recognise.{Role, a_truth, a_name, a_number, a_next, a_case, an_esac, a_minus, a_bang, joins, asks, a_colon, a_semicolon, a_comma, a_dot, dots, opens, closes, opens_set, closes_set, no_role, role_of_word, role_of, Frame, group, moment, members, first_choice, condition, outcome, Ended, by_number, by_name, by_other, State, wants, wants_not, wants_low, wants_dots, wants_high, wants_digits, wants_name, wants_open, wants_branch, had, stuck, begin, close, follow, step, run, is_whole, start}
+use Rattle.smv_expression_reader.specs.Recogniser.{Role, a_truth, a_name, a_number, a_next, a_case, an_esac, a_minus, a_bang, joins, asks, a_colon, a_semicolon, a_comma, a_dot, dots, opens, closes, opens_set, closes_set, no_role, role_of_word, role_of, Frame, group, moment, members, first_choice, condition, outcome, Ended, by_number, by_name, by_other, State, wants, wants_not, wants_low, wants_dots, wants_high, wants_digits, wants_name, wants_open, wants_branch, had, stuck, begin, close, follow, step, run, is_whole, start}
 use Rattle.smv_language.proofs.OneTree.{same_text_equal}
 use Rattle.smv_language.proofs.PrintedSpells.{loosened}
 use Rattle.smv_expression_reader.proofs.Prepended.{IsSpelled, prepended, chosen, minus_before}

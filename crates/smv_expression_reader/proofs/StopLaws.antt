@@ -8,7 +8,7 @@ use Rattle.smv_lexer.specs.declared.token.Token.{Token}
 use Rattle.smv_lexer.specs.Tokens.{HasTokens}
 use Rattle.smv_language.specs.Lexemes.{Lexeme, lexemes_of}
 use Rattle.smv_expression_reader.specs.declared.fault.ParseFault.{ParseFault}
-use Rattle.smv_expression_reader.specs.Predict.{Grammar, step, run, all_empty, IsPredictable}
+use Rattle.smv_expression_reader.specs.PredictiveReader.{Grammar, step, run, all_empty, IsPredictable}
 use Rattle.smv_expression_reader.specs.Readings.{stepped, expected_after, Goes, Ends}
 use Rattle.smv_expression_reader.specs.Places.{lexeme_at}
 use Rattle.smv_expression_reader.specs.Stops.{IsFrontOf, StopsAt, Unfinished, FaultMeans, is_left_out, stop_fault}

@@ -8,8 +8,8 @@ use Rattle.smv_language.specs.Lexemes.{Lexeme}
 use Rattle.smv_language.specs.ProgramTree.{Path}
 use Rattle.smv_language.specs.Spells.{at_expr, at_or, at_sum, line_of}
 use Rattle.smv_language.specs.Limits.{deepest}
-use Rattle.smv_expression_reader.specs.Recognise.{Role, a_truth, a_name, a_number, a_next, a_case, an_esac, a_minus, a_bang, joins, asks, a_colon, a_semicolon, a_comma, a_dot, dots, opens, closes, opens_set, closes_set, role_of}
-use Rattle.smv_expression_reader.specs.Build.{Part, minus_part, bang_part, left_part, answered, asked, group_part, next_part, set_part, condition_part, outcome_part, Hand, number_hand, name_hand, other_hand, Build, ready, name_on, high_on, minus_high_on, next_on, branch_on, holds, broken, value, takes_operand, joined, Held, reduce, shut, level, left_held, asked_held, shut_held, go_on, span_from, after_hand, open_operand, build_step, build, finished, finish, built}
+use Rattle.smv_expression_reader.specs.Recogniser.{Role, a_truth, a_name, a_number, a_next, a_case, an_esac, a_minus, a_bang, joins, asks, a_colon, a_semicolon, a_comma, a_dot, dots, opens, closes, opens_set, closes_set, role_of}
+use Rattle.smv_expression_reader.specs.TreeBuilder.{Part, minus_part, bang_part, left_part, answered, asked, group_part, next_part, set_part, condition_part, outcome_part, Hand, number_hand, name_hand, other_hand, Build, ready, name_on, high_on, minus_high_on, next_on, branch_on, holds, broken, value, takes_operand, joined, Held, reduce, shut, level, left_held, asked_held, shut_held, go_on, span_from, after_hand, open_operand, build_step, build, finished, finish, built}
 use Rattle.smv_expression_reader.specs.Heights.{part_height, parts_height, tallest, held_height, highest, is_whole, TooHigh}
 use Rattle.smv_expression_reader.proofs.Heights.{trees_more, branches_more}
 

@@ -1,11 +1,11 @@
 -- The code's state of the second pass, as that of the machine.
 use Rattle.std.specs.Prelude.{List, map}
-use Rattle.smv_language.specs.Written.{tree_of, branch_trees}
+use Rattle.smv_language.specs.ExpressionTree.{tree_of, branch_trees}
 use Rattle.smv_expression_reader.specs.declared.tree.Hand.{Hand}
 use Rattle.smv_expression_reader.specs.declared.tree.Hand.TheVariants as h
 use Rattle.smv_expression_reader.specs.declared.tree.Build.{Build}
 use Rattle.smv_expression_reader.specs.declared.tree.Build.TheVariants as b
-use Rattle.smv_expression_reader.specs.Build as machine
+use Rattle.smv_expression_reader.specs.TreeBuilder as machine
 
 -- the operand that stands last
 abbrev pub hand_view : Hand → machine.Hand

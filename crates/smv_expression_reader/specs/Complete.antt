@@ -2,7 +2,9 @@
 use Rattle.std.specs.Prelude.{List, [], ◌∷◌, codes}
 use Rattle.smv_lexer.specs.declared.token.TokenKind.TheVariants as k
 use Rattle.smv_language.specs.Lexemes.{Lexeme, word, num, sign}
-use Rattle.smv_expression_reader.specs.Recognise.{Frame, group, moment, members, first_choice, condition, outcome, State, wants, wants_not, wants_low, wants_dots, wants_high, wants_digits, wants_name, wants_open, wants_branch, had, stuck}
+use Rattle.smv_expression_reader.specs.Recogniser.{Frame, group, moment, members, first_choice, condition, outcome, State, wants, wants_not}
+use Rattle.smv_expression_reader.specs.Recogniser.{wants_low, wants_dots, wants_high, wants_digits, wants_name, wants_open, wants_branch}
+use Rattle.smv_expression_reader.specs.Recogniser.{had, stuck}
 
 -- what closes all that is open, after an operand
 abbrev pub close_all : List Frame → List Lexeme

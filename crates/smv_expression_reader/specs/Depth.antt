@@ -1,7 +1,8 @@
 -- How many groups are open on the stack of the machine.
 use Rattle.std.specs.Prelude.{ℕ, ◌+◌, max, List, [], ◌∷◌}
 use Rattle.smv_language.specs.Lexemes.{Lexeme}
-use Rattle.smv_expression_reader.specs.Recognise.{role_of, Frame, group, State, wants, wants_not, wants_low, wants_dots, wants_high, wants_digits, wants_name, wants_open, wants_branch, had, stuck, step}
+use Rattle.smv_expression_reader.specs.Recogniser.{role_of, Frame, group, State, wants, wants_not, wants_low, wants_dots, wants_high}
+use Rattle.smv_expression_reader.specs.Recogniser.{wants_digits, wants_name, wants_open, wants_branch, had, stuck, step}
 
 -- how many of the open parts are groups
 abbrev pub groups : List Frame → ℕ

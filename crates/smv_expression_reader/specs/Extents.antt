@@ -2,7 +2,7 @@
 use Rattle.std.specs.Prelude.{ℕ, ◌+◌, Bool, false, List, [], ◌∷◌, ◌||◌, nat_lt, if◌then◌else◌}
 use Rattle.smv_language.specs.Lexemes.{Lexeme}
 use Rattle.smv_language.specs.Limits.{deepest}
-use Rattle.smv_expression_reader.specs.Recognise.{State, step, role_of, is_stuck, is_whole}
+use Rattle.smv_expression_reader.specs.Recogniser.{State, step, role_of, is_stuck, is_whole}
 use Rattle.smv_expression_reader.specs.Depth.{depth}
 
 -- how many lexemes there are before the first with which no list goes on
@@ -13,7 +13,8 @@ reach_of st (t ∷ ts) = if is_stuck (step st (role_of t)) then 0 else reach_of 
 -- whether more than `deepest` groups are open at once before that lexeme
 abbrev pub is_deep : State → List Lexeme → Bool
 is_deep st [] = false
-is_deep st (t ∷ ts) = if is_stuck (step st (role_of t)) then false else (nat_lt deepest (depth (step st (role_of t))) || is_deep (step st (role_of t)) ts)
+is_deep st (t ∷ ts) =
+    if is_stuck (step st (role_of t)) then false else (nat_lt deepest (depth (step st (role_of t))) || is_deep (step st (role_of t)) ts)
 
 -- whether what stands before that lexeme is whole
 abbrev pub ends_whole : State → List Lexeme → Bool

@@ -4,10 +4,10 @@ use Rattle.smv_lexer.specs.declared.token.TokenKind.TheVariants as k
 use Rattle.smv_language.specs.ProgramTree.{Formula}
 use Rattle.smv_language.specs.Lexemes.{Lexeme, num, sign}
 use Rattle.smv_language.specs.SpellsProgram.{SpellsExpressions}
-use Rattle.smv_expression_reader.specs.Recognise.{Role, a_semicolon, role_of, State, stuck, is_whole, is_stuck, start}
-use Rattle.smv_expression_reader.specs.Recognise as machine
+use Rattle.smv_expression_reader.specs.Recogniser.{Role, a_semicolon, role_of, State, stuck, is_whole, is_stuck, start}
+use Rattle.smv_expression_reader.specs.Recogniser as machine
 use Rattle.smv_expression_reader.specs.Complete.{completion}
-use Rattle.smv_expression_reader.specs.Predict.{Grammar}
+use Rattle.smv_expression_reader.specs.PredictiveReader.{Grammar}
 
 -- what may still be expected of a list of expressions
 pub data Sym : Type 0 where

@@ -2,7 +2,9 @@
 use Rattle.std.specs.Prelude.{◌≡◌, ℕ, ◌<◌, max, Bool, true, false, List, [], ◌∷◌}
 use Rattle.smv_language.specs.Tree.{height_of, trees_height, branches_height, trees_from, branches_from}
 use Rattle.smv_language.specs.Limits.{deepest}
-use Rattle.smv_expression_reader.specs.Build.{Part, left_part, answered, asked, set_part, condition_part, outcome_part, other_hand, Build, ready, name_on, high_on, minus_high_on, next_on, branch_on, holds, broken, value, Held}
+use Rattle.smv_expression_reader.specs.TreeBuilder.{Part, left_part, answered, asked, set_part, condition_part, outcome_part, other_hand}
+use Rattle.smv_expression_reader.specs.TreeBuilder.{Build, ready, name_on, high_on, minus_high_on, next_on, branch_on, holds, broken, value}
+use Rattle.smv_expression_reader.specs.TreeBuilder.{Held}
 
 -- the height of the highest tree that a part holds
 abbrev pub part_height : Part → ℕ

@@ -1,8 +1,8 @@
-pub mod Recognise
+pub mod Recogniser
 pub mod Complete
-pub mod Build
+pub mod TreeBuilder
 pub mod Depth
-pub mod Predict
+pub mod PredictiveReader
 pub mod Formulas
 pub mod Marks
 pub mod Views
@@ -15,6 +15,6 @@ pub mod BuildViews
 pub mod Extents
 pub mod Stops
 pub mod Lists
-pub mod Reads
-pub mod Within
+pub mod SecondPass
+pub mod ExpressionDepths
 pub mod Readings

@@ -5,10 +5,10 @@ use Rattle.smv_lexer.specs.Tokens.{HasTokens}
 use Rattle.smv_language.specs.ProgramTree.{Formula}
 use Rattle.smv_language.specs.Lexemes.{Lexeme, lexemes_of}
 use Rattle.smv_language.specs.SpellsProgram.{SpellsExpressions}
-use Rattle.smv_expression_reader.specs.declared.list.Place.{Place}
-use Rattle.smv_expression_reader.specs.declared.list.Place.TheVariants as p
-use Rattle.smv_expression_reader.specs.declared.reading.Reading.{Reading}
-use Rattle.smv_expression_reader.specs.Recognise.{Frame, is_stuck}
+use Rattle.smv_expression_reader.specs.declared.list.ListPlace.{ListPlace}
+use Rattle.smv_expression_reader.specs.declared.list.ListPlace.TheVariants as p
+use Rattle.smv_expression_reader.specs.declared.reading.ReadExtent.{ReadExtent}
+use Rattle.smv_expression_reader.specs.Recogniser.{Frame, is_stuck}
 use Rattle.smv_expression_reader.specs.Views.{state_with}
 use Rattle.smv_expression_reader.specs.Readings.{stepped as grammar_stepped, expected_after as grammar_expected, ReadsTo}
 use Rattle.smv_expression_reader.specs.Formulas.{Sym, more, again, expressions, live, formulas}
@@ -18,13 +18,13 @@ abbrev pub IsExpressions : List Lexeme → Type 0
 IsExpressions ts = (es : List Formula) × SpellsExpressions ts es
 
 -- what is still expected there
-abbrev pub place_view : Place → List Frame → Option (List Sym)
+abbrev pub place_view : ListPlace → List Frame → Option (List Sym)
 place_view p.First s = Some (expressions ∷ [])
 place_view p.Again s = Some (again ∷ [])
 place_view (p.Inside mode) s = live (state_with mode s) (more ∷ [])
 
 -- the same after a step, where the list went on
-abbrev pub after_view : Option Place → List Frame → Option (List Sym)
+abbrev pub after_view : Option ListPlace → List Frame → Option (List Sym)
 after_view None s = None
 after_view (Some place) s = place_view place s
 
@@ -37,11 +37,11 @@ abbrev pub expected_after : List Lexeme → Option (List Sym)
 expected_after = grammar_expected Sym formulas expressions
 
 -- the reading is how far these lexemes can be read
-abbrev pub ListReads : List Lexeme → Reading → Type 0
+abbrev pub ListReads : List Lexeme → ReadExtent → Type 0
 ListReads = ReadsTo Sym formulas expressions
 
 -- what is open there: nothing, or an expression that goes on
-abbrev pub Fits : Place → List Frame → Type 0
+abbrev pub Fits : ListPlace → List Frame → Type 0
 Fits p.First s = s ≡ []
 Fits p.Again s = s ≡ []
 Fits (p.Inside mode) s = is_stuck (state_with mode s) ≡ false

@@ -39,11 +39,16 @@ pub data Mark : Type 0 where
 -- what a word is; a reserved one that begins nothing here has no mark
 abbrev pub mark_of_word : List ℕ → Mark
 mark_of_word x =
-    if same_text x (codes "MODULE") then w_module else (if same_text x (codes "VAR") then w_var else (if same_text x (codes "IVAR") then w_ivar else
-    (if same_text x (codes "FROZENVAR") then w_frozen else (if same_text x (codes "DEFINE") then w_define else (if same_text x (codes "CONSTANTS") then w_constants else
-    (if same_text x (codes "ASSIGN") then w_assign else (if same_text x (codes "INIT") then w_init else (if same_text x (codes "INVAR") then w_invar else
-    (if same_text x (codes "TRANS") then w_trans else (if is_among skipped_words x then w_skipped else (if same_text x (codes "boolean") then w_boolean else
-    (if same_text x (codes "init") then w_first else (if same_text x (codes "next") then w_after else (if is_reserved x then no_mark else a_name))))))))))))))
+    if same_text x (codes "MODULE") then w_module else
+    (if same_text x (codes "VAR") then w_var else (if same_text x (codes "IVAR") then w_ivar else
+    (if same_text x (codes "FROZENVAR") then w_frozen else
+    (if same_text x (codes "DEFINE") then w_define else (if same_text x (codes "CONSTANTS") then w_constants else
+    (if same_text x (codes "ASSIGN") then w_assign else
+    (if same_text x (codes "INIT") then w_init else (if same_text x (codes "INVAR") then w_invar else
+    (if same_text x (codes "TRANS") then w_trans else
+    (if is_among skipped_words x then w_skipped else (if same_text x (codes "boolean") then w_boolean else
+    (if same_text x (codes "init") then w_first else
+    (if same_text x (codes "next") then w_after else (if is_reserved x then no_mark else a_name))))))))))))))
 
 -- what a lexeme is; a sign of expressions alone has no mark
 abbrev pub mark_of : Lexeme → Mark

@@ -1,14 +1,14 @@
 -- The code's parts, as those of the machine.
 use Rattle.std.specs.Prelude.{List, [], ◌∷◌, map}
-use Rattle.smv_language.specs.Written.{tree_of, branch_trees}
-use Rattle.smv_expression_reader.specs.declared.parts.Part.TheVariants as p
-use Rattle.smv_expression_reader.specs.declared.parts.Part.{Part}
-use Rattle.smv_expression_reader.specs.Build as machine
+use Rattle.smv_language.specs.ExpressionTree.{tree_of, branch_trees}
+use Rattle.smv_expression_reader.specs.declared.parts.Pending.TheVariants as p
+use Rattle.smv_expression_reader.specs.declared.parts.Pending.{Pending}
+use Rattle.smv_expression_reader.specs.TreeBuilder as machine
 use Rattle.smv_language.specs.ProgramTree.{Path}
 use Rattle.smv_language.specs.Tree.{Tree}
 
 -- each part of the code, by its name in the machine
-abbrev pub part_view : Part → machine.Part
+abbrev pub part_view : Pending → machine.Part
 part_view p.Minus = machine.minus_part
 part_view p.Bang = machine.bang_part
 part_view (p.Left o a) = machine.left_part o (tree_of a.tree)
@@ -21,12 +21,12 @@ part_view (p.Condition bs) = machine.condition_part (map branch_trees bs.branche
 part_view (p.Outcome bs c) = machine.outcome_part (map branch_trees bs.branches) (tree_of c.tree)
 
 -- the stack, whose top is the vector's last
-abbrev pub parts_onto : List machine.Part → List Part → List machine.Part
+abbrev pub parts_onto : List machine.Part → List Pending → List machine.Part
 parts_onto s [] = s
 parts_onto s (x ∷ xs) = parts_onto (part_view x ∷ s) xs
 
 -- the stack of a vector of parts
-unfoldable pub parts_of : List Part → List machine.Part
+unfoldable pub parts_of : List Pending → List machine.Part
 parts_of xs = parts_onto [] xs
 
 -- an operand over the parts that wait

@@ -1,15 +1,15 @@
 -- The code's roles, frames and modes, as those of the machine.
 use Rattle.std.specs.Prelude.{Bool, true, false, List, [], ◌∷◌}
-use Rattle.smv_expression_reader.specs.declared.machine.Role.TheVariants as r
-use Rattle.smv_expression_reader.specs.declared.machine.Role.{Role}
-use Rattle.smv_expression_reader.specs.declared.frames.Frame.TheVariants as f
-use Rattle.smv_expression_reader.specs.declared.frames.Frame.{Frame}
+use Rattle.smv_expression_reader.specs.declared.machine.TokenRole.TheVariants as r
+use Rattle.smv_expression_reader.specs.declared.machine.TokenRole.{TokenRole}
+use Rattle.smv_expression_reader.specs.declared.frames.OpenFrame.TheVariants as f
+use Rattle.smv_expression_reader.specs.declared.frames.OpenFrame.{OpenFrame}
 use Rattle.smv_expression_reader.specs.declared.machine.Mode.TheVariants as m
 use Rattle.smv_expression_reader.specs.declared.machine.Mode.{Mode}
-use Rattle.smv_expression_reader.specs.Recognise as machine
+use Rattle.smv_expression_reader.specs.Recogniser as machine
 
 -- each role of the code, by its name in the machine
-abbrev pub role_view : Role → machine.Role
+abbrev pub role_view : TokenRole → machine.Role
 role_view (r.Truth b) = machine.a_truth b
 role_view r.Name = machine.a_name
 role_view r.Number = machine.a_number
@@ -32,7 +32,7 @@ role_view r.ClosesSet = machine.closes_set
 role_view r.Nothing = machine.no_role
 
 -- each frame of the code, by its name in the machine
-abbrev pub frame_view : Frame → machine.Frame
+abbrev pub frame_view : OpenFrame → machine.Frame
 frame_view f.Group = machine.group
 frame_view f.Moment = machine.moment
 frame_view f.Members = machine.members
@@ -41,12 +41,12 @@ frame_view f.Condition = machine.condition
 frame_view f.Outcome = machine.outcome
 
 -- the stack, whose top is the vector's last
-abbrev pub stack_onto : List machine.Frame → List Frame → List machine.Frame
+abbrev pub stack_onto : List machine.Frame → List OpenFrame → List machine.Frame
 stack_onto s [] = s
 stack_onto s (x ∷ xs) = stack_onto (frame_view x ∷ s) xs
 
 -- the stack of a vector of frames
-unfoldable pub stack_of : List Frame → List machine.Frame
+unfoldable pub stack_of : List OpenFrame → List machine.Frame
 stack_of xs = stack_onto [] xs
 
 -- the state of a mode, with this stack

@@ -1,12 +1,13 @@
-// What is left of the tokens of a text, for the second pass of each reader.
-//
-// Contracts say what a call reads by the functions on lexemes of `specs/Reads.antt`: a part and what is behind it,
-// that an expression is too deep, or that no part stands there.
+//! What is left of the tokens of a text, for the second pass of each reader.
+//!
+//! Contracts say what a call reads by the functions on lexemes of `specs/SecondPass.antt`: a part and what is behind it,
+//! that an expression is too deep, or that no part stands there.
 ghost use Rattle.std.specs.Prelude.{◌≡◌, Err, IfOk, length, drop, if◌then◌else◌};
-ghost use Rattle.smv_language.specs.Written.{tree_of};
+ghost use Rattle.smv_language.specs.ExpressionTree.{tree_of};
 ghost use Rattle.smv_expression_reader.specs.declared.fault.BuildFault.TheVariants as stop;
 ghost use Rattle.smv_expression_reader.specs.MarkView.{mark_view};
-ghost use Rattle.smv_expression_reader.specs.Reads.{got, deep, none, mark_at, rest_of, has_next, expect_at, has_word, word_at, end_at, name_at, number_at, int_at, text_at, expr_at, goes_on, is_past};
+ghost use Rattle.smv_expression_reader.specs.SecondPass.{got, deep, none, mark_at, rest_of, has_next, expect_at, has_word, word_at, end_at};
+ghost use Rattle.smv_expression_reader.specs.SecondPass.{name_at, number_at, int_at, text_at, expr_at, goes_on, is_past};
 
 use crate::extent::reach;
 use crate::fault::BuildFault;

@@ -1,12 +1,12 @@
-// How far an expression reaches, and how deep its parentheses are nested: `reach`.
-//
-// The second pass asks this before it makes a tree: an expression within a program or an instruction ends at the first
-// token with which its recogniser is stuck.
+//! How far an expression reaches, and how deep its parentheses are nested: `reach`.
+//!
+//! The second pass asks this before it makes a tree: an expression within a program or an instruction ends at the first
+//! token with which its recogniser is stuck.
 ghost use Rattle.std.specs.Prelude.{◌≡◌, ◌≤◌, IfOk, length};
-ghost use Rattle.smv_expression_reader.specs.Recognise as machine;
+ghost use Rattle.smv_expression_reader.specs.Recogniser as machine;
 ghost use Rattle.smv_expression_reader.specs.Extents.{reach_of, is_deep, ends_whole};
 
-use crate::frames::Frames;
+use crate::frames::OpenFrames;
 use crate::grown::DEEPEST;
 use crate::machine::{Mode, is_stuck, is_whole, step};
 use crate::token::TokenText;
@@ -35,7 +35,7 @@ pub fn reach(alloc: Global, tokens: &[TokenText]) -> Result<Extent, OutOfMemory>
     ensures deep { IfOk result (λ extent. extent.deep ≡ is_deep machine.start tokens.now) }
     ensures whole { IfOk result (λ extent. extent.whole ≡ ends_whole machine.start tokens.now) }
 {
-    let mut frames = Frames::new(alloc);
+    let mut frames = OpenFrames::new(alloc);
     let mut mode = Mode::Wants;
     let mut deep = false;
     for (len, token) in tokens.iter().enumerate() {

@@ -1,6 +1,6 @@
-// Why bytes spell no tree: `ParseFault`, which callers of the readers see, and the two that stand inside.
-//
-// `GrowFault` is that of one node, and `BuildFault` that of a second pass.
+//! Why bytes spell no tree: `ParseFault`, which callers of the readers see, and the two that stand inside.
+//!
+//! `GrowFault` is that of one node, and `BuildFault` that of a second pass.
 ghost use Rattle.std.specs.Prelude.{◌≡◌};
 ghost use Rattle.smv_expression_reader.specs.declared.fault.ParseFault.TheVariants as fault;
 ghost use Rattle.smv_expression_reader.specs.declared.fault.GrowFault.TheVariants as grow;

@@ -1,6 +1,6 @@
-// What is open in an expression: `Frames`, a stack of open parts.
-//
-// It counts its parentheses, so that how deep they are nested takes no walk.
+//! What is open in an expression: `OpenFrames`, a stack of open parts.
+//!
+//! It counts its parentheses, so that how deep they are nested takes no walk.
 ghost use Rattle.std.specs.Prelude.{◌≡◌, ◌≤◌, ◌∷◌, [], OnOk, IfSome, None};
 ghost use Rattle.smv_expression_reader.specs.Views.{frame_view, has_no_frame};
 ghost use Rattle.smv_expression_reader.specs.Depth.{groups};
@@ -11,7 +11,7 @@ use std::marker::Model;
 
 /// What is open.
 #[derive(Clone, Copy, Debug, PartialEq, Eq)]
-pub enum Frame {
+pub enum OpenFrame {
     Group,
     Moment,
     Members,
@@ -22,14 +22,14 @@ pub enum Frame {
 
 /// All that is open, which contracts see as a list with the innermost first.
 #[derive(Drop)]
-pub struct Frames {
-    frames: Vec<Frame>,
+pub struct OpenFrames {
+    frames: Vec<OpenFrame>,
     groups: usize,
 }
 
-impl Model for Frames {
+impl Model for OpenFrames {
     ghost use Rattle.std.specs.Prelude.{◌≡◌, List};
-    ghost use Rattle.smv_expression_reader.specs.Recognise as machine;
+    ghost use Rattle.smv_expression_reader.specs.Recogniser as machine;
     ghost use Rattle.smv_expression_reader.specs.Views.{stack_of};
     ghost use Rattle.smv_expression_reader.specs.Depth.{groups as open_groups};
 
@@ -41,23 +41,23 @@ impl Model for Frames {
 }
 
 /// How many groups a frame is.
-fn weight(frame: Frame) -> usize
+fn weight(frame: OpenFrame) -> usize
     ensures value { result ≡ groups (frame_view frame ∷ []) }
     ensures small { result ≤ 1 }
 {
     match frame {
-        Frame::Group => 1,
+        OpenFrame::Group => 1,
         _ => 0,
     }
 }
 
-impl Frames {
+impl OpenFrames {
     /// Nothing is open.
     #[tactic(auto, using(crate::proofs::Stacks::no_frames))]
-    pub fn new(alloc: Global) -> Frames
+    pub fn new(alloc: Global) -> OpenFrames
         ensures { result ≡ [] }
     {
-        Frames {
+        OpenFrames {
             frames: Vec::new(alloc),
             groups: 0,
         }
@@ -65,7 +65,7 @@ impl Frames {
 
     /// Opens a frame.
     #[tactic(auto, using(crate::proofs::Stacks::pushed, crate::proofs::Stacks::groups_popped, crate::proofs::Stacks::groups_within))]
-    pub fn push(&mut self, frame: Frame) -> Result<(), OutOfMemory>
+    pub fn push(&mut self, frame: OpenFrame) -> Result<(), OutOfMemory>
         ensures { OnOk result (self.new ≡ frame_view frame ∷ self.old) }
     {
         self.frames.push(frame)?;
@@ -75,7 +75,7 @@ impl Frames {
 
     /// Closes the innermost frame.
     #[tactic(auto, using(crate::proofs::Stacks::pushed, crate::proofs::Stacks::no_frames, crate::proofs::Stacks::groups_popped))]
-    pub fn pop(&mut self) -> Option<Frame>
+    pub fn pop(&mut self) -> Option<OpenFrame>
         ensures some { IfSome result (λ frame. self.old ≡ frame_view frame ∷ self.new) }
         ensures none { result ≡ None → (self.old ≡ []) × (self.new ≡ []) }
     {

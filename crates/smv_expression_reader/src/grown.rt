@@ -1,10 +1,11 @@
-// Trees that are at most `DEEPEST` high, with their heights: `Grown`.
-//
-// That the height is exact and within the limit is part of the type, and a function that joins operands refuses a tree that
-// would be higher. So no tree above the limit is ever made or dropped.
+//! Trees that are at most `DEEPEST` high, with their heights: `Grown`.
+//!
+//! That the height is exact and within the limit is part of the type, and a function that joins operands refuses a tree that
+//! would be higher. So no tree above the limit is ever made or dropped.
 ghost use Rattle.std.specs.Prelude.{◌≡◌, ◌<◌, ◌≤◌, ◌+◌, ◌++◌, ◌∷◌, [], Err, IfOk, map};
-ghost use Rattle.smv_language.specs.Tree.{truth, number, leaf, not_of, negate, next_of, binary, choice, case_of, set_of, span, trees_from, branches_from, height_of, trees_height, branches_height};
-ghost use Rattle.smv_language.specs.Written.{tree_of, branch_trees};
+ghost use Rattle.smv_language.specs.Tree.{truth, number, leaf, not_of, negate, next_of, binary, choice, case_of, set_of, span, trees_from};
+ghost use Rattle.smv_language.specs.Tree.{branches_from, height_of, trees_height, branches_height};
+ghost use Rattle.smv_language.specs.ExpressionTree.{tree_of, branch_trees};
 ghost use Rattle.smv_language.specs.Limits.{deepest};
 
 use crate::fault::GrowFault;
@@ -159,7 +160,8 @@ impl Grown {
     /// `first` where the test holds, and else `last`; `TooDeep` where it would be too high.
     pub fn choice(alloc: Global, test: Grown, first: Grown, last: Grown) -> Result<Grown, GrowFault>
         ensures ok { IfOk result (λ made. tree_of made.tree ≡ choice (tree_of test.tree) (tree_of first.tree) (tree_of last.tree)) }
-        ensures deep { result ≡ Err GrowFault.TooDeep → deepest < height_of (choice (tree_of test.tree) (tree_of first.tree) (tree_of last.tree)) }
+        ensures deep { result ≡ Err GrowFault.TooDeep →
+            deepest < height_of (choice (tree_of test.tree) (tree_of first.tree) (tree_of last.tree)) }
     {
         let height = height_over(test.height.max(first.height.max(last.height)))?;
         let test = boxed(alloc, test.tree)?;

@@ -16,9 +16,9 @@
 //! marks (`mark`), the machine and what is open in it (`machine`, `frames`), what a first pass answers (`reading`),
 //! and for the second what is left of the tokens (`cursor`) and why no tree was made (`fault`).
 //!
-//! `specs/Recognise.antt` has the first pass as a function on lexemes, `specs/Build.antt` the second,
-//! `specs/Complete.antt` a text that completes what stands before it, `specs/Predict.antt` any grammar in which one
-//! token decides what is still expected, `specs/Marks.antt` what a lexeme is outside expressions, `specs/Reads.antt`
+//! `specs/Recogniser.antt` has the first pass as a function on lexemes, `specs/TreeBuilder.antt` the second,
+//! `specs/Complete.antt` a text that completes what stands before it, `specs/PredictiveReader.antt` any grammar in which one
+//! token decides what is still expected, `specs/Marks.antt` what a lexeme is outside expressions, `specs/SecondPass.antt`
 //! what a second pass reads part by part, and `proofs/` the laws by which the calls answer what the grammar says.
 //!
 //! ```text

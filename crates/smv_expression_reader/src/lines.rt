@@ -1,8 +1,7 @@
-// The lines of the grammar by number, from the loosest to the tightest: `at_expr` to `at_not` of `Spells` in `smv_language`.
-//
-// An operator of a line takes operands of that line or a tighter one, so the numbers say which operator groups first.
-// `looseness` and `level` of `parts` give the line of an operator and of what waits for an operand.
-
+//! The lines of the grammar by number, from the loosest to the tightest: `at_expr` to `at_not` of `Spells` in `smv_language`.
+//!
+//! An operator of a line takes operands of that line or a tighter one, so the numbers say which operator groups first.
+//! `looseness` and `level` of `parts` give the line of an operator and of what waits for an operand.
 /// An expression: `->`, which groups to the right, and whatever stands below.
 pub const AT_EXPRESSION: u32 = 0;
 

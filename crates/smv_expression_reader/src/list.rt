@@ -1,23 +1,23 @@
-// How far a list of expressions can be read, and its trees: `read_list` and `list_trees`.
-//
-// A semicolon ends each expression but the last, where it may be left out, and there is at least one.
+//! How far a list of expressions can be read, and its trees: `read_list` and `list_trees`.
+//!
+//! A semicolon ends each expression but the last, where it may be left out, and there is at least one.
 ghost use Rattle.std.specs.Prelude.{◌≡◌, ◌∷◌, [], List, Some, false, Err, IfOk, IfSome, map};
-ghost use Rattle.smv_expression_reader.specs.Recognise as machine;
+ghost use Rattle.smv_expression_reader.specs.Recogniser as machine;
 ghost use Rattle.smv_expression_reader.specs.Views.{role_view, state_with};
-ghost use Rattle.smv_expression_reader.specs.Recognise.{role_of};
-ghost use Rattle.smv_expression_reader.specs.Predict.{all_empty};
+ghost use Rattle.smv_expression_reader.specs.Recogniser.{role_of};
+ghost use Rattle.smv_expression_reader.specs.PredictiveReader.{all_empty};
 ghost use Rattle.smv_expression_reader.specs.Formulas as lists;
 ghost use Rattle.smv_expression_reader.specs.declared.fault.BuildFault.TheVariants as stop;
-ghost use Rattle.smv_expression_reader.specs.Reads.{got, deep, none, some_at, goes_on, expr_at, next_expr, exprs_at};
-ghost use Rattle.smv_language.specs.Written.{tree_of};
+ghost use Rattle.smv_expression_reader.specs.SecondPass.{got, deep, none, some_at, goes_on, expr_at, next_expr, exprs_at};
+ghost use Rattle.smv_language.specs.ExpressionTree.{tree_of};
 ghost use Rattle.smv_expression_reader.specs.Lists.{place_view, after_view, stepped, Fits, ListReads};
 
 use crate::cursor::Cursor;
 use crate::fault::BuildFault;
-use crate::frames::Frames;
-use crate::machine::{Mode, Role, is_stuck, is_whole, step};
+use crate::frames::OpenFrames;
+use crate::machine::{Mode, TokenRole, is_stuck, is_whole, step};
 use crate::mark::Mark;
-use crate::reading::Reading;
+use crate::reading::ReadExtent;
 use crate::token::TokenText;
 use base_values::{Dotted, Items, OutOfMemory};
 use smv_language::ExprList;
@@ -25,7 +25,7 @@ use std::alloc::Global;
 
 /// Where a list of expressions is read.
 #[derive(Clone, Copy, Debug, PartialEq, Eq)]
-pub enum Place {
+pub enum ListPlace {
     /// At its first expression.
     First,
     /// After a semicolon.
@@ -36,7 +36,7 @@ pub enum Place {
 
 /// The first token of an expression.
 #[tactic(auto, using(crate::proofs::ListLaws::live_stuck))]
-fn begin_step(frames: &mut Frames, token: &TokenText) -> Result<Option<Place>, OutOfMemory>
+fn begin_step(frames: &mut OpenFrames, token: &TokenText) -> Result<Option<ListPlace>, OutOfMemory>
     requires { frames.old ≡ [] }
     ensures next { IfOk result (λ place. after_view place frames.new
         ≡ lists.live (machine.step machine.start (role_of token.now)) (lists.more ∷ [])) }
@@ -46,16 +46,16 @@ fn begin_step(frames: &mut Frames, token: &TokenText) -> Result<Option<Place>, O
     if is_stuck(mode) {
         Ok(None)
     } else {
-        Ok(Some(Place::Inside(mode)))
+        Ok(Some(ListPlace::Inside(mode)))
     }
 }
 
 /// One more token in an expression, or the semicolon behind it.
 fn inside_step(
     mode: Mode,
-    frames: &mut Frames,
+    frames: &mut OpenFrames,
     token: &TokenText,
-) -> Result<Option<Place>, OutOfMemory>
+) -> Result<Option<ListPlace>, OutOfMemory>
     requires { machine.is_stuck (state_with mode frames.old) ≡ false }
     ensures next { IfOk result (λ place. after_view place frames.new
         ≡ stepped (lists.live (state_with mode frames.old) (lists.more ∷ [])) token.now) }
@@ -65,21 +65,21 @@ fn inside_step(
     let role = token.role();
     let next = step(mode, frames, role)?;
     if !is_stuck(next) {
-        Ok(Some(Place::Inside(next)))
+        Ok(Some(ListPlace::Inside(next)))
     } else if whole && is_semicolon(role) {
         frames.clear();
-        Ok(Some(Place::Again))
+        Ok(Some(ListPlace::Again))
     } else {
         Ok(None)
     }
 }
 
 /// Whether a token ends an expression of a list.
-fn is_semicolon(role: Role) -> bool
+fn is_semicolon(role: TokenRole) -> bool
     ensures { result ≡ lists.is_semicolon (role_view role) }
 {
     match role {
-        Role::Semicolon => true,
+        TokenRole::Semicolon => true,
         _ => false,
     }
 }
@@ -87,49 +87,49 @@ fn is_semicolon(role: Role) -> bool
 /// One more token, and nothing where no list goes on with it.
 #[tactic(auto, using(crate::proofs::ListLaws::begins_first, crate::proofs::ListLaws::begins_again))]
 fn list_step(
-    place: Place,
-    frames: &mut Frames,
+    place: ListPlace,
+    frames: &mut OpenFrames,
     token: &TokenText,
-) -> Result<Option<Place>, OutOfMemory>
+) -> Result<Option<ListPlace>, OutOfMemory>
     requires { Fits place frames.old }
     ensures next { IfOk result (λ new. after_view new frames.new ≡ stepped (place_view place frames.old) token.now) }
     ensures fits { IfOk result (λ new. IfSome new (λ p. Fits p frames.new)) }
 {
     match place {
-        Place::First => begin_step(frames, token),
-        Place::Again => begin_step(frames, token),
-        Place::Inside(mode) => inside_step(mode, frames, token),
+        ListPlace::First => begin_step(frames, token),
+        ListPlace::Again => begin_step(frames, token),
+        ListPlace::Inside(mode) => inside_step(mode, frames, token),
     }
 }
 
 /// Whether the list may end here.
 #[tactic(auto, using(crate::proofs::ListLaws::inside_ends))]
-fn may_end(place: Place, frames: &Frames) -> bool
+fn may_end(place: ListPlace, frames: &OpenFrames) -> bool
     ensures { (s : List lists.Sym) → place_view place frames.now ≡ Some s → result ≡ all_empty lists.Sym lists.formulas s }
 {
     match place {
-        Place::First => false,
-        Place::Again => true,
-        Place::Inside(mode) => is_whole(mode, frames),
+        ListPlace::First => false,
+        ListPlace::Again => true,
+        ListPlace::Inside(mode) => is_whole(mode, frames),
     }
 }
 
 /// How far a list of expressions can be read, and its trees.
-pub fn read_list(alloc: Global, tokens: &[TokenText]) -> Result<Reading, OutOfMemory>
+pub fn read_list(alloc: Global, tokens: &[TokenText]) -> Result<ReadExtent, OutOfMemory>
     ensures { IfOk result (λ reading. ListReads tokens.now reading) }
 {
-    let mut frames = Frames::new(alloc);
-    let mut place = Place::First;
+    let mut frames = OpenFrames::new(alloc);
+    let mut place = ListPlace::First;
     for (i, token) in tokens.iter().enumerate() {
         match list_step(place, &mut frames, token)? {
             Some(next) => place = next,
-            None => return Ok(Reading::Stopped(i)),
+            None => return Ok(ReadExtent::Stopped(i)),
         }
     }
     if may_end(place, &frames) {
-        Ok(Reading::Whole)
+        Ok(ReadExtent::Whole)
     } else {
-        Ok(Reading::Unfinished)
+        Ok(ReadExtent::Unfinished)
     }
 }
 

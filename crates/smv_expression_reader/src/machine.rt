@@ -1,18 +1,18 @@
-// The recogniser of expressions: what may come next, and a stack of what is open.
-//
-// Every list of operands with operators between them is an expression, whatever the operators are,
-// so no precedence is needed to say which lists go on. `step` takes one token.
+//! The recogniser of expressions: what may come next, and a stack of what is open.
+//!
+//! Every list of operands with operators between them is an expression, whatever the operators are,
+//! so no precedence is needed to say which lists go on. `step` takes one token.
 ghost use Rattle.std.specs.Prelude.{◌≡◌, ◌∷◌, [], List, IfOk};
-ghost use Rattle.smv_expression_reader.specs.Recognise as machine;
+ghost use Rattle.smv_expression_reader.specs.Recogniser as machine;
 ghost use Rattle.smv_expression_reader.specs.Views.{role_view, frame_view, state_with};
 
-use crate::frames::{Frame, Frames};
+use crate::frames::{OpenFrame, OpenFrames};
 use base_values::OutOfMemory;
 use smv_language::Op;
 
 /// What a token is in an expression.
 #[derive(Clone, Copy, Debug, PartialEq, Eq)]
-pub enum Role {
+pub enum TokenRole {
     Truth(bool),
     Name,
     Number,
@@ -54,7 +54,7 @@ pub enum Mode {
 }
 
 /// Opens a part, at the beginning of which an operand is wanted.
-fn open(frames: &mut Frames, frame: Frame) -> Result<Mode, OutOfMemory>
+fn open(frames: &mut OpenFrames, frame: OpenFrame) -> Result<Mode, OutOfMemory>
     ensures { IfOk result (λ mode. state_with mode frames.new ≡ machine.wants (frame_view frame ∷ frames.old)) }
 {
     frames.push(frame)?;
@@ -62,40 +62,40 @@ fn open(frames: &mut Frames, frame: Frame) -> Result<Mode, OutOfMemory>
 }
 
 /// What begins an operand, other than `-`.
-fn begin(frames: &mut Frames, role: Role) -> Result<Mode, OutOfMemory>
+fn begin(frames: &mut OpenFrames, role: TokenRole) -> Result<Mode, OutOfMemory>
     ensures { IfOk result (λ mode. state_with mode frames.new ≡ machine.begin frames.old (role_view role)) }
 {
     match role {
-        Role::Truth(_) => Ok(Mode::Had),
-        Role::Name => Ok(Mode::HadName),
-        Role::Number => Ok(Mode::HadNumber),
-        Role::Next => Ok(Mode::WantsOpen),
-        Role::Case => open(frames, Frame::Condition),
-        Role::Bang => Ok(Mode::WantsNot),
-        Role::Opens => open(frames, Frame::Group),
-        Role::OpensSet => open(frames, Frame::Members),
+        TokenRole::Truth(_) => Ok(Mode::Had),
+        TokenRole::Name => Ok(Mode::HadName),
+        TokenRole::Number => Ok(Mode::HadNumber),
+        TokenRole::Next => Ok(Mode::WantsOpen),
+        TokenRole::Case => open(frames, OpenFrame::Condition),
+        TokenRole::Bang => Ok(Mode::WantsNot),
+        TokenRole::Opens => open(frames, OpenFrame::Group),
+        TokenRole::OpensSet => open(frames, OpenFrame::Members),
         _ => Ok(Mode::Stuck),
     }
 }
 
 /// What closes this frame, or goes on inside it.
-fn shut(frames: &mut Frames, frame: Frame, role: Role) -> Result<Mode, OutOfMemory>
+fn shut(frames: &mut OpenFrames, frame: OpenFrame, role: TokenRole) -> Result<Mode, OutOfMemory>
     ensures { IfOk result (λ mode. state_with mode frames.new ≡ machine.close (frame_view frame ∷ frames.old) (role_view role)) }
 {
     match (frame, role) {
-        (Frame::Group, Role::Closes) => Ok(Mode::Had),
-        (Frame::Moment, Role::Closes) => Ok(Mode::Had),
-        (Frame::Members, Role::ClosesSet) => Ok(Mode::Had),
-        (Frame::Members, Role::Comma) => open(frames, Frame::Members),
-        (Frame::FirstChoice, Role::Colon) => Ok(Mode::Wants),
-        (Frame::Condition, Role::Colon) => open(frames, Frame::Outcome),
-        (Frame::Outcome, Role::Semicolon) => Ok(Mode::WantsBranch),
+        (OpenFrame::Group, TokenRole::Closes) => Ok(Mode::Had),
+        (OpenFrame::Moment, TokenRole::Closes) => Ok(Mode::Had),
+        (OpenFrame::Members, TokenRole::ClosesSet) => Ok(Mode::Had),
+        (OpenFrame::Members, TokenRole::Comma) => open(frames, OpenFrame::Members),
+        (OpenFrame::FirstChoice, TokenRole::Colon) => Ok(Mode::Wants),
+        (OpenFrame::Condition, TokenRole::Colon) => open(frames, OpenFrame::Outcome),
+        (OpenFrame::Outcome, TokenRole::Semicolon) => Ok(Mode::WantsBranch),
         _ => Ok(Mode::Stuck),
     }
 }
 
 /// What closes the innermost frame, or goes on inside it.
-fn close(frames: &mut Frames, role: Role) -> Result<Mode, OutOfMemory>
+fn close(frames: &mut OpenFrames, role: TokenRole) -> Result<Mode, OutOfMemory>
     ensures { IfOk result (λ mode. state_with mode frames.new ≡ machine.close frames.old (role_view role)) }
 {
     match frames.pop() {
@@ -105,40 +105,40 @@ fn close(frames: &mut Frames, role: Role) -> Result<Mode, OutOfMemory>
 }
 
 /// What follows an operand.
-fn follow(frames: &mut Frames, role: Role) -> Result<Mode, OutOfMemory>
+fn follow(frames: &mut OpenFrames, role: TokenRole) -> Result<Mode, OutOfMemory>
     ensures { IfOk result (λ mode. state_with mode frames.new ≡ machine.follow frames.old (role_view role)) }
 {
     match role {
-        Role::Joins(_) | Role::Minus => Ok(Mode::Wants),
-        Role::Asks => open(frames, Frame::FirstChoice),
+        TokenRole::Joins(_) | TokenRole::Minus => Ok(Mode::Wants),
+        TokenRole::Asks => open(frames, OpenFrame::FirstChoice),
         _ => close(frames, role),
     }
 }
 
 /// What may come after one more token.
-pub fn step(mode: Mode, frames: &mut Frames, role: Role) -> Result<Mode, OutOfMemory>
+pub fn step(mode: Mode, frames: &mut OpenFrames, role: TokenRole) -> Result<Mode, OutOfMemory>
     ensures { IfOk result (λ new. state_with new frames.new ≡ machine.step (state_with mode frames.old) (role_view role)) }
 {
     match (mode, role) {
-        (Mode::Wants, Role::Minus) => Ok(Mode::Wants),
+        (Mode::Wants, TokenRole::Minus) => Ok(Mode::Wants),
         (Mode::Wants, _) => begin(frames, role),
-        (Mode::WantsNot, Role::Minus) => Ok(Mode::WantsLow),
+        (Mode::WantsNot, TokenRole::Minus) => Ok(Mode::WantsLow),
         (Mode::WantsNot, _) => begin(frames, role),
-        (Mode::WantsLow, Role::Number) => Ok(Mode::WantsDots),
-        (Mode::WantsDots, Role::Dots) => Ok(Mode::WantsHigh),
-        (Mode::WantsHigh, Role::Minus) => Ok(Mode::WantsDigits),
-        (Mode::WantsHigh, Role::Number) => Ok(Mode::Had),
-        (Mode::WantsDigits, Role::Number) => Ok(Mode::Had),
-        (Mode::WantsName, Role::Name) => Ok(Mode::HadName),
-        (Mode::WantsOpen, Role::Opens) => open(frames, Frame::Moment),
-        (Mode::WantsBranch, Role::Esac) => Ok(Mode::Had),
-        (Mode::WantsBranch, Role::Minus) => open(frames, Frame::Condition),
+        (Mode::WantsLow, TokenRole::Number) => Ok(Mode::WantsDots),
+        (Mode::WantsDots, TokenRole::Dots) => Ok(Mode::WantsHigh),
+        (Mode::WantsHigh, TokenRole::Minus) => Ok(Mode::WantsDigits),
+        (Mode::WantsHigh, TokenRole::Number) => Ok(Mode::Had),
+        (Mode::WantsDigits, TokenRole::Number) => Ok(Mode::Had),
+        (Mode::WantsName, TokenRole::Name) => Ok(Mode::HadName),
+        (Mode::WantsOpen, TokenRole::Opens) => open(frames, OpenFrame::Moment),
+        (Mode::WantsBranch, TokenRole::Esac) => Ok(Mode::Had),
+        (Mode::WantsBranch, TokenRole::Minus) => open(frames, OpenFrame::Condition),
         (Mode::WantsBranch, _) => {
-            frames.push(Frame::Condition)?;
+            frames.push(OpenFrame::Condition)?;
             begin(frames, role)
         }
-        (Mode::HadNumber, Role::Dots) => Ok(Mode::WantsHigh),
-        (Mode::HadName, Role::Dot) => Ok(Mode::WantsName),
+        (Mode::HadNumber, TokenRole::Dots) => Ok(Mode::WantsHigh),
+        (Mode::HadName, TokenRole::Dot) => Ok(Mode::WantsName),
         (Mode::HadNumber | Mode::HadName | Mode::Had, _) => follow(frames, role),
         _ => Ok(Mode::Stuck),
     }
@@ -162,7 +162,7 @@ fn has_operand(mode: Mode) -> bool
 }
 
 /// Whether an operand stands here and nothing is open.
-pub fn is_whole(mode: Mode, frames: &Frames) -> bool
+pub fn is_whole(mode: Mode, frames: &OpenFrames) -> bool
     ensures { result ≡ machine.is_whole (state_with mode frames.now) }
 {
     has_operand(mode) && frames.is_empty()

@@ -1,6 +1,6 @@
-// What a token is outside expressions: a `Mark`.
-//
-// The readers of programs and of instructions decide by it what comes next. The words of instructions are names here.
+//! What a token is outside expressions: a `Mark`.
+//!
+//! The readers of programs and of instructions decide by it what comes next. The words of instructions are names here.
 ghost use Rattle.std.specs.Prelude.{◌≡◌};
 ghost use Rattle.smv_expression_reader.specs.MarkView.{mark_view, is_mark};
 

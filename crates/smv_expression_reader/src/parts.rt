@@ -1,13 +1,13 @@
-// What waits for an operand to its right, on a stack of `Part`s.
-//
-// `reduce` gives an operand to all that take it before the operator which follows, and so makes the order of operators:
-// the tighter one takes its operand first, and of two in one line the left one.
+//! What waits for an operand to its right, on a stack of `Pending`s.
+//!
+//! `reduce` gives an operand to all that take it before the operator which follows, and so makes the order of operators:
+//! the tighter one takes its operand first, and of two in one line the left one.
 ghost use Rattle.std.specs.Prelude.{◌≡◌, ◌<◌, ◌∷◌, [], None, Err, IfOk, IfSome, length};
 ghost use Rattle.smv_language.specs.Spells.{line_of};
 ghost use Rattle.smv_language.specs.Tree.{height_of};
-ghost use Rattle.smv_expression_reader.specs.Build as machine;
+ghost use Rattle.smv_expression_reader.specs.TreeBuilder as machine;
 ghost use Rattle.smv_expression_reader.specs.PartViews.{part_view, parts_of, held};
-ghost use Rattle.smv_language.specs.Written.{tree_of};
+ghost use Rattle.smv_language.specs.ExpressionTree.{tree_of};
 ghost use Rattle.smv_language.specs.Limits.{deepest};
 ghost use Rattle.smv_expression_reader.specs.Heights.{held_height};
 
@@ -23,7 +23,7 @@ use std::alloc::Global;
 
 /// What waits for the operand to its right.
 #[derive(Drop)]
-pub enum Part {
+pub enum Pending {
     Minus,
     Bang,
     Left(Op, Grown),
@@ -38,7 +38,7 @@ pub enum Part {
 
 /// One part more waits.
 #[tactic(auto, using(crate::proofs::PartStacks::pushed_part))]
-pub fn push(parts: &mut Vec<Part>, part: Part) -> Result<(), OutOfMemory>
+pub fn push(parts: &mut Vec<Pending>, part: Pending) -> Result<(), OutOfMemory>
     ensures { IfOk result (λ _. parts_of parts.new.items ≡ part_view part ∷ parts_of parts.old.items) }
 {
     match parts.push(part) {
@@ -49,7 +49,7 @@ pub fn push(parts: &mut Vec<Part>, part: Part) -> Result<(), OutOfMemory>
 
 /// The innermost part, taken away.
 #[tactic(auto, using(crate::proofs::PartStacks::pushed_part, crate::proofs::PartStacks::no_parts))]
-pub fn pop(parts: &mut Vec<Part>) -> Option<Part>
+pub fn pop(parts: &mut Vec<Pending>) -> Option<Pending>
     ensures some { IfSome result (λ part. parts_of parts.old.items ≡ part_view part ∷ parts_of parts.new.items) }
     ensures none { result ≡ None → parts_of parts.old.items ≡ [] }
     ensures gone { result ≡ None → parts_of parts.new.items ≡ [] }
@@ -62,15 +62,15 @@ pub fn pop(parts: &mut Vec<Part>) -> Option<Part>
 }
 
 /// The part, with its operand.
-fn join(alloc: Global, part: Part, operand: Grown) -> Result<Grown, GrowFault>
+fn join(alloc: Global, part: Pending, operand: Grown) -> Result<Grown, GrowFault>
     ensures ok { IfOk result (λ made. tree_of made.tree ≡ machine.joined (part_view part) (tree_of operand.tree)) }
     ensures deep { result ≡ Err GrowFault.TooDeep → deepest < height_of (machine.joined (part_view part) (tree_of operand.tree)) }
 {
     match part {
-        Part::Minus => Grown::negate(alloc, operand),
-        Part::Bang => Grown::not(alloc, operand),
-        Part::Left(op, left) => Grown::binary(alloc, op, left, operand),
-        Part::Answered(test, first) => Grown::choice(alloc, test, first, operand),
+        Pending::Minus => Grown::negate(alloc, operand),
+        Pending::Bang => Grown::not(alloc, operand),
+        Pending::Left(op, left) => Grown::binary(alloc, op, left, operand),
+        Pending::Answered(test, first) => Grown::choice(alloc, test, first, operand),
         _ => Ok(operand),
     }
 }
@@ -103,14 +103,14 @@ pub fn level(op: Op) -> u32
 }
 
 /// Whether a part takes its operand before what follows of this level.
-fn takes_operand(level: u32, part: &Part) -> bool
+fn takes_operand(level: u32, part: &Pending) -> bool
     ensures { result ≡ machine.takes_operand level (part_view part.now) }
 {
     match part {
-        Part::Minus => level <= AT_NEGATION,
-        Part::Bang => level <= AT_NOT,
-        Part::Left(op, _) => level <= looseness(*op),
-        Part::Answered(_, _) => level <= AT_CHOICE,
+        Pending::Minus => level <= AT_NEGATION,
+        Pending::Bang => level <= AT_NOT,
+        Pending::Left(op, _) => level <= looseness(*op),
+        Pending::Answered(_, _) => level <= AT_CHOICE,
         _ => false,
     }
 }
@@ -119,13 +119,14 @@ fn takes_operand(level: u32, part: &Part) -> bool
 #[tactic(auto, using(crate::proofs::PartStacks::takes, crate::proofs::PartStacks::stays, crate::proofs::Tallest::reduced_high))]
 pub fn reduce(
     alloc: Global,
-    parts: &mut Vec<Part>,
+    parts: &mut Vec<Pending>,
     level: u32,
     operand: Grown,
 ) -> Result<Grown, GrowFault>
     ensures ok { IfOk result (λ made. held (tree_of made.tree) (parts_of parts.new.items)
         ≡ machine.reduce level (tree_of operand.tree) (parts_of parts.old.items)) }
-    ensures deep { result ≡ Err GrowFault.TooDeep → deepest < held_height (machine.reduce level (tree_of operand.tree) (parts_of parts.old.items)) }
+    ensures deep { result ≡ Err GrowFault.TooDeep →
+        deepest < held_height (machine.reduce level (tree_of operand.tree) (parts_of parts.old.items)) }
 {
     let mut made = operand;
     while let Some(part) = pop(parts) {

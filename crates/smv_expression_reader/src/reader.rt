@@ -1,25 +1,25 @@
-// The two calls, and what each reader begins with: tokens, then how far they can be read, then the tree.
+//! The two calls, and what each reader begins with: tokens, then how far they can be read, then the tree.
 ghost use Rattle.std.specs.Prelude.{◌≡◌, ◌<◌, ◌≤◌, ◌^◌, List, Some, true, false, All, IfOk, IfErr, length, map, slice_get};
 ghost use Rattle.smv_lexer.specs.declared.token.Token.{Token};
 ghost use Rattle.smv_lexer.specs.Tokens.{HasTokens, StandsIn};
 ghost use Rattle.smv_language.specs.Tree.{height_of};
 ghost use Rattle.smv_language.specs.ProgramTree.{Formula};
-ghost use Rattle.smv_language.specs.Written.{tree_of};
+ghost use Rattle.smv_language.specs.ExpressionTree.{tree_of};
 ghost use Rattle.smv_language.specs.Lexemes.{Lexeme, lexemes_of};
 ghost use Rattle.smv_language.specs.Bytes.{BytesSpellExpr, HasDepths};
 ghost use Rattle.smv_language.specs.Limits.{deepest};
-ghost use Rattle.smv_expression_reader.specs.Recognise as machine;
-ghost use Rattle.smv_expression_reader.specs.Build.{built as machine_built};
+ghost use Rattle.smv_expression_reader.specs.Recogniser as machine;
+ghost use Rattle.smv_expression_reader.specs.TreeBuilder.{built as machine_built};
 ghost use Rattle.smv_expression_reader.specs.Extents.{is_deep};
 ghost use Rattle.smv_expression_reader.specs.Lists.{IsExpressions, BytesSpellExpressions};
-ghost use Rattle.smv_expression_reader.specs.Within.{HaveDepths, AreTooDeep};
+ghost use Rattle.smv_expression_reader.specs.ExpressionDepths.{HaveDepths, AreTooDeep};
 ghost use Rattle.smv_expression_reader.specs.Stops.{IsExpression, IsTooDeep, FaultMeans, IsOfTokens, is_left_out, stop_fault};
 
 use crate::cursor::Cursor;
 use crate::extent::reach;
 use crate::fault::{BuildFault, ParseFault};
 use crate::list::{list_trees, read_list};
-use crate::reading::Reading;
+use crate::reading::ReadExtent;
 use crate::token::{TokenText, token_texts};
 use crate::tree::tree;
 use base_values::Dotted;
@@ -140,9 +140,9 @@ fn check_list(
     ensures fault { IfErr result (λ fault. FaultMeans IsExpressions (AreTooDeep bytes.now) bytes.now fault) }
 {
     match read_list(alloc, texts)? {
-        Reading::Whole => Ok(()),
-        Reading::Unfinished => Err(ParseFault::End(bytes.len() as u32)),
-        Reading::Stopped(i) => Err(stop_at(tokens, texts, i)),
+        ReadExtent::Whole => Ok(()),
+        ReadExtent::Unfinished => Err(ParseFault::End(bytes.len() as u32)),
+        ReadExtent::Stopped(i) => Err(stop_at(tokens, texts, i)),
     }
 }
 

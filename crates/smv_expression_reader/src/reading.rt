@@ -1,8 +1,7 @@
-// What the first pass of a reader answers: how far a text can be read.
-
+//! What the first pass of a reader answers: how far a text can be read.
 /// How far a text can be read.
 #[derive(Clone, Copy, Debug, PartialEq, Eq)]
-pub enum Reading {
+pub enum ReadExtent {
     /// The tokens spell a tree.
     Whole,
     /// No text goes on with the token of this number, counted from 0.

@@ -1,20 +1,20 @@
-// A token with its text, as the grammar sees it: `TokenText`.
-//
-// Its role is what it is within an expression and its mark what it is outside, and it gives the name, the number or the
-// word that its text has. `token_texts` makes all of them from the tokens of a text.
+//! A token with its text, as the grammar sees it: `TokenText`.
+//!
+//! Its role is what it is within an expression and its mark what it is outside, and it gives the name, the number or the
+//! word that its text has. `token_texts` makes all of them from the tokens of a text.
 ghost use Rattle.std.specs.Prelude.{◌≡◌, ◌<◌, ◌≤◌, ◌-◌, ◌^◌, All, IfOk, pos};
 ghost use Rattle.smv_language.specs.Lexemes.{lexemes_of};
 ghost use Rattle.smv_language.specs.Spells.{minus};
 ghost use Rattle.smv_lexer.specs.Tokens.{number_of, StandsIn};
-ghost use Rattle.smv_expression_reader.specs.Recognise.{role_of, role_of_word};
+ghost use Rattle.smv_expression_reader.specs.Recogniser.{role_of, role_of_word};
 ghost use Rattle.smv_expression_reader.specs.Marks.{mark_of, mark_of_word, is_section};
-ghost use Rattle.smv_expression_reader.specs.Build.{name_in, number_in};
+ghost use Rattle.smv_expression_reader.specs.TreeBuilder.{name_in, number_in};
 ghost use Rattle.smv_expression_reader.specs.Views.{role_view};
 ghost use Rattle.smv_expression_reader.specs.MarkView.{mark_view};
 ghost use Rattle.smv_expression_reader.specs.Places.{lexeme_at, is_word, text_in};
 ghost use Rattle.smv_expression_reader.specs.Stops.{is_left_out};
 
-use crate::machine::Role;
+use crate::machine::TokenRole;
 use crate::mark::Mark;
 use crate::words::{begins_section, is_left_out, is_reserved, is_same, is_skipped};
 use base_values::{Name, OutOfMemory};
@@ -64,37 +64,38 @@ impl<'a> Model for TokenText<'a> {
 
     ghost view = { λ token. lexeme_of token.kind token.text.now };
 
-    ghost invariant = { λ token. (token.kind ≡ Number → number_of token.text.now ≤ 2 ^ 63 - 1) × (text_in (lexeme_of token.kind token.text.now) ≡ token.text.now) };
+    ghost invariant = { λ token. (token.kind ≡ Number → number_of token.text.now ≤ 2 ^ 63 - 1)
+        × (text_in (lexeme_of token.kind token.text.now) ≡ token.text.now) };
 }
 
 /// What a word is in an expression.
-fn word_role(text: &[u8]) -> Role
+fn word_role(text: &[u8]) -> TokenRole
     ensures { role_view result ≡ role_of_word text.now }
 {
     if is_same(text, b"TRUE") {
-        Role::Truth(true)
+        TokenRole::Truth(true)
     } else if is_same(text, b"FALSE") {
-        Role::Truth(false)
+        TokenRole::Truth(false)
     } else if is_same(text, b"next") {
-        Role::Next
+        TokenRole::Next
     } else if is_same(text, b"case") {
-        Role::Case
+        TokenRole::Case
     } else if is_same(text, b"esac") {
-        Role::Esac
+        TokenRole::Esac
     } else if is_same(text, b"mod") {
-        Role::Joins(Op::Mod)
+        TokenRole::Joins(Op::Mod)
     } else if is_same(text, b"union") {
-        Role::Joins(Op::Union)
+        TokenRole::Joins(Op::Union)
     } else if is_same(text, b"in") {
-        Role::Joins(Op::Within)
+        TokenRole::Joins(Op::Within)
     } else if is_same(text, b"xor") {
-        Role::Joins(Op::Xor)
+        TokenRole::Joins(Op::Xor)
     } else if is_same(text, b"xnor") {
-        Role::Joins(Op::Xnor)
+        TokenRole::Joins(Op::Xnor)
     } else if is_reserved(text) {
-        Role::Nothing
+        TokenRole::Nothing
     } else {
-        Role::Name
+        TokenRole::Name
     }
 }
 
@@ -152,38 +153,39 @@ fn value_of(text: &[u8]) -> u64
 
 impl<'a> TokenText<'a> {
     /// What the token is in an expression.
-    pub fn role(&self) -> Role
+    pub fn role(&self) -> TokenRole
         ensures { role_view result ≡ role_of self.now }
     {
         match self.kind {
             TokenKind::Word => word_role(self.text),
-            TokenKind::Number => Role::Number,
-            TokenKind::Minus => Role::Minus,
-            TokenKind::Bang => Role::Bang,
-            TokenKind::Star => Role::Joins(Op::Times),
-            TokenKind::Slash => Role::Joins(Op::Over),
-            TokenKind::Plus => Role::Joins(Op::Plus),
-            TokenKind::Equal => Role::Joins(Op::Equal),
-            TokenKind::NotEqual => Role::Joins(Op::Differs),
-            TokenKind::Less => Role::Joins(Op::Less),
-            TokenKind::Greater => Role::Joins(Op::Greater),
-            TokenKind::AtMost => Role::Joins(Op::AtMost),
-            TokenKind::AtLeast => Role::Joins(Op::AtLeast),
-            TokenKind::And => Role::Joins(Op::And),
-            TokenKind::Bar => Role::Joins(Op::Or),
-            TokenKind::Iff => Role::Joins(Op::Iff),
-            TokenKind::Implies => Role::Joins(Op::Implies),
-            TokenKind::Question => Role::Asks,
-            TokenKind::Colon => Role::Colon,
-            TokenKind::Semicolon => Role::Semicolon,
-            TokenKind::Comma => Role::Comma,
-            TokenKind::Dot => Role::Dot,
-            TokenKind::Dots => Role::Dots,
-            TokenKind::Open => Role::Opens,
-            TokenKind::Close => Role::Closes,
-            TokenKind::OpenBrace => Role::OpensSet,
-            TokenKind::CloseBrace => Role::ClosesSet,
-            TokenKind::Becomes | TokenKind::OpenSquare | TokenKind::CloseSquare => Role::Nothing,
+            TokenKind::Number => TokenRole::Number,
+            TokenKind::Minus => TokenRole::Minus,
+            TokenKind::Bang => TokenRole::Bang,
+            TokenKind::Star => TokenRole::Joins(Op::Times),
+            TokenKind::Slash => TokenRole::Joins(Op::Over),
+            TokenKind::Plus => TokenRole::Joins(Op::Plus),
+            TokenKind::Equal => TokenRole::Joins(Op::Equal),
+            TokenKind::NotEqual => TokenRole::Joins(Op::Differs),
+            TokenKind::Less => TokenRole::Joins(Op::Less),
+            TokenKind::Greater => TokenRole::Joins(Op::Greater),
+            TokenKind::AtMost => TokenRole::Joins(Op::AtMost),
+            TokenKind::AtLeast => TokenRole::Joins(Op::AtLeast),
+            TokenKind::And => TokenRole::Joins(Op::And),
+            TokenKind::Bar => TokenRole::Joins(Op::Or),
+            TokenKind::Iff => TokenRole::Joins(Op::Iff),
+            TokenKind::Implies => TokenRole::Joins(Op::Implies),
+            TokenKind::Question => TokenRole::Asks,
+            TokenKind::Colon => TokenRole::Colon,
+            TokenKind::Semicolon => TokenRole::Semicolon,
+            TokenKind::Comma => TokenRole::Comma,
+            TokenKind::Dot => TokenRole::Dot,
+            TokenKind::Dots => TokenRole::Dots,
+            TokenKind::Open => TokenRole::Opens,
+            TokenKind::Close => TokenRole::Closes,
+            TokenKind::OpenBrace => TokenRole::OpensSet,
+            TokenKind::CloseBrace => TokenRole::ClosesSet,
+            TokenKind::Becomes | TokenKind::OpenSquare | TokenKind::CloseSquare =>
+                TokenRole::Nothing,
         }
     }
 

@@ -1,13 +1,13 @@
-// The tree of an expression, from the tokens that spell it: `tree`.
-//
-// One token after another is taken (`step`), in the state `Build`: what has just been read, and beside it the stack of what
-// waits for an operand (`parts`). No function calls itself, so the depth of an expression takes no stack of calls.
+//! The tree of an expression, from the tokens that spell it: `tree`.
+//!
+//! One token after another is taken (`step`), in the state `Build`: what has just been read, and beside it the stack of what
+//! waits for an operand (`parts`). No function calls itself, so the depth of an expression takes no stack of calls.
 ghost use Rattle.std.specs.Prelude.{◌≡◌, ◌<◌, ◌≤◌, ◌∷◌, List, None, Some, Err, IfOk};
 ghost use Rattle.smv_language.specs.Tree.{height_of};
-ghost use Rattle.smv_language.specs.Written.{tree_of};
+ghost use Rattle.smv_language.specs.ExpressionTree.{tree_of};
 ghost use Rattle.smv_language.specs.ProgramTree.{Formula};
 ghost use Rattle.smv_language.specs.Limits.{deepest};
-ghost use Rattle.smv_expression_reader.specs.Build as machine;
+ghost use Rattle.smv_expression_reader.specs.TreeBuilder as machine;
 ghost use Rattle.smv_expression_reader.specs.Views.{role_view};
 ghost use Rattle.smv_expression_reader.specs.PartViews.{part_view, parts_of};
 ghost use Rattle.smv_expression_reader.specs.BuildViews.{hand_view, build_view};
@@ -16,8 +16,8 @@ ghost use Rattle.smv_expression_reader.specs.Heights.{TooHigh};
 use crate::fault::{BuildFault, GrowFault};
 use crate::grown::{Grown, GrownBranches, GrownList};
 use crate::lines::{AT_EXPRESSION, AT_OR, AT_SUM};
-use crate::machine::Role;
-use crate::parts::{Part, level, pop, push, reduce};
+use crate::machine::TokenRole;
+use crate::parts::{Pending, level, pop, push, reduce};
 use crate::token::{Digits, TokenText};
 use base_values::{Dotted, OutOfMemory};
 use smv_language::{Expr, Op};
@@ -56,8 +56,9 @@ fn value(hand: Hand) -> Grown
 }
 
 /// One part more waits.
-fn wait(parts: &mut Vec<Part>, part: Part) -> Result<Build, OutOfMemory>
-    ensures { IfOk result (λ made. build_view made (parts_of parts.new.items) ≡ machine.ready (part_view part ∷ (parts_of parts.old.items))) }
+fn wait(parts: &mut Vec<Pending>, part: Pending) -> Result<Build, OutOfMemory>
+    ensures { IfOk result (λ made. build_view made (parts_of parts.new.items)
+        ≡ machine.ready (part_view part ∷ (parts_of parts.old.items))) }
 {
     push(parts, part)?;
     Ok(Build::Ready)
@@ -65,22 +66,22 @@ fn wait(parts: &mut Vec<Part>, part: Part) -> Result<Build, OutOfMemory>
 
 /// What follows a member of a set.
 fn shut_set(
-    parts: &mut Vec<Part>,
+    parts: &mut Vec<Pending>,
     members: GrownList,
     operand: Grown,
-    role: Role,
+    role: TokenRole,
 ) -> Result<Build, GrowFault>
     ensures ok { IfOk result (λ made. build_view made (parts_of parts.new.items)
-        ≡ machine.shut (tree_of operand.tree) (part_view (Part.Set members) ∷ parts_of parts.old.items) (role_view role)) }
+        ≡ machine.shut (tree_of operand.tree) (part_view (Pending.Set members) ∷ parts_of parts.old.items) (role_view role)) }
     ensures deep { result ≡ Err GrowFault.TooDeep →
-        TooHigh (machine.shut (tree_of operand.tree) (part_view (Part.Set members) ∷ parts_of parts.old.items) (role_view role)) }
+        TooHigh (machine.shut (tree_of operand.tree) (part_view (Pending.Set members) ∷ parts_of parts.old.items) (role_view role)) }
 {
     match role {
-        Role::Comma => {
+        TokenRole::Comma => {
             let members = members.with(operand)?;
-            Ok(wait(parts, Part::Set(members))?)
+            Ok(wait(parts, Pending::Set(members))?)
         }
-        Role::ClosesSet => {
+        TokenRole::ClosesSet => {
             let members = members.with(operand)?;
             Ok(Build::Holds(Hand::Other(Grown::set(members)?)))
         }
@@ -93,13 +94,13 @@ fn shut_branch(
     branches: GrownBranches,
     condition: Grown,
     operand: Grown,
-    role: Role,
+    role: TokenRole,
 ) -> Result<Build, OutOfMemory>
     ensures { (ps : List machine.Part) → IfOk result (λ made.
-        build_view made ps ≡ machine.shut (tree_of operand.tree) (part_view (Part.Outcome branches condition) ∷ ps) (role_view role)) }
+        build_view made ps ≡ machine.shut (tree_of operand.tree) (part_view (Pending.Outcome branches condition) ∷ ps) (role_view role)) }
 {
     match role {
-        Role::Semicolon => Ok(Build::BranchOn(branches.with(condition, operand)?)),
+        TokenRole::Semicolon => Ok(Build::BranchOn(branches.with(condition, operand)?)),
         _ => Ok(Build::Broken),
     }
 }
@@ -107,10 +108,10 @@ fn shut_branch(
 /// What closes this part, or goes on inside it.
 fn shut_part(
     alloc: Global,
-    parts: &mut Vec<Part>,
-    part: Part,
+    parts: &mut Vec<Pending>,
+    part: Pending,
     operand: Grown,
-    role: Role,
+    role: TokenRole,
 ) -> Result<Build, GrowFault>
     ensures ok { IfOk result (λ made. build_view made (parts_of parts.new.items)
         ≡ machine.shut (tree_of operand.tree) (part_view part ∷ parts_of parts.old.items) (role_view role)) }
@@ -118,38 +119,43 @@ fn shut_part(
         TooHigh (machine.shut (tree_of operand.tree) (part_view part ∷ parts_of parts.old.items) (role_view role)) }
 {
     match part {
-        Part::Group => match role {
-            Role::Closes => Ok(Build::Holds(Hand::Other(operand))),
+        Pending::Group => match role {
+            TokenRole::Closes => Ok(Build::Holds(Hand::Other(operand))),
             _ => Ok(Build::Broken),
         },
-        Part::Next => match role {
-            Role::Closes => Ok(Build::Holds(Hand::Other(Grown::next(alloc, operand)?))),
+        Pending::Next => match role {
+            TokenRole::Closes => Ok(Build::Holds(Hand::Other(Grown::next(alloc, operand)?))),
             _ => Ok(Build::Broken),
         },
-        Part::Set(members) => shut_set(parts, members, operand, role),
-        Part::Asked(test) => match role {
-            Role::Colon => Ok(wait(parts, Part::Answered(test, operand))?),
+        Pending::Set(members) => shut_set(parts, members, operand, role),
+        Pending::Asked(test) => match role {
+            TokenRole::Colon => Ok(wait(parts, Pending::Answered(test, operand))?),
             _ => Ok(Build::Broken),
         },
-        Part::Condition(branches) => match role {
-            Role::Colon => Ok(wait(parts, Part::Outcome(branches, operand))?),
+        Pending::Condition(branches) => match role {
+            TokenRole::Colon => Ok(wait(parts, Pending::Outcome(branches, operand))?),
             _ => Ok(Build::Broken),
         },
-        Part::Outcome(branches, condition) => Ok(shut_branch(branches, condition, operand, role)?),
-        Part::Minus | Part::Bang | Part::Left(_, _) | Part::Answered(_, _) => Ok(Build::Broken),
+        Pending::Outcome(branches, condition) => Ok(shut_branch(
+            branches, condition, operand, role,
+        )?),
+        Pending::Minus | Pending::Bang | Pending::Left(_, _) | Pending::Answered(_, _) => Ok(
+            Build::Broken,
+        ),
     }
 }
 
 /// What closes the innermost part, or goes on inside it.
 fn shut(
     alloc: Global,
-    parts: &mut Vec<Part>,
+    parts: &mut Vec<Pending>,
     operand: Grown,
-    role: Role,
+    role: TokenRole,
 ) -> Result<Build, GrowFault>
     ensures ok { IfOk result (λ made. build_view made (parts_of parts.new.items)
         ≡ machine.shut (tree_of operand.tree) (parts_of parts.old.items) (role_view role)) }
-    ensures deep { result ≡ Err GrowFault.TooDeep → TooHigh (machine.shut (tree_of operand.tree) (parts_of parts.old.items) (role_view role)) }
+    ensures deep { result ≡ Err GrowFault.TooDeep →
+        TooHigh (machine.shut (tree_of operand.tree) (parts_of parts.old.items) (role_view role)) }
 {
     match pop(parts) {
         Some(part) => shut_part(alloc, parts, part, operand, role),
@@ -161,26 +167,27 @@ fn shut(
 #[tactic(auto, using(crate::proofs::PartStacks::left_from, crate::proofs::PartStacks::asked_from, crate::proofs::PartStacks::shut_from, crate::proofs::Tallest::left_high, crate::proofs::Tallest::asked_high, crate::proofs::Tallest::shut_high))]
 fn go_on(
     alloc: Global,
-    parts: &mut Vec<Part>,
+    parts: &mut Vec<Pending>,
     operand: Grown,
-    role: Role,
+    role: TokenRole,
 ) -> Result<Build, GrowFault>
     ensures ok { IfOk result (λ made. build_view made (parts_of parts.new.items)
         ≡ machine.go_on (tree_of operand.tree) (parts_of parts.old.items) (role_view role)) }
-    ensures deep { result ≡ Err GrowFault.TooDeep → TooHigh (machine.go_on (tree_of operand.tree) (parts_of parts.old.items) (role_view role)) }
+    ensures deep { result ≡ Err GrowFault.TooDeep →
+        TooHigh (machine.go_on (tree_of operand.tree) (parts_of parts.old.items) (role_view role)) }
 {
     match role {
-        Role::Joins(op) => {
+        TokenRole::Joins(op) => {
             let left = reduce(alloc, parts, level(op), operand)?;
-            Ok(wait(parts, Part::Left(op, left))?)
+            Ok(wait(parts, Pending::Left(op, left))?)
         }
-        Role::Minus => {
+        TokenRole::Minus => {
             let left = reduce(alloc, parts, AT_SUM, operand)?;
-            Ok(wait(parts, Part::Left(Op::Minus, left))?)
+            Ok(wait(parts, Pending::Left(Op::Minus, left))?)
         }
-        Role::Asks => {
+        TokenRole::Asks => {
             let test = reduce(alloc, parts, AT_OR, operand)?;
-            Ok(wait(parts, Part::Asked(test))?)
+            Ok(wait(parts, Pending::Asked(test))?)
         }
         _ => {
             let operand = reduce(alloc, parts, AT_EXPRESSION, operand)?;
@@ -190,11 +197,11 @@ fn go_on(
 }
 
 /// A span from this number on: a `-` that waits for the number is its own.
-fn span_from(parts: &mut Vec<Part>, digits: Digits) -> Result<Build, OutOfMemory>
+fn span_from(parts: &mut Vec<Pending>, digits: Digits) -> Result<Build, OutOfMemory>
     ensures { IfOk result (λ made. build_view made (parts_of parts.new.items) ≡ machine.span_from digits.value (parts_of parts.old.items)) }
 {
     match pop(parts) {
-        Some(Part::Minus) => Ok(Build::HighOn(digits.negated())),
+        Some(Pending::Minus) => Ok(Build::HighOn(digits.negated())),
         Some(part) => {
             push(parts, part)?;
             Ok(Build::HighOn(digits.plain()))
@@ -206,9 +213,9 @@ fn span_from(parts: &mut Vec<Part>, digits: Digits) -> Result<Build, OutOfMemory
 /// What follows a number.
 fn after_number(
     alloc: Global,
-    parts: &mut Vec<Part>,
+    parts: &mut Vec<Pending>,
     digits: Digits,
-    role: Role,
+    role: TokenRole,
 ) -> Result<Build, GrowFault>
     ensures ok { IfOk result (λ made. build_view made (parts_of parts.new.items)
         ≡ machine.after_hand (machine.number_hand digits.value) (parts_of parts.old.items) (role_view role)) }
@@ -216,7 +223,7 @@ fn after_number(
         TooHigh (machine.after_hand (machine.number_hand digits.value) (parts_of parts.old.items) (role_view role)) }
 {
     match role {
-        Role::Dots => Ok(span_from(parts, digits)?),
+        TokenRole::Dots => Ok(span_from(parts, digits)?),
         _ => go_on(alloc, parts, Grown::number(digits.plain()), role),
     }
 }
@@ -224,9 +231,9 @@ fn after_number(
 /// What follows a name.
 fn after_name(
     alloc: Global,
-    parts: &mut Vec<Part>,
+    parts: &mut Vec<Pending>,
     name: Dotted,
-    role: Role,
+    role: TokenRole,
 ) -> Result<Build, GrowFault>
     ensures ok { IfOk result (λ made. build_view made (parts_of parts.new.items)
         ≡ machine.after_hand (machine.name_hand name) (parts_of parts.old.items) (role_view role)) }
@@ -234,7 +241,7 @@ fn after_name(
         TooHigh (machine.after_hand (machine.name_hand name) (parts_of parts.old.items) (role_view role)) }
 {
     match role {
-        Role::Dot => Ok(Build::NameOn(name)),
+        TokenRole::Dot => Ok(Build::NameOn(name)),
         _ => go_on(alloc, parts, Grown::name(name), role),
     }
 }
@@ -242,13 +249,14 @@ fn after_name(
 /// What follows an operand that stands last.
 fn after_hand(
     alloc: Global,
-    parts: &mut Vec<Part>,
+    parts: &mut Vec<Pending>,
     hand: Hand,
-    role: Role,
+    role: TokenRole,
 ) -> Result<Build, GrowFault>
     ensures ok { IfOk result (λ made. build_view made (parts_of parts.new.items)
         ≡ machine.after_hand (hand_view hand) (parts_of parts.old.items) (role_view role)) }
-    ensures deep { result ≡ Err GrowFault.TooDeep → TooHigh (machine.after_hand (hand_view hand) (parts_of parts.old.items) (role_view role)) }
+    ensures deep { result ≡ Err GrowFault.TooDeep →
+        TooHigh (machine.after_hand (hand_view hand) (parts_of parts.old.items) (role_view role)) }
 {
     match hand {
         Hand::Number(digits) => after_number(alloc, parts, digits, role),
@@ -260,26 +268,26 @@ fn after_hand(
 /// What begins an operand.
 fn open_operand(
     alloc: Global,
-    parts: &mut Vec<Part>,
+    parts: &mut Vec<Pending>,
     token: &TokenText,
-    role: Role,
+    role: TokenRole,
 ) -> Result<Build, OutOfMemory>
     ensures { IfOk result (λ made. build_view made (parts_of parts.new.items)
         ≡ machine.open_operand (parts_of parts.old.items) token.now (role_view role)) }
 {
     match role {
-        Role::Truth(value) => Ok(Build::Holds(Hand::Other(Grown::truth(value)))),
-        Role::Name => {
+        TokenRole::Truth(value) => Ok(Build::Holds(Hand::Other(Grown::truth(value)))),
+        TokenRole::Name => {
             let name = Dotted::new(alloc, token.name(alloc)?)?;
             Ok(Build::Holds(Hand::Name(name)))
         }
-        Role::Number => Ok(Build::Holds(Hand::Number(token.digits()))),
-        Role::Next => Ok(Build::NextOn),
-        Role::Case => wait(parts, Part::Condition(GrownBranches::new(alloc))),
-        Role::Minus => wait(parts, Part::Minus),
-        Role::Bang => wait(parts, Part::Bang),
-        Role::Opens => wait(parts, Part::Group),
-        Role::OpensSet => wait(parts, Part::Set(GrownList::new(alloc))),
+        TokenRole::Number => Ok(Build::Holds(Hand::Number(token.digits()))),
+        TokenRole::Next => Ok(Build::NextOn),
+        TokenRole::Case => wait(parts, Pending::Condition(GrownBranches::new(alloc))),
+        TokenRole::Minus => wait(parts, Pending::Minus),
+        TokenRole::Bang => wait(parts, Pending::Bang),
+        TokenRole::Opens => wait(parts, Pending::Group),
+        TokenRole::OpensSet => wait(parts, Pending::Set(GrownList::new(alloc))),
         _ => Ok(Build::Broken),
     }
 }
@@ -289,13 +297,13 @@ fn after_dot(
     alloc: Global,
     name: Dotted,
     token: &TokenText,
-    role: Role,
+    role: TokenRole,
 ) -> Result<Build, OutOfMemory>
     ensures { (ps : List machine.Part) → IfOk result (λ made.
         build_view made ps ≡ machine.build_step (machine.name_on name ps) token.now (role_view role)) }
 {
     match role {
-        Role::Name => {
+        TokenRole::Name => {
             let mut name = name;
             name.push(token.name(alloc)?)?;
             Ok(Build::Holds(Hand::Name(name)))
@@ -305,33 +313,38 @@ fn after_dot(
 }
 
 /// What follows a `..`.
-fn after_dots(lo: i64, token: &TokenText, role: Role) -> Build
+fn after_dots(lo: i64, token: &TokenText, role: TokenRole) -> Build
     ensures { (ps : List machine.Part) → build_view result ps ≡ machine.build_step (machine.high_on lo ps) token.now (role_view role) }
 {
     match role {
-        Role::Minus => Build::MinusHighOn(lo),
-        Role::Number => Build::Holds(Hand::Other(Grown::span(lo, token.digits().plain()))),
+        TokenRole::Minus => Build::MinusHighOn(lo),
+        TokenRole::Number => Build::Holds(Hand::Other(Grown::span(lo, token.digits().plain()))),
         _ => Build::Broken,
     }
 }
 
 /// What follows a `..` and a `-`.
-fn after_minus(lo: i64, token: &TokenText, role: Role) -> Build
-    ensures { (ps : List machine.Part) → build_view result ps ≡ machine.build_step (machine.minus_high_on lo ps) token.now (role_view role) }
+fn after_minus(lo: i64, token: &TokenText, role: TokenRole) -> Build
+    ensures { (ps : List machine.Part) →
+        build_view result ps ≡ machine.build_step (machine.minus_high_on lo ps) token.now (role_view role) }
 {
     match role {
-        Role::Number => Build::Holds(Hand::Other(Grown::span(lo, token.digits().negated()))),
+        TokenRole::Number => Build::Holds(Hand::Other(Grown::span(lo, token.digits().negated()))),
         _ => Build::Broken,
     }
 }
 
 /// What follows a `next`.
-fn after_next(parts: &mut Vec<Part>, token: &TokenText, role: Role) -> Result<Build, OutOfMemory>
+fn after_next(
+    parts: &mut Vec<Pending>,
+    token: &TokenText,
+    role: TokenRole,
+) -> Result<Build, OutOfMemory>
     ensures { IfOk result (λ made. build_view made (parts_of parts.new.items)
         ≡ machine.build_step (machine.next_on (parts_of parts.old.items)) token.now (role_view role)) }
 {
     match role {
-        Role::Opens => wait(parts, Part::Next),
+        TokenRole::Opens => wait(parts, Pending::Next),
         _ => Ok(Build::Broken),
     }
 }
@@ -339,10 +352,10 @@ fn after_next(parts: &mut Vec<Part>, token: &TokenText, role: Role) -> Result<Bu
 /// What follows a branch.
 fn after_branch(
     alloc: Global,
-    parts: &mut Vec<Part>,
+    parts: &mut Vec<Pending>,
     branches: GrownBranches,
     token: &TokenText,
-    role: Role,
+    role: TokenRole,
 ) -> Result<Build, GrowFault>
     ensures ok { IfOk result (λ made. build_view made (parts_of parts.new.items)
         ≡ machine.build_step (build_view (Build.BranchOn branches) (parts_of parts.old.items)) token.now (role_view role)) }
@@ -350,9 +363,9 @@ fn after_branch(
         TooHigh (machine.build_step (build_view (Build.BranchOn branches) (parts_of parts.old.items)) token.now (role_view role)) }
 {
     match role {
-        Role::Esac => Ok(Build::Holds(Hand::Other(Grown::case(branches)?))),
+        TokenRole::Esac => Ok(Build::Holds(Hand::Other(Grown::case(branches)?))),
         _ => {
-            push(parts, Part::Condition(branches))?;
+            push(parts, Pending::Condition(branches))?;
             Ok(open_operand(alloc, parts, token, role)?)
         }
     }
@@ -362,9 +375,9 @@ fn after_branch(
 fn step(
     alloc: Global,
     build: Build,
-    parts: &mut Vec<Part>,
+    parts: &mut Vec<Pending>,
     token: &TokenText,
-    role: Role,
+    role: TokenRole,
 ) -> Result<Build, GrowFault>
     ensures ok { IfOk result (λ made. build_view made (parts_of parts.new.items)
         ≡ machine.build_step (build_view build (parts_of parts.old.items)) token.now (role_view role)) }
@@ -385,7 +398,7 @@ fn step(
 
 /// The tree, where the text ends here.
 #[tactic(auto, using(crate::proofs::Tallest::finish_high, crate::proofs::PartStacks::finished_from, crate::proofs::PartStacks::unfinished_from))]
-fn finish(alloc: Global, build: Build, parts: Vec<Part>) -> Result<Expr<Dotted>, BuildFault>
+fn finish(alloc: Global, build: Build, parts: Vec<Pending>) -> Result<Expr<Dotted>, BuildFault>
     ensures ok { IfOk result (λ made. machine.finish (build_view build (parts_of parts.items)) ≡ Some (tree_of made)) }
     ensures within { IfOk result (λ made. height_of (tree_of made) ≤ deepest) }
     ensures deep { (t : Formula) → result ≡ Err BuildFault.TooDeep →

@@ -1,4 +1,4 @@
-// Words that are no names, and tests of a word's text: `is_reserved` is the main one.
+//! Words that are no names, and tests of a word's text: `is_reserved` is the main one.
 ghost use Rattle.std.specs.Prelude.{◌≡◌, map};
 ghost use Rattle.smv_language.specs.Texts.{same_text, is_among};
 ghost use Rattle.smv_language.specs.SpellsProgram.{skipped_words};

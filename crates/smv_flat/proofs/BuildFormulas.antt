@@ -11,7 +11,7 @@ use Rattle.smv_language.specs.Leaves.{tree_map}
 use Rattle.smv_language.specs.Scope.{Place, state, input, frozen_role, Meaning, a_variable_at, Means}
 use Rattle.smv_language.specs.Trace.{Each, EachBoth}
 use Rattle.smv_language.specs.Flat.{FlatLeaf, flat_variable, flat_symbol, flat_definition, FlatInstance, FlatFormula, FlatModel}
-use Rattle.smv_flat_laws.specs.Resolved.{StandsFor, IsLeafOf, IsResolved}
+use Rattle.smv_flat_laws.specs.NameResolution.{StandsFor, IsLeafOf, IsResolved}
 use Rattle.smv_flat_laws.specs.Items.{Item, a_declaration, a_definition, an_assignment, some_constants, an_init, an_invar, a_trans, NumberedItem, items_named, Visit, instances_of, variables_of}
 use Rattle.smv_flat_laws.specs.Rules.{IsAccepted, IsKept, a_use, no_such_name, SomeHasNoValue}
 use Rattle.smv_flat_laws.specs.Model.{Condition, plain, now_among, next_among, kept, assigned_first, assigned_each, assigned_step, kept_declared, Written, written_at, conditions, IsVariableNumber, IsConditionTree, IsFormulaOf, symbols_of}
@@ -21,15 +21,15 @@ use Rattle.smv_scope.specs.declared.walk.Meaning.{Meaning as Found}
 use Rattle.smv_scope.specs.declared.walk.Meaning.TheVariants as found
 use Rattle.smv_scope.specs.declared.names.Scene.{Scene}
 use Rattle.smv_scope.specs.declared.needs.Needs.{Needs}
-use Rattle.smv_flat.specs.declared.clauses.Asked.{Asked}
-use Rattle.smv_flat.specs.declared.clauses.Asked.TheVariants as asked
+use Rattle.smv_flat.specs.declared.clauses.AskedFormulas.{AskedFormulas}
+use Rattle.smv_flat.specs.declared.clauses.AskedFormulas.TheVariants as asked
 use Rattle.smv_language.specs.ModelTree.{role_of, flat_tree, formula_tree}
 use Rattle.smv_scope.specs.SceneTree.{Denotes, IsFound, program_of, IsScene, items_of_instance}
 use Rattle.smv_scope.specs.NeedsTree.{AreNeeds}
-use Rattle.smv_scope.specs.Walked.{IsDeclaredBy}
-use Rattle.smv_scope.specs.FoundAt.{found_at}
+use Rattle.smv_scope.specs.WalkFindings.{IsDeclaredBy}
+use Rattle.smv_scope.specs.TableLookUps.{found_at}
 use Rattle.smv_flat.specs.ResolverOf.{leaf_found, leaf_at, leaf_by, resolver}
-use Rattle.smv_flat.specs.Asked.{Told, told, conditions_asked, asked_condition, is_variable_within, IsConditionKnown, AreConditionsKnown, asked_conditions, asked_item, asked_items, asked_from}
+use Rattle.smv_flat.specs.FormulaLists.{Told, told, conditions_asked, asked_condition, is_variable_within, IsConditionKnown, AreConditionsKnown, asked_conditions, asked_item, asked_items, asked_from}
 use Rattle.smv_scope.proofs.SceneFound.{scene_found}
 use Rattle.smv_flat.proofs.BuildAccepted.{kept_at, item_at, target_means, declared_means}
 use Rattle.smv_flat.proofs.BuildLeaves.{less_is, bounds_with, value_known}
@@ -137,14 +137,14 @@ module _ (p : ProgramTree) where
     kept_facts at y (members ms) means = (means (λ m actuals e. cc), tt)
     kept_facts at y (instance m actuals) means = tt
 
-    pub facts_of : (a : Asked) (i : ℕ) (x : FlatInstance) → slice_get (instances_of p) i ≡ Some x → (j : ℕ) (n : NumberedItem) → slice_get (items_named p x.module_name) j ≡ Some n → (item : Item) → n.item ≡ item →
+    pub facts_of : (a : AskedFormulas) (i : ℕ) (x : FlatInstance) → slice_get (instances_of p) i ≡ Some x → (j : ℕ) (n : NumberedItem) → slice_get (items_named p x.module_name) j ≡ Some n → (item : Item) → n.item ≡ item →
         Each (CondFacts x.place) (conditions_asked a item)
     facts_of a i x e j n f item is = by_item a item is
       where
         kept_item : (item : Item) → n.item ≡ item → IsKept p (a_use x (record n { item = item }))
         kept_item item is = subst (λ i. IsKept p (a_use x (record n { item = i }))) is (kept_at p accepted i x e j n f)
 
-        by_item : (a : Asked) (item : Item) → n.item ≡ item → Each (CondFacts x.place) (conditions_asked a item)
+        by_item : (a : AskedFormulas) (item : Item) → n.item ≡ item → Each (CondFacts x.place) (conditions_asked a item)
         by_item asked.First (an_assignment b) is = first_assigned x.place b.when b.target b.value (λ y t. target_means p accepted x n b y (kept_at p accepted i x e j n f) is t) (kept_item (an_assignment b) is no_such_name)
         by_item asked.Each (an_assignment b) is = each_assigned x.place b.when b.target b.value (λ y t. target_means p accepted x n b y (kept_at p accepted i x e j n f) is t) (kept_item (an_assignment b) is no_such_name)
         by_item asked.Step (an_assignment b) is = step_assigned x.place b.when b.target b.value (λ y t. target_means p accepted x n b y (kept_at p accepted i x e j n f) is t) (kept_item (an_assignment b) is no_such_name)
@@ -219,7 +219,7 @@ module _ (s : Scene) (n : Needs) (is : IsScene s) (needs : AreNeeds (program_of 
   conditions_known spot x e [] h = tt
   conditions_known spot x e (c ∷ cs) h = (condition_known spot x e c h.0, conditions_known spot x e cs h.1)
 
-  pub all_known : (a : Asked) → AreConditionsKnown s n (bounds_with (program_of s) (length n.order.items)) (conditions_asked a)
+  pub all_known : (a : AskedFormulas) → AreConditionsKnown s n (bounds_with (program_of s) (length n.order.items)) (conditions_asked a)
   all_known a spot j i f = by_instance (slice_get (instances_of (program_of s)) spot) refl f
     where
       by_instance : (o : Option FlatInstance) → slice_get (instances_of (program_of s)) spot ≡ o → slice_get (items_of_instance (program_of s) o) j ≡ Some i →
@@ -241,7 +241,7 @@ module _ (s : Scene) (n : Needs) (is : IsScene s) (needs : AreNeeds (program_of 
   asked_each spot x e item [] h = tt
   asked_each spot x e item (c ∷ cs) h = (record { spot = spot; at = x; is_at = e; place = refl; facts = h.0; told = refl }, asked_each spot x e item cs h.1)
 
-  asked_of_items : (a : Asked) (spot : ℕ) (x : FlatInstance) → slice_get (instances_of (program_of s)) spot ≡ Some x → (items : List NumberedItem) →
+  asked_of_items : (a : AskedFormulas) (spot : ℕ) (x : FlatInstance) → slice_get (instances_of (program_of s)) spot ≡ Some x → (items : List NumberedItem) →
       ((j : ℕ) (i : NumberedItem) → slice_get items j ≡ Some i → Each (CondFacts (program_of s) x.place) (conditions_asked a i.item)) →
       EachBoth IsAskedAs (flat_map (written_at (conditions_asked a) x.place) items) (asked_items s n (conditions_asked a) spot items)
   asked_of_items a spot x e [] facts = tt
@@ -249,7 +249,7 @@ module _ (s : Scene) (n : Needs) (is : IsScene s) (needs : AreNeeds (program_of 
       both_join IsAskedAs (written_at (conditions_asked a) x.place i) (asked_item (leaf_at s n spot) spot (conditions_asked a) i) (flat_map (written_at (conditions_asked a) x.place) items) (asked_items s n (conditions_asked a) spot items)
       (asked_each spot x e i.number (conditions_asked a i.item) (facts 0 i refl)) (asked_of_items a spot x e items (λ j. facts (suc j)))
 
-  asked_of : (a : Asked) (k : ℕ) (xs : List FlatInstance) → ((i : ℕ) (x : FlatInstance) → slice_get xs i ≡ Some x → slice_get (instances_of (program_of s)) (k + i) ≡ Some x) →
+  asked_of : (a : AskedFormulas) (k : ℕ) (xs : List FlatInstance) → ((i : ℕ) (x : FlatInstance) → slice_get xs i ≡ Some x → slice_get (instances_of (program_of s)) (k + i) ≡ Some x) →
       EachBoth IsAskedAs (flat_map (λ (at : FlatInstance). flat_map (written_at (conditions_asked a) at.place) (items_named (program_of s) at.module_name)) xs) (asked_from s n (conditions_asked a) k xs)
   asked_of a k [] there = tt
   asked_of a k (x ∷ xs) there =
@@ -260,7 +260,7 @@ module _ (s : Scene) (n : Needs) (is : IsScene s) (needs : AreNeeds (program_of 
       (asked_of_items a k x is_x (items_named (program_of s) x.module_name) (λ j i f. facts_of (program_of s) accepted a k x is_x j i f i.item refl))
       (asked_of a (suc k) xs (λ i y e. let later : k + suc i ≡ suc k + i = omega arith in subst (λ q. slice_get (instances_of (program_of s)) q ≡ Some y) later (there (suc i) y e)))
 
-  pub asked_all : (a : Asked) → EachBoth IsAskedAs (conditions (conditions_asked a) (program_of s)) (asked_from s n (conditions_asked a) 0 (instances_of (program_of s)))
+  pub asked_all : (a : AskedFormulas) → EachBoth IsAskedAs (conditions (conditions_asked a) (program_of s)) (asked_from s n (conditions_asked a) 0 (instances_of (program_of s)))
   asked_all a = asked_of a 0 (instances_of (program_of s)) (λ i x e. let same : i ≡ 0 + i = omega arith in subst (λ q. slice_get (instances_of (program_of s)) q ≡ Some x) same e)
 
   module _ (m : FlatModel) (variables : EachBoth (IsDeclaredBy (program_of s)) (variables_of (program_of s)) m.variables) (symbols : m.symbols ≡ symbols_of (program_of s)) (instances : m.instances ≡ instances_of (program_of s)) where
@@ -334,12 +334,12 @@ module _ (s : Scene) (n : Needs) (is : IsScene s) (needs : AreNeeds (program_of 
         }
 
     -- the formulas of one kind
-    pub formulas_are : (a : Asked) (fs : List FormulaOf) → map told fs ≡ asked_from s n (conditions_asked a) 0 (instances_of (program_of s)) →
+    pub formulas_are : (a : AskedFormulas) (fs : List FormulaOf) → map told fs ≡ asked_from s n (conditions_asked a) 0 (instances_of (program_of s)) →
         EachBoth (IsFormulaOf m (resolver s n)) (conditions (conditions_asked a) (program_of s)) (map formula_tree fs)
     formulas_are a fs e = both_told IsAskedAs (IsFormulaOf m (resolver s n)) (conditions (conditions_asked a) (program_of s)) (asked_from s n (conditions_asked a) 0 (instances_of (program_of s))) fs formula_of (asked_all a) e
 
     -- those of two kinds, one after the other
-    pub both_are : (a b : Asked) (fs : List FormulaOf) →
+    pub both_are : (a b : AskedFormulas) (fs : List FormulaOf) →
         map told fs ≡ asked_from s n (conditions_asked a) 0 (instances_of (program_of s)) ++ asked_from s n (conditions_asked b) 0 (instances_of (program_of s)) →
         EachBoth (IsFormulaOf m (resolver s n)) (conditions (conditions_asked a) (program_of s) ++ conditions (conditions_asked b) (program_of s)) (map formula_tree fs)
     both_are a b fs e =

@@ -4,11 +4,11 @@ use Rattle.std.specs.Prelude.{◌⊎◌, slice_get, map, nat_lt}
 use Rattle.std.proofs.lemmas.Bool.{ltb-false}
 use Rattle.smv_language.specs.Tree.{Tree, Trees, Branches, truth, number, leaf, not_of, negate, next_of, binary, choice, case_of, set_of, span, no_tree, tree_then, no_branch, branch_then}
 use Rattle.smv_language.specs.ProgramTree.{Path, Formula, ProgramTree}
-use Rattle.smv_language.specs.Written.{tree_of}
+use Rattle.smv_language.specs.ExpressionTree.{tree_of}
 use Rattle.smv_language.specs.Scope.{Place, Key, Meaning, a_variable_at, an_expression_at, an_instance_at, a_symbol, Means}
 use Rattle.smv_language.specs.Trace.{Each, AtSome, EachBoth}
 use Rattle.smv_language.specs.Flat.{FlatInstance}
-use Rattle.smv_flat_laws.specs.Resolved.{leaves_in, trees_leaves, branches_leaves}
+use Rattle.smv_flat_laws.specs.NameResolution.{leaves_in, trees_leaves, branches_leaves}
 use Rattle.smv_flat_laws.specs.Items.{instances_of, variables_of}
 use Rattle.smv_flat_laws.specs.Rules.{IsAccepted, HasNoValue, nothing, only_an_instance, SomeHasNoValue, Needs as NeedsOf, NeedsItself, expression_of}
 use Rattle.smv_flat_laws.specs.Model.{Root, roots_of, symbols_of, is_key_among, same_key}
@@ -25,7 +25,7 @@ use Rattle.smv_scope.specs.declared.names.Scene.{Scene}
 use Rattle.smv_scope.specs.declared.needs.Needs.{Needs}
 use Rattle.smv_scope.specs.SceneTree.{Denotes, IsFound, IsDefined, program_of, IsScene}
 use Rattle.smv_scope.specs.NeedsTree.{keys_of, IsKeyAt, HasCircle, IsMeant, AreMeant, IsOrder, AreNeeds}
-use Rattle.smv_scope.specs.FoundAt.{found_at}
+use Rattle.smv_scope.specs.TableLookUps.{found_at}
 use Rattle.smv_flat.specs.ResolverOf.{leaf_placed, leaf_found, leaf_at, is_leaf_within, TreeAll, TreesAll, BranchesAll, AreKnown}
 use Rattle.smv_scope.proofs.SceneFound.{scene_found}
 use Rattle.smv_flat.proofs.BuildOrder.{AllAfter, ordered_after, needs_before, one_place}

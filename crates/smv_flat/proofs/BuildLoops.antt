@@ -6,12 +6,12 @@ use Rattle.smv_flat_laws.specs.Items.{Item, NumberedItem, instances_of}
 use Rattle.smv_flat_laws.specs.Model.{Condition}
 use Rattle.smv_scope.specs.declared.names.Scene.{Scene}
 use Rattle.smv_scope.specs.declared.walk.Spot.{Spot}
-use Rattle.smv_scope.specs.declared.modules.Names.{Names}
+use Rattle.smv_scope.specs.declared.modules.ModuleNames.{ModuleNames}
 use Rattle.smv_language.specs.ModelTree.{place_of}
 use Rattle.smv_scope.specs.declared.needs.Needs.{Needs}
 use Rattle.smv_scope.specs.SceneTree.{program_of, IsScene, IsSpot, items_of_instance, items_at}
 use Rattle.smv_flat.specs.ResolverOf.{leaf_at}
-use Rattle.smv_flat.specs.Asked.{asked_item, asked_items, asked_from, item_listed, instance_in, instance_told}
+use Rattle.smv_flat.specs.FormulaLists.{asked_item, asked_items, asked_from, item_listed, instance_in, instance_told}
 use Rattle.smv_flat_laws.proofs.Lists.{get_within}
 use Rattle.base_values.proofs.ListLaws.{drop_there}
 use Rattle.smv_language.proofs.ListLaws.{drop_past}
@@ -61,7 +61,7 @@ index_get [] i h = absurd (omega (arith, h))
 index_get (y ∷ xs) zero h = refl
 index_get (y ∷ xs) (suc i) h = index_get xs i (omega (arith, h))
 
-pub told_some : (s : Scene) (spot : Spot) (names : Names) → slice_get s.modules.list.items spot.«module» ≡ Some names →
+pub told_some : (s : Scene) (spot : Spot) (names : ModuleNames) → slice_get s.modules.list.items spot.«module» ≡ Some names →
     instance_told s spot ≡ record { place = place_of spot.path; module_name = names.«module».now.name } ∷ []
 told_some s spot names e = ap (instance_in spot) e
 

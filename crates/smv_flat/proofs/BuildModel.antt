@@ -6,11 +6,11 @@ use Rattle.std.proofs.lemmas.List.{length-map}
 use Rattle.smv_language.specs.Tree.{Tree, Trees, Branches, truth, number, leaf, not_of, negate, next_of, binary, choice, case_of, set_of, span, no_tree, tree_then, no_branch, branch_then}
 use Rattle.smv_language.specs.ProgramTree.{Text, Formula, ModuleTree}
 use Rattle.smv_language.specs.Leaves.{tree_map, trees_map, branches_map}
-use Rattle.smv_language.specs.Written.{tree_of}
+use Rattle.smv_language.specs.ExpressionTree.{tree_of}
 use Rattle.smv_language.specs.Scope.{Place, Key}
 use Rattle.smv_language.specs.Trace.{Each, EachBoth}
 use Rattle.smv_language.specs.Flat.{FlatInstance, FlatVariable, FlatFormula, FlatModel}
-use Rattle.smv_flat_laws.specs.Resolved.{leaves_in, trees_leaves, branches_leaves, has_next, Definition, IsBefore, IsResolved, AreDefinitions}
+use Rattle.smv_flat_laws.specs.NameResolution.{leaves_in, trees_leaves, branches_leaves, has_next, Definition, IsBefore, IsResolved, AreDefinitions}
 use Rattle.smv_flat_laws.specs.Items.{modules_of, Visit, instances_of, variables_of}
 use Rattle.smv_flat_laws.specs.Rules.{IsAccepted, expression_of}
 use Rattle.smv_flat_laws.specs.Model.{Root, roots_of, symbols_of, AddsAll, IsInstanceNumber, IsVariableOf, IsDefinitionOf, IsFlatOf}
@@ -23,21 +23,21 @@ use Rattle.smv_language.specs.declared.model.Flat.TheVariants.{Var, Symbol, Defi
 use Rattle.smv_language.specs.declared.model.Formula.{Formula as FormulaOf}
 use Rattle.smv_language.specs.declared.model.Variable.{Variable}
 use Rattle.smv_language.specs.declared.model.FlatModel.{FlatModel as FlatModelOf}
-use Rattle.smv_scope.specs.declared.modules.Names.{Names}
+use Rattle.smv_scope.specs.declared.modules.ModuleNames.{ModuleNames}
 use Rattle.smv_scope.specs.declared.walk.Spot.{Spot}
 use Rattle.smv_scope.specs.declared.names.Defined.{Defined}
 use Rattle.smv_scope.specs.declared.names.Scene.{Scene}
 use Rattle.smv_scope.specs.declared.needs.Needs.{Needs}
-use Rattle.smv_flat.specs.declared.clauses.Asked.{Asked}
-use Rattle.smv_flat.specs.declared.clauses.Asked.TheVariants as asked
-use Rattle.smv_scope.specs.Closed.{is_within, tree_all, trees_all, branches_all, is_closed, are_earlier}
+use Rattle.smv_flat.specs.declared.clauses.AskedFormulas.{AskedFormulas}
+use Rattle.smv_flat.specs.declared.clauses.AskedFormulas.TheVariants as asked
+use Rattle.smv_scope.specs.ClosedModels.{is_within, tree_all, trees_all, branches_all, is_closed, are_earlier}
 use Rattle.smv_language.specs.ModelTree.{leaf_of, flat_tree, place_of, instance_tree, variable_tree, formula_tree, model_tree}
 use Rattle.smv_language.specs.BorrowedTexts.{texts}
 use Rattle.smv_scope.specs.SceneTree.{HasNames, IsPlaced, IsSpot, IsDefined, program_of, IsScene}
 use Rattle.smv_scope.specs.NeedsTree.{keys_of, IsKeyAt, AreNeeds}
-use Rattle.smv_scope.specs.Walked.{IsDeclaredBy, AreDeclared}
+use Rattle.smv_scope.specs.WalkFindings.{IsDeclaredBy, AreDeclared}
 use Rattle.smv_flat.specs.ResolverOf.{leaf_at, leaf_by, resolver}
-use Rattle.smv_flat.specs.Asked.{Told, told, asked_defined, asked_definition, AreReady, AreConditionsKnown, conditions_asked, asked_from, instance_in, instance_told}
+use Rattle.smv_flat.specs.FormulaLists.{Told, told, asked_defined, asked_definition, AreReady, AreConditionsKnown, conditions_asked, asked_from, instance_in, instance_told}
 use Rattle.smv_flat.proofs.BuildAccepted.{IsGoodRoot}
 use Rattle.smv_flat.proofs.BuildRoots.{good_roots}
 use Rattle.smv_flat.proofs.BuildLeaves.{order, bounds_with, definition_known}
@@ -141,7 +141,7 @@ module _ (s : Scene) (n : Needs) (is : IsScene s) (needs : AreNeeds (program_of 
   -- Instances.
   name_there : (i : FlatInstance) (spot : Spot) (placed : IsPlaced (program_of s) i spot) → instance_told s spot ≡ i ∷ []
   name_there i spot placed =
-      let b : (names : Names) × (slice_get s.modules.list.items spot.«module» ≡ Some names) × HasNames placed.tree names =
+      let b : (names : ModuleNames) × (slice_get s.modules.list.items spot.«module» ≡ Some names) × HasNames placed.tree names =
       both_at HasNames (modules_of (program_of s)) s.modules.list.items spot.«module» placed.tree is.set.modules.list placed.is in
       let name : b.0.«module».now.name ≡ i.module_name = ap (λ (m : ModuleTree). m.name) b.2.tree ∙ found_named (program_of s) i.module_name placed.tree.tree placed.named in
       ap (instance_in spot) b.1 ∙ ap (λ x. x ∷ []) (same_instance (place_of spot.path) i.place b.0.«module».now.name i.module_name placed.path name)
@@ -302,7 +302,7 @@ module _ (s : Scene) (n : Needs) (is : IsScene s) (needs : AreNeeds (program_of 
   pub ready_within : (v t : ℕ) → v ≡ length (variables_of (program_of s)) → t ≡ length (symbols_of (program_of s)) → AreReady s n v t
   ready_within v t e f = subst (λ v. AreReady s n v t) (sym e) (subst (AreReady s n (length (variables_of (program_of s)))) (sym f) ready)
 
-  pub known_within : (v t d : ℕ) → v ≡ length (variables_of (program_of s)) → t ≡ length (symbols_of (program_of s)) → d ≡ length n.order.items → (a : Asked) →
+  pub known_within : (v t d : ℕ) → v ≡ length (variables_of (program_of s)) → t ≡ length (symbols_of (program_of s)) → d ≡ length n.order.items → (a : AskedFormulas) →
       AreConditionsKnown s n (record { variables = v; symbols = t; definitions = d }) (conditions_asked a)
   known_within v t d e f g a =
       subst (λ (b : Bounds). AreConditionsKnown s n b (conditions_asked a)) same (all_known s n is needs accepted a)

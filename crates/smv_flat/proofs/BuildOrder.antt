@@ -4,7 +4,7 @@ use Rattle.std.specs.Prelude.{◌⊎◌, slice_get}
 use Rattle.smv_language.specs.ProgramTree.{Path, Formula, ProgramTree}
 use Rattle.smv_language.specs.Scope.{Place, Key, Meaning, a_variable_at, an_expression_at, an_instance_at, a_symbol, Means}
 use Rattle.smv_language.specs.Trace.{AtSome}
-use Rattle.smv_flat_laws.specs.Resolved.{leaves_in}
+use Rattle.smv_flat_laws.specs.NameResolution.{leaves_in}
 use Rattle.smv_flat_laws.specs.Rules.{Needs, Leads, NeedsItself, expression_of}
 use Rattle.smv_flat_laws.specs.Model.{keys_of_meaning, AreNamed, same_key, is_key_among, Adds, AddsAll, stands, comes, no_more, one_more}
 use Rattle.smv_flat_laws.proofs.Resolving.{same_meaning}

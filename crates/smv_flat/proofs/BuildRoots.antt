@@ -6,7 +6,7 @@ use Rattle.smv_language.specs.Values.{opposite}
 use Rattle.smv_language.specs.Scope.{Place, Role, Kind, a_formal, a_variable, a_define, an_instance, undeclared, kind_declared, kind_in, kind_in_sections, formal_from, kind_after_formals, kind_at, module_of_kind, module_at, find_module, actual_of_kind, plain_name}
 use Rattle.smv_language.specs.Trace.{Each, IsInstance}
 use Rattle.smv_language.specs.Flat.{FlatInstance}
-use Rattle.smv_flat_laws.specs.Resolved.{has_next}
+use Rattle.smv_flat_laws.specs.NameResolution.{has_next}
 use Rattle.smv_flat_laws.specs.Items.{Item, a_declaration, a_definition, an_assignment, some_constants, an_init, an_invar, a_trans, NumberedItem, items_of, items_named, Visit, visits_of, walk, visits, instances_of}
 use Rattle.smv_flat_laws.specs.Looks.{at_actual, plain_of, step_kind, step_of, look_after, ComesBack}
 use Rattle.smv_flat_laws.specs.Rules.{a_use, visit_sites, IsKept, IsAccepted, is_missing_instance, is_miscounted, is_other_count, wrong_count, no_such_name, define_loop, next_here, ActualHasNoMeaning, expression_of_kind, expression_in, ActualLoops, SomeActualLoops, LoopsInside}

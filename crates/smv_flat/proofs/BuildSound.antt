@@ -5,7 +5,7 @@ use Rattle.smv_language.specs.Tree.{truth}
 use Rattle.smv_language.specs.ProgramTree.{Path, Formula, ProgramTree}
 use Rattle.smv_language.specs.Scope.{Place, Key, Meaning, a_variable_at, an_expression_at, an_instance_at, a_symbol}
 use Rattle.smv_language.specs.Flat.{FlatLeaf, flat_variable, flat_symbol, flat_definition, FlatInstance, FlatVariable, FlatModel}
-use Rattle.smv_flat_laws.specs.Resolved.{Definition, StandsFor, IsLeafOf, IsSound}
+use Rattle.smv_flat_laws.specs.NameResolution.{Definition, StandsFor, IsLeafOf, IsSound}
 use Rattle.smv_flat_laws.specs.Items.{instances_of, variables_of}
 use Rattle.smv_flat_laws.specs.Rules.{IsAccepted, expression_of}
 use Rattle.smv_flat_laws.specs.Model.{Root, roots_of, symbols_of, same_place}
@@ -16,8 +16,8 @@ use Rattle.smv_scope.specs.declared.names.Scene.{Scene}
 use Rattle.smv_scope.specs.declared.needs.Needs.{Needs}
 use Rattle.smv_scope.specs.SceneTree.{Denotes, IsFound, program_of, IsScene}
 use Rattle.smv_scope.specs.NeedsTree.{keys_of, IsKeyAt, AreNeeds}
-use Rattle.smv_scope.specs.Walked.{IsDeclaredBy}
-use Rattle.smv_scope.specs.FoundAt.{found_at}
+use Rattle.smv_scope.specs.WalkFindings.{IsDeclaredBy}
+use Rattle.smv_scope.specs.TableLookUps.{found_at}
 use Rattle.smv_flat.specs.ResolverOf.{leaf_placed, leaf_found, leaf_by, number_from, resolver}
 use Rattle.smv_scope.proofs.SceneFound.{scene_found}
 use Rattle.smv_flat.proofs.BuildPlaces.{places_apart}

@@ -6,15 +6,15 @@ use Rattle.smv_language.specs.Tree.{leaf}
 use Rattle.smv_language.specs.ProgramTree.{Text, Path, Formula, ModuleTree, ProgramTree}
 use Rattle.smv_language.specs.Scope.{Place, a_formal, an_instance, Key, actual_key, Meaning, an_expression_at, Means, means_in, find_module, kind_after_formals, kind_in_sections, kind_at, module_of_kind, module_at, actual_of_kind, plain_name, through_actual, through_plain, by_kind}
 use Rattle.smv_flat_laws.specs.Looks.{Look, at_actual, plain_of, step_kind, step_of, look_after, ComesBack, MeetsLoop, MeansNothing}
-use Rattle.smv_flat_laws.specs.Resolved.{has_next}
+use Rattle.smv_flat_laws.specs.NameResolution.{has_next}
 use Rattle.smv_flat_laws.specs.Rules.{has_twice, ActualHasNoMeaning, ActualLoops}
 use Rattle.smv_flat_laws.proofs.EndLaws.{steps_more, ended_stays, ended_meets_none, stuck_means}
 use Rattle.smv_flat_laws.proofs.LookLaws.{step_means}
 use Rattle.smv_scope.specs.SceneTree.{Denotes, IsKnown}
 use Rattle.smv_scope.specs.NeedsTree.{AreNeeds, HasCircle}
-use Rattle.smv_flat.specs.Judging.{IsJudged}
+use Rattle.smv_flat.specs.ValueJudgement.{IsJudged}
 use Rattle.smv_flat.specs.Verdicts.{is_circle_found, is_nothing_known, is_circle_known, is_circle_meant, LoopsAt, IsActualJudged}
-use Rattle.smv_flat.specs.declared.values.Judged.{Judged}
+use Rattle.smv_flat.specs.declared.values.JudgedValue.{JudgedValue}
 use Rattle.smv_scope.specs.declared.names.Formal.{Formal}
 use Rattle.smv_scope.specs.declared.names.Formal.TheVariants as known
 use Rattle.smv_scope.specs.declared.needs.Needs.{Needs}
@@ -206,7 +206,7 @@ plain_told p at own index x m e h formal name plain f k = record {
     no_next e name q = absurd (none_some name q)
 
 pub value_told : (p : ProgramTree) (n : Needs) → AreNeeds p n → (at : Place) (own : Text) (index : ℕ) (x : Text) (m : ModuleTree) (e : Formula) → IsFormalOf p at own index x e → slice_get m.formals index ≡ Some x →
-    plain_name e ≡ None → (f : Formal) → IsKnown p (own ∷ at) x f → (j : Judged) → IsJudged p at e j →
+    plain_name e ≡ None → (f : Formal) → IsKnown p (own ∷ at) x f → (j : JudgedValue) → IsJudged p at e j →
     IsActualJudged p at (own ∷ at) m index e (record { no_value = j.no_value; circle = is_circle_meant n f; next = j.next })
 value_told p n needs at own index x m e h formal none f k j judged = record {
   no_value = subst (λ o. (j.no_value ≡ true) ↔ ActualHasNoMeaning p at e o) (sym none) judged.no_value;

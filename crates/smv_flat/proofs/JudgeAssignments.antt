@@ -10,14 +10,14 @@ use Rattle.smv_language.specs.Trace.{AtSome}
 use Rattle.smv_language.specs.Flat.{FlatInstance}
 use Rattle.smv_flat_laws.specs.Items.{an_assignment, NumberedItem, instances_of}
 use Rattle.smv_flat_laws.specs.Rules.{is_target, is_later, has_bad_next, inputs_judged, GivesInput, BreaksNames, BreaksOnce, a_use}
-use Rattle.smv_flat.specs.Assigned.{IsTargetTold, with_moment, is_met, times_of, assignment_rule, IsItemTold}
+use Rattle.smv_flat.specs.Assignments.{IsTargetTold, with_moment, is_met, times_of, assignment_rule, IsItemTold}
 use Rattle.smv_scope.specs.Faults.{first_of}
-use Rattle.smv_flat.specs.Judging.{IsJudged}
+use Rattle.smv_flat.specs.ValueJudgement.{IsJudged}
 use Rattle.smv_scope.specs.SceneTree.{IsScene, program_of}
 use Rattle.smv_flat.specs.Verdicts.{IsTold}
-use Rattle.smv_scope.specs.declared.fault.Rule.{Rule as Code}
-use Rattle.smv_scope.specs.declared.fault.Rule.TheVariants as code
-use Rattle.smv_flat.specs.declared.values.Judged.{Judged}
+use Rattle.smv_scope.specs.declared.fault.FlatRule.{FlatRule as Code}
+use Rattle.smv_scope.specs.declared.fault.FlatRule.TheVariants as code
+use Rattle.smv_flat.specs.declared.values.JudgedValue.{JudgedValue}
 use Rattle.smv_flat.specs.declared.judge.Times.{Times}
 use Rattle.smv_scope.specs.declared.names.Scene.{Scene}
 use Rattle.smv_flat.proofs.JudgeItems.{Judges, code_of, told_tests, told_names, told_target, told_item, nowhere}
@@ -29,7 +29,7 @@ some_none : {A : Type 0} (a : A) → Some a ≡ None → ⊥
 some_none a e = cc
 
 -- a name without a value
-pub names_told : (s : Scene) (spot place : ℕ) (es : List (Bor (List ℕ) × Times)) (a : AssignmentTree) (j : Judged) → Judges (program_of s) spot a.value j → j.no_value ≡ true →
+pub names_told : (s : Scene) (spot place : ℕ) (es : List (Bor (List ℕ) × Times)) (a : AssignmentTree) (j : JudgedValue) → Judges (program_of s) spot a.value j → j.no_value ≡ true →
     IsItemTold (program_of s) spot place es es (an_assignment a) (Some code.NoSuchName)
 names_told s spot place es a j judged broken = record {
   told = λ at at_spot i at_place is times.
@@ -38,7 +38,7 @@ names_told s spot place es a j judged broken = record {
   times = λ e. absurd (some_none code.NoSuchName e);
 }
 
-no_names : (p : ProgramTree) (at : Place) (a : AssignmentTree) (j : Judged) → IsJudged p at a.value j → j.no_value ≡ false → BreaksNames p at (an_assignment a) → ⊥
+no_names : (p : ProgramTree) (at : Place) (a : AssignmentTree) (j : JudgedValue) → IsJudged p at a.value j → j.no_value ≡ false → BreaksNames p at (an_assignment a) → ⊥
 no_names p at a j judged kept b = never (sym kept ∙ judged.no_value.1 b)
 
 -- a target that may not be assigned
@@ -48,7 +48,7 @@ no_target s scene spot at at_spot when [] h = refl
 no_target s scene spot at at_spot when (x ∷ []) h = sym (target_is s scene spot at at_spot x when) ∙ h x refl
 no_target s scene spot at at_spot when (x ∷ (y ∷ rest)) h = refl
 
-pub target_told : (s : Scene) → IsScene s → (spot place : ℕ) (es : List (Bor (List ℕ) × Times)) (a : AssignmentTree) (j : Judged) → Judges (program_of s) spot a.value j → j.no_value ≡ false →
+pub target_told : (s : Scene) → IsScene s → (spot place : ℕ) (es : List (Bor (List ℕ) × Times)) (a : AssignmentTree) (j : JudgedValue) → Judges (program_of s) spot a.value j → j.no_value ≡ false →
     IsTargetTold s spot a.target a.when None → IsItemTold (program_of s) spot place es es (an_assignment a) (Some code.NotATarget)
 target_told s scene spot place es a j judged kept wrong = record {
   told = λ at at_spot i at_place is times.
@@ -62,7 +62,7 @@ target_told s scene spot place es a j judged kept wrong = record {
 abbrev item_with : NumberedItem → Moment → Path → Formula → NumberedItem
 item_with i when target value = record { number = i.number; before = i.before; item = an_assignment (record { when = when; target = target; value = value }) }
 
-rest_tests : (p : ProgramTree) (at : FlatInstance) (i : NumberedItem) (when : Moment) (target : Path) (value : Formula) (j : Judged) (met next inputs : Bool) →
+rest_tests : (p : ProgramTree) (at : FlatInstance) (i : NumberedItem) (when : Moment) (target : Path) (value : Formula) (j : JudgedValue) (met next inputs : Bool) →
     IsJudged p at.place value j → j.no_value ≡ false → is_target p at.place when target ≡ true →
     (met ≡ true) ↔ BreaksOnce i.before (an_assignment (record { when = when; target = target; value = value })) →
     (next ≡ true) ↔ IsTrue (has_bad_next (is_later when) value) → (inputs ≡ true) ↔ AtSome (GivesInput p at.place) (inputs_judged (is_later when) value) →
@@ -77,7 +77,7 @@ rest_tests p at i when target value j met next inputs h kept right once is_next 
       inputs_test = is_inputs;
     })
 
-rest_told : (p : ProgramTree) (at : FlatInstance) (i : NumberedItem) (when : Moment) (target : Path) (value : Formula) (j : Judged) (met : Bool) →
+rest_told : (p : ProgramTree) (at : FlatInstance) (i : NumberedItem) (when : Moment) (target : Path) (value : Formula) (j : JudgedValue) (met : Bool) →
     IsJudged p at.place value j → j.no_value ≡ false → is_target p at.place when target ≡ true →
     (met ≡ true) ↔ BreaksOnce i.before (an_assignment (record { when = when; target = target; value = value })) →
     IsTold p (a_use at (item_with i when target value)) (assignment_rule met when j)
@@ -91,7 +91,7 @@ rest_told p at i After target value j met h kept right once =
     subst (λ b. IsTold p (a_use at (item_with i After target value)) (if met then Some code.DoubleAssign else first_of ((b, code.NoSuchName) ∷ (j.nested_next, code.NextHere) ∷ (j.next_input, code.InputHere) ∷ []))) (sym kept)
     (rest_tests p at i After target value j met j.nested_next j.next_input h kept right once (λ t. sym h.nested_next ∙ t, λ t. h.nested_next ∙ t) h.next_input)
 
-pub assignment_told : (s : Scene) → IsScene s → (spot place : ℕ) (es new : List (Bor (List ℕ) × Times)) (a : AssignmentTree) (j : Judged) → Judges (program_of s) spot a.value j → j.no_value ≡ false →
+pub assignment_told : (s : Scene) → IsScene s → (spot place : ℕ) (es new : List (Bor (List ℕ) × Times)) (a : AssignmentTree) (j : JudgedValue) → Judges (program_of s) spot a.value j → j.no_value ≡ false →
     (x : Bor Text) → IsTargetTold s spot a.target a.when (Some x) → (met : Bool) → met ≡ is_met (times_of es x.now) a.when →
     ((y : Text) → times_of new y ≡ (if same_text x.now y then with_moment (times_of es x.now) a.when else times_of es y)) →
     (o : Option Code) → o ≡ assignment_rule met a.when j → IsItemTold (program_of s) spot place es new (an_assignment a) o

@@ -3,21 +3,21 @@ use Rattle.std.proofs.Common.{◌≡◌, ℕ, zero, suc, ◌+◌, ◌<◌, ◌�
 use Rattle.std.specs.Prelude.{◌↔◌, ◌⊎◌, slice_get}
 use Rattle.std.proofs.lemmas.List.{map-append}
 use Rattle.smv_language.specs.declared.expr.Expr.{Expr}
-use Rattle.smv_language.specs.Written.{tree_of}
+use Rattle.smv_language.specs.ExpressionTree.{tree_of}
 use Rattle.smv_language.specs.ProgramTree.{Text, Path, Formula, instance, ModuleTree, ProgramTree}
 use Rattle.smv_language.specs.Scope.{Place, Role, find_module, plain_name}
 use Rattle.smv_language.specs.Flat.{FlatInstance}
 use Rattle.smv_flat_laws.specs.Items.{a_declaration, NumberedItem}
-use Rattle.smv_flat_laws.specs.Resolved.{has_next}
+use Rattle.smv_flat_laws.specs.NameResolution.{has_next}
 use Rattle.smv_flat_laws.specs.Rules.{ActualHasNoMeaning, SomeActualLoops, LoopsInside, some_has_next, a_use}
 use Rattle.smv_flat_laws.proofs.Lists.{get_end, get_within}
 use Rattle.smv_scope.specs.Faults.{first_of}
-use Rattle.smv_scope.specs.FoundAt.{formal_at}
+use Rattle.smv_scope.specs.TableLookUps.{formal_at}
 use Rattle.smv_scope.specs.SceneTree.{IsKnown, IsScene, program_of}
 use Rattle.smv_scope.specs.NeedsTree.{AreNeeds}
 use Rattle.smv_flat.specs.Verdicts.{is_nothing_known, is_circle_known, is_circle_meant, IsHanded, LoopsAt, IsActualJudged, AreActualsJudged, joined_actual, JudgesActual, JudgesActuals, IsTold}
-use Rattle.smv_scope.specs.declared.fault.Rule.TheVariants as code
-use Rattle.smv_flat.specs.declared.values.Judged.{Judged}
+use Rattle.smv_scope.specs.declared.fault.FlatRule.TheVariants as code
+use Rattle.smv_flat.specs.declared.values.JudgedValue.{JudgedValue}
 use Rattle.smv_flat.specs.declared.values.JudgedActual.{JudgedActual}
 use Rattle.smv_scope.specs.declared.names.Formal.{Formal}
 use Rattle.smv_scope.specs.declared.names.Scene.{Scene}
@@ -76,7 +76,7 @@ plain_actual s scene spot inner index e plain f known a b is_a is_b m at inside 
         differ r = cc
 
 pub value_actual : (s : Scene) → IsScene s → (n : Needs) → AreNeeds (program_of s) n → (spot inner index : ℕ) (e : Formula) → is_some (plain_name e) ≡ false → (f : Formal) → f ≡ formal_at s inner index →
-    (b : Bool) → b ≡ is_circle_meant n f → (j : Judged) → Judges (program_of s) spot e j →
+    (b : Bool) → b ≡ is_circle_meant n f → (j : JudgedValue) → Judges (program_of s) spot e j →
     JudgesActual (program_of s) spot inner index e (record { no_value = j.no_value; circle = b; next = j.next })
 value_actual s scene n needs spot inner index e other f known b is_b j judged m at inside own actuals h is =
     subst (λ y. IsActualJudged (program_of s) at.place inside.place m index e (record { no_value = j.no_value; circle = y; next = j.next })) (sym is_b)

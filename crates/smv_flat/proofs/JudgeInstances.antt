@@ -11,12 +11,12 @@ use Rattle.smv_flat_laws.specs.Rules.{Site, the_program, a_use, use_sites, modul
 use Rattle.smv_flat_laws.proofs.Conditions.{each_join}
 use Rattle.smv_flat_laws.proofs.FaultLaws.{IsFirstOf, first_broken, in_part, after_part}
 use Rattle.smv_flat_laws.proofs.Lists.{get_within, map_joined}
-use Rattle.smv_flat.specs.Assigned.{times_of, AreTimes, IsItemTold, IsFaultAt, IsPlaceTold}
+use Rattle.smv_flat.specs.Assignments.{times_of, AreTimes, IsItemTold, IsFaultAt, IsPlaceTold}
 use Rattle.smv_scope.specs.Faults.{rule_of, IsFaultOf}
 use Rattle.smv_scope.specs.SceneTree.{number_and_item, items_of_instance, items_at, IsScene, program_of}
 use Rattle.smv_flat.specs.Verdicts.{IsToldRule, IsFirstAt, IsInstanceTold}
 use Rattle.smv_scope.specs.declared.fault.FlatFault.{FlatFault}
-use Rattle.smv_scope.specs.declared.fault.Rule.{Rule as Code}
+use Rattle.smv_scope.specs.declared.fault.FlatRule.{FlatRule as Code}
 use Rattle.smv_flat.specs.declared.judge.Times.{Times}
 use Rattle.smv_scope.specs.declared.names.Scene.{Scene}
 use Rattle.smv_flat.proofs.JudgePlaces.{HasSpot, has_spot}

@@ -5,14 +5,14 @@ use Rattle.smv_language.specs.ProgramTree.{Text, Formula, DeclaredTree, boolean,
 use Rattle.smv_language.specs.Scope.{Role, define_key}
 use Rattle.smv_language.specs.Flat.{FlatInstance}
 use Rattle.smv_flat_laws.specs.Items.{Item, a_declaration, a_definition, some_constants, an_init, an_invar, a_trans, NumberedItem, instances_of}
-use Rattle.smv_flat_laws.specs.Resolved.{has_next}
+use Rattle.smv_flat_laws.specs.NameResolution.{has_next}
 use Rattle.smv_flat_laws.specs.Rules.{Rule, number_of, no_main, main_has_parameters, double_module, double_name, no_such_module, wrong_count, module_loop, no_such_name, not_a_target, double_assign, define_loop, next_here, input_here, too_many, a_use, BreaksNames, BreaksTarget, BreaksOnce, BreaksLoops, BreaksInputs, breaks_next, BreaksAtUse, IsKept, NeedsItself, next_under_next}
 use Rattle.smv_scope.specs.Faults.{first_of}
-use Rattle.smv_flat.specs.Judging.{IsJudged}
+use Rattle.smv_flat.specs.ValueJudgement.{IsJudged}
 use Rattle.smv_flat.specs.Verdicts.{IsTold, IsToldOf}
-use Rattle.smv_scope.specs.declared.fault.Rule.{Rule as Code}
-use Rattle.smv_scope.specs.declared.fault.Rule.TheVariants as code
-use Rattle.smv_flat.specs.declared.values.Judged.{Judged}
+use Rattle.smv_scope.specs.declared.fault.FlatRule.{FlatRule as Code}
+use Rattle.smv_scope.specs.declared.fault.FlatRule.TheVariants as code
+use Rattle.smv_flat.specs.declared.values.JudgedValue.{JudgedValue}
 
 -- What an item keeps of the rules below a number.
 pub record KeepsBelow (p : ProgramTree) (at : FlatInstance) (i : NumberedItem) (k : ℕ) : Type 0 where
@@ -176,40 +176,40 @@ pub told_item : (p : ProgramTree) (at : FlatInstance) (i : NumberedItem) (item :
 told_item p at i item o e h = subst (λ (x : Item). IsTold p (a_use at (record { number = i.number; before = i.before; item = x })) o) (sym e) h
 
 -- what is judged of a value at an instance
-abbrev pub Judges : ProgramTree → ℕ → Formula → Judged → Type 0
+abbrev pub Judges : ProgramTree → ℕ → Formula → JudgedValue → Type 0
 Judges p spot e j = (at : FlatInstance) → slice_get (instances_of p) spot ≡ Some at → IsJudged p at.place e j
 
-abbrev pub now_code : Judged → Option Code
+abbrev pub now_code : JudgedValue → Option Code
 now_code j = first_of ((j.no_value, code.NoSuchName) ∷ (j.next, code.NextHere) ∷ (j.input, code.InputHere) ∷ [])
 
-abbrev pub step_code : Judged → Option Code
+abbrev pub step_code : JudgedValue → Option Code
 step_code j = first_of ((j.no_value, code.NoSuchName) ∷ (j.nested_next, code.NextHere) ∷ (j.next_input, code.InputHere) ∷ [])
 
-now_tests : (p : ProgramTree) (at : FlatInstance) (i : NumberedItem) (e : Formula) (j : Judged) → i.item ≡ an_init e → IsJudged p at.place e j → IsTold p (a_use at i) (now_code j)
+now_tests : (p : ProgramTree) (at : FlatInstance) (i : NumberedItem) (e : Formula) (j : JudgedValue) → i.item ≡ an_init e → IsJudged p at.place e j → IsTold p (a_use at i) (now_code j)
 now_tests p at i e j is h =
     told_item p at i (an_init e) (now_code j) is
     (told_tests p at (record { number = i.number; before = i.before; item = an_init e }) j.no_value false false false j.next j.input
     (record { names_test = h.no_value; target_test = nowhere; once_test = nowhere; loops_test = nowhere; next_test = same_test j.next (has_next e) h.next; inputs_test = h.input }))
 
-invar_tests : (p : ProgramTree) (at : FlatInstance) (i : NumberedItem) (e : Formula) (j : Judged) → i.item ≡ an_invar e → IsJudged p at.place e j → IsTold p (a_use at i) (now_code j)
+invar_tests : (p : ProgramTree) (at : FlatInstance) (i : NumberedItem) (e : Formula) (j : JudgedValue) → i.item ≡ an_invar e → IsJudged p at.place e j → IsTold p (a_use at i) (now_code j)
 invar_tests p at i e j is h =
     told_item p at i (an_invar e) (now_code j) is
     (told_tests p at (record { number = i.number; before = i.before; item = an_invar e }) j.no_value false false false j.next j.input
     (record { names_test = h.no_value; target_test = nowhere; once_test = nowhere; loops_test = nowhere; next_test = same_test j.next (has_next e) h.next; inputs_test = h.input }))
 
-trans_tests : (p : ProgramTree) (at : FlatInstance) (i : NumberedItem) (e : Formula) (j : Judged) → i.item ≡ a_trans e → IsJudged p at.place e j → IsTold p (a_use at i) (step_code j)
+trans_tests : (p : ProgramTree) (at : FlatInstance) (i : NumberedItem) (e : Formula) (j : JudgedValue) → i.item ≡ a_trans e → IsJudged p at.place e j → IsTold p (a_use at i) (step_code j)
 trans_tests p at i e j is h =
     told_item p at i (a_trans e) (step_code j) is
     (told_tests p at (record { number = i.number; before = i.before; item = a_trans e }) j.no_value false false false j.nested_next j.next_input
     (record { names_test = h.no_value; target_test = nowhere; once_test = nowhere; loops_test = nowhere; next_test = same_test j.nested_next (next_under_next e) h.nested_next; inputs_test = h.next_input }))
 
-pub init_told : (p : ProgramTree) (spot : ℕ) (e : Formula) (j : Judged) (o : Option Code) → Judges p spot e j → o ≡ now_code j → IsToldOf p spot (an_init e) o
+pub init_told : (p : ProgramTree) (spot : ℕ) (e : Formula) (j : JudgedValue) (o : Option Code) → Judges p spot e j → o ≡ now_code j → IsToldOf p spot (an_init e) o
 init_told p spot e j o h is at at_spot i item = subst (IsTold p (a_use at i)) (sym is) (now_tests p at i e j item (h at at_spot))
 
-pub invar_told : (p : ProgramTree) (spot : ℕ) (e : Formula) (j : Judged) (o : Option Code) → Judges p spot e j → o ≡ now_code j → IsToldOf p spot (an_invar e) o
+pub invar_told : (p : ProgramTree) (spot : ℕ) (e : Formula) (j : JudgedValue) (o : Option Code) → Judges p spot e j → o ≡ now_code j → IsToldOf p spot (an_invar e) o
 invar_told p spot e j o h is at at_spot i item = subst (IsTold p (a_use at i)) (sym is) (invar_tests p at i e j item (h at at_spot))
 
-pub trans_told : (p : ProgramTree) (spot : ℕ) (e : Formula) (j : Judged) (o : Option Code) → Judges p spot e j → o ≡ step_code j → IsToldOf p spot (a_trans e) o
+pub trans_told : (p : ProgramTree) (spot : ℕ) (e : Formula) (j : JudgedValue) (o : Option Code) → Judges p spot e j → o ≡ step_code j → IsToldOf p spot (a_trans e) o
 trans_told p spot e j o h is at at_spot i item = subst (IsTold p (a_use at i)) (sym is) (trans_tests p at i e j item (h at at_spot))
 
 -- an item that breaks no rule of values
@@ -219,7 +219,7 @@ constants_told p spot xs at at_spot i item =
     (told_tests p at (record { number = i.number; before = i.before; item = some_constants xs }) false false false false false false
     (record { names_test = nowhere; target_test = nowhere; once_test = nowhere; loops_test = nowhere; next_test = same_test false false refl; inputs_test = nowhere }))
 
-pub definition_told : (p : ProgramTree) (at : FlatInstance) (i : NumberedItem) (d : DefineTree) (j : Judged) (circle : Bool) → i.item ≡ a_definition d → IsJudged p at.place d.value j →
+pub definition_told : (p : ProgramTree) (at : FlatInstance) (i : NumberedItem) (d : DefineTree) (j : JudgedValue) (circle : Bool) → i.item ≡ a_definition d → IsJudged p at.place d.value j →
     (circle ≡ true) ↔ NeedsItself p (define_key at.place d.name) →
     IsTold p (a_use at i) (first_of ((j.no_value, code.NoSuchName) ∷ (circle, code.DefineLoop) ∷ (j.next, code.NextHere) ∷ []))
 definition_told p at i d j circle is h loops =

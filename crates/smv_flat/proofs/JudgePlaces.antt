@@ -14,7 +14,7 @@ use Rattle.smv_flat_laws.proofs.KindLaws.{ItemFacts, kind_of_declaration}
 use Rattle.smv_flat_laws.proofs.Places.{In, facts_named, Walked, in_items, found_at, walked, are_instances}
 use Rattle.smv_flat_laws.proofs.Variables.{both_at}
 use Rattle.smv_flat_laws.proofs.Walkable.{main_is_there}
-use Rattle.smv_scope.specs.FoundAt.{own_in, own_at, found_or, formal_in, formal_or, formal_at}
+use Rattle.smv_scope.specs.TableLookUps.{own_in, own_at, found_or, formal_in, formal_or, formal_at}
 use Rattle.smv_scope.specs.SceneTree.{IsCalled, IsSpot, IsOwn, IsKnown, AreKnown, formals_of, IsScene, program_of}
 use Rattle.smv_flat.specs.Verdicts.{IsHanded}
 use Rattle.smv_scope.specs.declared.names.Formal.{Formal}

@@ -12,14 +12,14 @@ use Rattle.smv_flat_laws.specs.Rules.{may_be_assigned, is_target, IsWalkable}
 use Rattle.smv_flat_laws.proofs.KindLaws.{kind_of_item, kind_in_items, sections_kind, not_assigned_none}
 use Rattle.smv_flat_laws.proofs.Places.{found_at}
 use Rattle.smv_flat_laws.proofs.Variables.{both_at}
-use Rattle.smv_flat.specs.Assigned.{meant_by, local_meant, may_assign}
-use Rattle.smv_scope.specs.FoundAt.{names_of_spot, local_in, local_at, own_at}
+use Rattle.smv_flat.specs.Assignments.{meant_by, local_meant, may_assign}
+use Rattle.smv_scope.specs.TableLookUps.{names_of_spot, local_in, local_at, own_at}
 use Rattle.smv_language.specs.ModelTree.{role_of}
 use Rattle.smv_scope.specs.SceneTree.{gives_name, formal_entries, item_entries, local_entries, HasNames, Denotes, meaning_of_declared, meaning_of_item, IsOwnMeaning, IsScene, program_of}
 use Rattle.smv_language.specs.declared.model.Role.TheVariants.{State, Input, Frozen}
 use Rattle.smv_scope.specs.declared.modules.Local.{Local}
 use Rattle.smv_scope.specs.declared.modules.Local.TheVariants as local
-use Rattle.smv_scope.specs.declared.modules.Names.{Names}
+use Rattle.smv_scope.specs.declared.modules.ModuleNames.{ModuleNames}
 use Rattle.smv_scope.specs.declared.names.Scene.{Scene}
 use Rattle.smv_scope.specs.declared.walk.Meaning.{Meaning as Found}
 use Rattle.smv_scope.specs.declared.walk.Meaning.TheVariants as found
@@ -118,7 +118,7 @@ local_is s scene k at e h x =
     spot : HasSpot s k at
     spot = has_spot s scene k at e
 
-    names : (names : Names) × (slice_get s.modules.list.items spot.spot.«module» ≡ Some names) × HasNames spot.holds.placed.tree names
+    names : (names : ModuleNames) × (slice_get s.modules.list.items spot.spot.«module» ≡ Some names) × HasNames spot.holds.placed.tree names
     names = both_at HasNames (modules_of (program_of s)) s.modules.list.items spot.spot.«module» spot.holds.placed.tree scene.set.modules.list spot.holds.placed.is
 
     same : spot.holds.placed.tree.tree ≡ h.tree

@@ -12,7 +12,7 @@ use Rattle.smv_language.specs.Trace.{AtSome}
 use Rattle.smv_language.proofs.ValueLaws.{same_text_refl}
 use Rattle.smv_flat_laws.specs.Items.{Item, a_declaration, a_definition, an_assignment, some_constants, an_init, an_invar, a_trans}
 use Rattle.smv_flat_laws.specs.Rules.{at_one_time, Assigns, is_later}
-use Rattle.smv_flat.specs.Assigned.{is_always, is_first, no_times, with_moment, is_met, is_only, assigns_at, some_assigns, times_in, times_of, AreTimes}
+use Rattle.smv_flat.specs.Assignments.{is_always, is_first, no_times, with_moment, is_met, is_only, assigns_at, some_assigns, times_in, times_of, AreTimes}
 use Rattle.smv_flat.specs.declared.judge.Times.{Times}
 use Rattle.smv_language.proofs.BorrowedTexts.{same_bytes}
 use Rattle.smv_lexer.proofs.SignLemmas.{both_true}

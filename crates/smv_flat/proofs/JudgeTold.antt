@@ -6,25 +6,25 @@ use Rattle.smv_language.specs.declared.expr.Expr.{Expr}
 use Rattle.smv_language.specs.declared.program.Assignment.{Assignment}
 use Rattle.smv_language.specs.declared.program.Decl.{Decl}
 use Rattle.smv_language.specs.declared.program.Define.{Define}
-use Rattle.smv_language.specs.Written.{tree_of}
+use Rattle.smv_language.specs.ExpressionTree.{tree_of}
 use Rattle.smv_language.specs.ProgramTree.{Text, Path, Formula, DeclaredTree, boolean, range, members, instance, DeclTree, DefineTree, ModuleTree, ProgramTree, decl_tree, define_tree, assignment_tree}
 use Rattle.smv_language.specs.Scope.{Place, Role, define_key, an_expression_at, an_instance_at, find_module}
 use Rattle.smv_language.specs.Flat.{FlatInstance}
 use Rattle.smv_flat_laws.specs.Items.{Item, a_declaration, a_definition, an_assignment, some_constants, an_init, an_invar, a_trans, NumberedItem, items_named, instances_of}
 use Rattle.smv_flat_laws.specs.Rules.{a_use}
-use Rattle.smv_flat.specs.Assigned.{IsItemTold}
+use Rattle.smv_flat.specs.Assignments.{IsItemTold}
 use Rattle.smv_scope.specs.Faults.{first_of}
-use Rattle.smv_scope.specs.FoundAt.{own_at}
+use Rattle.smv_scope.specs.TableLookUps.{own_at}
 use Rattle.smv_scope.specs.ItemTree.{item_tree}
 use Rattle.smv_language.specs.ModelTree.{role_of}
 use Rattle.smv_scope.specs.NeedsTree.{AreNeeds, HasCircle}
 use Rattle.smv_scope.specs.SceneTree.{Denotes, meaning_of_item, IsOwnMeaning, IsScene, program_of}
 use Rattle.smv_flat.specs.Verdicts.{is_circle_found, IsTold, IsToldOf, IsToldHere, AreActuals, instance_in, IsHanded, JudgesActuals}
-use Rattle.smv_scope.specs.declared.fault.Rule.{Rule as Code}
-use Rattle.smv_scope.specs.declared.fault.Rule.TheVariants as code
+use Rattle.smv_scope.specs.declared.fault.FlatRule.{FlatRule as Code}
+use Rattle.smv_scope.specs.declared.fault.FlatRule.TheVariants as code
 use Rattle.smv_scope.specs.declared.items.Item.{Item as ItemCode}
 use Rattle.smv_scope.specs.declared.items.Item.TheVariants as items
-use Rattle.smv_flat.specs.declared.values.Judged.{Judged}
+use Rattle.smv_flat.specs.declared.values.JudgedValue.{JudgedValue}
 use Rattle.smv_flat.specs.declared.values.JudgedActual.{JudgedActual}
 use Rattle.smv_flat.specs.declared.judge.Times.{Times}
 use Rattle.smv_scope.specs.declared.names.Scene.{Scene}
@@ -54,7 +54,7 @@ circle_of p n needs (found.Symbol k) key at e d = absurd d
 circle_of p n needs found.Nothing key at e d = absurd d
 circle_of p n needs found.Loop key at e d = absurd d
 
-pub definition_here : (s : Scene) → IsScene s → (n : Needs) → AreNeeds (program_of s) n → (spot place : ℕ) (d : DefineTree) (j : Judged) → Judges (program_of s) spot d.value j → (f : Found) → f ≡ own_at s spot place →
+pub definition_here : (s : Scene) → IsScene s → (n : Needs) → AreNeeds (program_of s) n → (spot place : ℕ) (d : DefineTree) (j : JudgedValue) → Judges (program_of s) spot d.value j → (f : Found) → f ≡ own_at s spot place →
     (circle : Bool) → circle ≡ is_circle_found n f → (o : Option Code) → o ≡ first_of ((j.no_value, code.NoSuchName) ∷ (circle, code.DefineLoop) ∷ (j.next, code.NextHere) ∷ []) →
     IsToldHere (program_of s) spot place (a_definition d) o
 definition_here s scene n needs spot place d j judged f own circle is_circle o is at at_spot i at_place item =

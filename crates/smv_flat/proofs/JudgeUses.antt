@@ -2,9 +2,9 @@
 use Rattle.std.proofs.Common.{◌≡◌, Bool, true, false, List, [], ◌∷◌, ◌++◌, refl, ◌∙◌, ap}
 use Rattle.std.proofs.lemmas.List.{map-append}
 use Rattle.smv_language.specs.Tree.{Tree, Trees, Branches, truth, number, leaf, not_of, negate, next_of, binary, choice, case_of, set_of, span, no_tree, tree_then, no_branch, branch_then}
-use Rattle.smv_flat_laws.specs.Resolved.{leaves_in, trees_leaves, branches_leaves}
+use Rattle.smv_flat_laws.specs.NameResolution.{leaves_in, trees_leaves, branches_leaves}
 use Rattle.smv_flat_laws.specs.Rules.{leaves_under, trees_leaves_under, branches_leaves_under}
-use Rattle.smv_scope.specs.Flagged.{flagged, trees_flagged, branches_flagged}
+use Rattle.smv_scope.specs.NextFlags.{flagged, trees_flagged, branches_flagged}
 use Rattle.smv_flat.specs.Verdicts.{names_in, names_under}
 
 names_joined : {L : Type 0} (us vs : List (L × Bool)) → names_in (us ++ vs) ≡ names_in us ++ names_in vs

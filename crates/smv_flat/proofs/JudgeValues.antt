@@ -7,14 +7,14 @@ use Rattle.smv_language.specs.Scope.{Place}
 use Rattle.smv_language.specs.Trace.{AtSome}
 use Rattle.smv_language.specs.Flat.{FlatInstance}
 use Rattle.smv_flat_laws.specs.Items.{instances_of}
-use Rattle.smv_flat_laws.specs.Resolved.{has_next}
+use Rattle.smv_flat_laws.specs.NameResolution.{has_next}
 use Rattle.smv_flat_laws.specs.Rules.{HasNoValue, GivesInput, IsWalkable, next_under_next}
 use Rattle.smv_scope.specs.SceneTree.{IsFound, IsScene, program_of}
 use Rattle.smv_scope.specs.NeedsTree.{AreNeeds}
-use Rattle.smv_scope.specs.Flagged.{flagged}
-use Rattle.smv_flat.specs.Judging.{IsJudged}
+use Rattle.smv_scope.specs.NextFlags.{flagged}
+use Rattle.smv_flat.specs.ValueJudgement.{IsJudged}
 use Rattle.smv_flat.specs.Verdicts.{is_without_value, is_input_found, names_in, names_under, with_flags, AreNoted, AreJudged}
-use Rattle.smv_flat.specs.declared.values.Judged.{Judged}
+use Rattle.smv_flat.specs.declared.values.JudgedValue.{JudgedValue}
 use Rattle.smv_scope.specs.declared.names.Scene.{Scene}
 use Rattle.smv_scope.specs.declared.needs.Needs.{Needs}
 use Rattle.smv_scope.specs.declared.walk.Meaning.{Meaning as Found}
@@ -76,7 +76,7 @@ one_under P us (name, false) a b h k =
     append_none [] = refl
     append_none (x ∷ xs) = ap (λ ys. x ∷ ys) (append_none xs)
 
-note_name : (p : ProgramTree) → IsWalkable p → (n : Needs) → AreNeeds p n → (at : Place) (u : Path × Bool) (f : Found) → IsFound p at u.0 f → (us : List (Path × Bool)) (j : Judged) →
+note_name : (p : ProgramTree) → IsWalkable p → (n : Needs) → AreNeeds p n → (at : Place) (u : Path × Bool) (f : Found) → IsFound p at u.0 f → (us : List (Path × Bool)) (j : JudgedValue) →
     AreNoted p at us j → AreNoted p at (us ++ u ∷ []) (with_flags j (is_without_value f) (is_input_found n f) u.1)
 note_name p walkable n needs at u f h us j noted = record {
   no_value = named (HasNoValue p at) j.no_value (is_without_value f) noted.no_value (without_value p at u.0 f h);
@@ -88,7 +88,7 @@ note_name p walkable n needs at u f h us j noted = record {
     named P a b h k = subst (λ ls. ((a || b) ≡ true) ↔ AtSome P ls) (sym (map-append (λ (u : Path × Bool). u.0) us (u ∷ []))) (one_more P (names_in us) u.0 a b h k)
 
 pub judge_name : (p : ProgramTree) → IsWalkable p → (n : Needs) → AreNeeds p n → (spot : ℕ) (u : Path × Bool) (f : Found) →
-    ((at : FlatInstance) → slice_get (instances_of p) spot ≡ Some at → IsFound p at.place u.0 f) → (us : List (Path × Bool)) (next nested : Bool) (j : Judged) →
+    ((at : FlatInstance) → slice_get (instances_of p) spot ≡ Some at → IsFound p at.place u.0 f) → (us : List (Path × Bool)) (next nested : Bool) (j : JudgedValue) →
     AreJudged p spot us next nested j → AreJudged p spot (us ++ u ∷ []) next nested (with_flags j (is_without_value f) (is_input_found n f) u.1)
 judge_name p walkable n needs spot u f h us next nested j judged = record {
   names = λ at is. note_name p walkable n needs at.place u f (h at is) us j (judged.names at is);
@@ -103,7 +103,7 @@ no_names p spot next nested = record { names = λ at is. record { no_value = now
     nowhere : (false ≡ true) ↔ ⊥
     nowhere = (λ e. cc, λ h. absurd h)
 
-pub all_names : (p : ProgramTree) (spot : ℕ) (e : Formula) (j : Judged) → AreJudged p spot (flagged false e) (has_next e) (next_under_next e) j →
+pub all_names : (p : ProgramTree) (spot : ℕ) (e : Formula) (j : JudgedValue) → AreJudged p spot (flagged false e) (has_next e) (next_under_next e) j →
     (at : FlatInstance) → slice_get (instances_of p) spot ≡ Some at → IsJudged p at.place e j
 all_names p spot e j judged at is =
     let noted : AreNoted p at.place (flagged false e) j = judged.names at is in
@@ -118,7 +118,7 @@ all_names p spot e j judged at is =
 -- the same, with what is told of the name by its parts
 pub judge_told : (s : Scene) → IsScene s → (n : Needs) → AreNeeds (program_of s) n → (spot : ℕ) (u : Path × Bool) (name : Path) → name ≡ u.0 → (f : Found) →
     (IsScene s → (at : FlatInstance) → slice_get (instances_of (program_of s)) spot ≡ Some at → IsFound (program_of s) at.place name f) → (a b d : Bool) →
-    a ≡ is_without_value f → b ≡ is_input_found n f → d ≡ u.1 → (j r : Judged) → r ≡ with_flags j a b d → (us : List (Path × Bool)) (next nested : Bool) →
+    a ≡ is_without_value f → b ≡ is_input_found n f → d ≡ u.1 → (j r : JudgedValue) → r ≡ with_flags j a b d → (us : List (Path × Bool)) (next nested : Bool) →
     AreJudged (program_of s) spot us next nested j → AreJudged (program_of s) spot (us ++ u ∷ []) next nested r
 judge_told s scene n needs spot u name same f h a b d is_a is_b is_d j r is us next nested judged =
     let told : r ≡ with_flags j (is_without_value f) (is_input_found n f) u.1 =
@@ -128,7 +128,7 @@ judge_told s scene n needs spot u name same f h a b d is_a is_b is_d j r is us n
     (λ at at_spot. subst (λ x. IsFound (program_of s) at.place x f) same (h scene at at_spot)) us next nested j judged)
 
 -- the names of a value, as they are told by an equation
-pub value_judged : (p : ProgramTree) (spot : ℕ) (e : Formula) (us vs : List (Path × Bool)) (next nested : Bool) (j : Judged) → us ≡ vs → vs ≡ flagged false e →
+pub value_judged : (p : ProgramTree) (spot : ℕ) (e : Formula) (us vs : List (Path × Bool)) (next nested : Bool) (j : JudgedValue) → us ≡ vs → vs ≡ flagged false e →
     next ≡ has_next e → nested ≡ next_under_next e → AreJudged p spot us next nested j → (at : FlatInstance) → slice_get (instances_of p) spot ≡ Some at → IsJudged p at.place e j
 value_judged p spot e us vs next nested j same names is_next is_nested judged =
     all_names p spot e j

@@ -4,7 +4,7 @@ use Rattle.smv_language.specs.Flat.{FlatModel}
 use Rattle.smv_flat_laws.specs.Rules.{IsAccepted}
 use Rattle.smv_flat_laws.specs.Model.{IsFlatOf}
 use Rattle.smv_flat_laws.proofs.OneModel.{one_model}
-use Rattle.smv_scope.specs.declared.fault.Rule.{Rule}
+use Rattle.smv_scope.specs.declared.fault.FlatRule.{FlatRule}
 use Rattle.smv_scope.specs.declared.names.Scene.{Scene}
 use Rattle.smv_scope.specs.declared.needs.Needs.{Needs}
 use Rattle.smv_scope.specs.Faults.{first_of}
@@ -20,7 +20,7 @@ only_model s n scene needs accepted m k is also =
     (keys_differ (program_of s) scene.set.walkable n.order.items n.places.items (order s n scene needs accepted) is.written (all_one is.order (order s n scene needs accepted).adds)) also)
 
 -- where no rule of three is told, the second is not broken
-pub second_not : (a b c : Bool) (x y z : Rule) → first_of ((a, x) ∷ (b, y) ∷ (c, z) ∷ []) ≡ None → b ≡ false
+pub second_not : (a b c : Bool) (x y z : FlatRule) → first_of ((a, x) ∷ (b, y) ∷ (c, z) ∷ []) ≡ None → b ≡ false
 second_not true b c x y z e = cc
 second_not false true c x y z e = cc
 second_not false false c x y z e = refl

@@ -3,7 +3,7 @@ use Rattle.std.proofs.Common.{◌≡◌, ℕ, zero, suc, List, [], ◌∷◌, So
 use Rattle.std.specs.Prelude.{slice_get, map}
 use Rattle.smv_language.specs.ProgramTree.{ProgramTree}
 use Rattle.smv_language.specs.Scope.{Key}
-use Rattle.smv_flat_laws.specs.Resolved.{Definition}
+use Rattle.smv_flat_laws.specs.NameResolution.{Definition}
 use Rattle.smv_flat_laws.specs.Rules.{IsWalkable}
 use Rattle.smv_flat_laws.specs.Model.{KeysDiffer, Root, roots_of}
 use Rattle.smv_flat_laws.proofs.Conditions.{each_from}

@@ -7,23 +7,23 @@ use Rattle.smv_language.specs.ProgramTree.{Text, Formula, ProgramTree}
 use Rattle.smv_language.specs.Leaves.{tree_map}
 use Rattle.smv_language.specs.Scope.{Place}
 use Rattle.smv_language.specs.Flat.{FlatLeaf, FlatInstance, FlatVariable, FlatFormula, FlatModel}
-use Rattle.smv_flat_laws.specs.Resolved.{Definition, IsSound}
+use Rattle.smv_flat_laws.specs.NameResolution.{Definition, IsSound}
 use Rattle.smv_flat_laws.specs.Items.{Visit, instances_of, variables_of}
 use Rattle.smv_flat_laws.specs.Rules.{no_main, main_has_parameters, double_module, double_name, no_such_module, wrong_count, module_loop, no_such_name, not_a_target, double_assign, define_loop, next_here, input_here, too_many, SomeHasNoValue, IsAccepted, expression_of}
 use Rattle.smv_flat_laws.specs.Model.{symbols_of, IsVariableOf, IsDefinitionOf, IsFlatOf}
-use Rattle.smv_scope.specs.declared.fault.Rule.TheVariants.{NoSuchName, NextHere, InputHere}
+use Rattle.smv_scope.specs.declared.fault.FlatRule.TheVariants.{NoSuchName, NextHere, InputHere}
 use Rattle.smv_scope.specs.declared.fault.FlatFault.{FlatFault}
-use Rattle.smv_flat.specs.declared.values.Judged.{Judged}
+use Rattle.smv_flat.specs.declared.values.JudgedValue.{JudgedValue}
 use Rattle.smv_language.specs.declared.model.FlatModel.{FlatModel as FlatModelOf}
 use Rattle.smv_scope.specs.declared.names.Scene.{Scene}
 use Rattle.smv_scope.specs.declared.needs.Needs.{Needs}
 use Rattle.smv_scope.specs.Faults.{first_of, rule_of, IsWant}
-use Rattle.smv_scope.specs.Closed.{bounds_of}
+use Rattle.smv_scope.specs.ClosedModels.{bounds_of}
 use Rattle.smv_language.specs.ModelTree.{variable_tree, formula_tree, model_tree}
 use Rattle.smv_scope.specs.SceneTree.{program_of, IsScene}
 use Rattle.smv_scope.specs.NeedsTree.{IsKeyAt, AreNeeds}
-use Rattle.smv_scope.specs.Walked.{IsDeclaredBy}
-use Rattle.smv_flat.specs.Judging.{IsJudged}
+use Rattle.smv_scope.specs.WalkFindings.{IsDeclaredBy}
+use Rattle.smv_flat.specs.ValueJudgement.{IsJudged}
 use Rattle.smv_flat.specs.ResolverOf.{leaf_at, leaf_by, resolver, AreKnown}
 use Rattle.smv_flat_laws.specs.ValueRules.{IsLeastBroken, KeepsValue}
 use Rattle.smv_flat_laws.specs.ResolvedAt.{IsResolvedAt}
@@ -103,10 +103,10 @@ module _ (s : Scene) (n : Needs) (is : IsScene s) (needs : AreNeeds (program_of 
 
 -- No rule is broken.
 module _ (p : ProgramTree) (at : Place) (inputs : Bool) (e : Formula) where
-  no_value : (j : Judged) → IsJudged p at e j → j.no_value ≡ false → SomeHasNoValue p at e → ⊥
+  no_value : (j : JudgedValue) → IsJudged p at e j → j.no_value ≡ false → SomeHasNoValue p at e → ⊥
   no_value j is f bad = let both : true ≡ false = sym (is.no_value.1 bad) ∙ f in cc
 
-  pub none_told : (j : Judged) → IsJudged p at e j → first_of ((j.no_value, NoSuchName) ∷ (j.next, NextHere) ∷ (j.input && not inputs, InputHere) ∷ []) ≡ None → SomeHasNoValue p at e → ⊥
+  pub none_told : (j : JudgedValue) → IsJudged p at e j → first_of ((j.no_value, NoSuchName) ∷ (j.next, NextHere) ∷ (j.input && not inputs, InputHere) ∷ []) ≡ None → SomeHasNoValue p at e → ⊥
   none_told j is h = by_flag j.no_value refl h
     where
       by_flag : (a : Bool) → j.no_value ≡ a → first_of ((a, NoSuchName) ∷ (j.next, NextHere) ∷ (j.input && not inputs, InputHere) ∷ []) ≡ None → SomeHasNoValue p at e → ⊥
@@ -125,7 +125,7 @@ module _ (p : ProgramTree) (at : Place) (inputs : Bool) (e : Formula) where
   input_told false may h k e = cc
 
   -- where no rule is told, none is broken
-  pub none_broken : (j : Judged) → IsJudged p at e j → first_of ((j.no_value, NoSuchName) ∷ (j.next, NextHere) ∷ (j.input && not inputs, InputHere) ∷ []) ≡ None → KeepsValue p at inputs e
+  pub none_broken : (j : JudgedValue) → IsJudged p at e j → first_of ((j.no_value, NoSuchName) ∷ (j.next, NextHere) ∷ (j.input && not inputs, InputHere) ∷ []) ≡ None → KeepsValue p at inputs e
   none_broken j is h no_main b = absurd b
   none_broken j is h main_has_parameters b = absurd b
   none_broken j is h double_module b = absurd b

@@ -7,7 +7,7 @@ use Rattle.smv_language.specs.declared.expr.Expr.TheVariants.{Case, SetOf}
 use Rattle.smv_language.specs.ProgramTree.{Path}
 use Rattle.smv_language.specs.Tree.{case_of, set_of, tree_then, branch_then, trees_from, branches_from}
 use Rattle.smv_language.specs.Leaves.{tree_map, trees_map, branches_map}
-use Rattle.smv_language.specs.Written.{trees_of, branches_of}
+use Rattle.smv_language.specs.ExpressionTree.{trees_of, branches_of}
 use Rattle.smv_language.proofs.WrittenLaws.{tree_of_case, tree_of_set}
 use Rattle.smv_language.specs.Flat.{FlatLeaf}
 use Rattle.smv_scope.specs.declared.bounds.Bounds.{Bounds}

@@ -1,9 +1,9 @@
 pub mod Shape
-pub mod Traced
-pub mod Judging
+pub mod HistoryTraces
+pub mod ValueJudgement
 pub mod ResolverOf
-pub mod Asked
+pub mod FormulaLists
 pub mod Verdicts
-pub mod Assigned
+pub mod Assignments
 pub mod ResolvedAt
 pub mod ScopeOf

@@ -2,7 +2,7 @@
 use Rattle.std.specs.Prelude.{◌≡◌, ℕ, Bool, false, Some, slice_get, IfSome, Result, IfOk, IfErr, OnOk}
 use Rattle.smv_language.specs.ProgramTree.{Path, Formula, ProgramTree}
 use Rattle.smv_language.specs.Scope.{Place}
-use Rattle.smv_language.specs.Written.{tree_of}
+use Rattle.smv_language.specs.ExpressionTree.{tree_of}
 use Rattle.smv_language.specs.Flat.{FlatInstance, FlatModel}
 use Rattle.smv_language.specs.ModelTree.{flat_tree}
 use Rattle.smv_language.specs.declared.expr.Expr.{Expr}
@@ -10,7 +10,7 @@ use Rattle.smv_language.specs.declared.model.Flat.{Flat}
 use Rattle.smv_flat_laws.specs.Rules.{IsAccepted}
 use Rattle.smv_flat_laws.specs.ValueRules.{IsLeastBroken, KeepsValue}
 use Rattle.smv_flat_laws.specs.Model.{IsFlatOf}
-use Rattle.smv_flat_laws.specs.Resolved.{has_next}
+use Rattle.smv_flat_laws.specs.NameResolution.{has_next}
 use Rattle.smv_flat_laws.specs.ResolvedAt.{IsResolvedAt}
 use Rattle.smv_scope.specs.declared.fault.FlatFault.{FlatFault}
 use Rattle.smv_scope.specs.Faults.{rule_of}
@@ -29,7 +29,8 @@ IsValueFault p at inputs e f = IfSome (rule_of f.rule) (λ r. (f.item ≡ 0) × 
 
 -- what is made means what the expression means there
 abbrev pub ResolvesAt : ProgramTree → FlatModel → ℕ → Expr Path → Result (Expr Flat) FlatFault → Type 0
-ResolvesAt p m number e answer = (at : FlatInstance) → IsAt p m number at → IfOk answer (λ made. IsResolvedAt p m at.place (tree_of e) (flat_tree made))
+ResolvesAt p m number e answer = (at : FlatInstance) → IsAt p m number at →
+    IfOk answer (λ made. IsResolvedAt p m at.place (tree_of e) (flat_tree made))
 
 -- an expression that is resolved has no `next`
 abbrev pub HasNoNextAt : ProgramTree → FlatModel → ℕ → Expr Path → Result (Expr Flat) FlatFault → Type 0

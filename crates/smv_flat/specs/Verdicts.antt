@@ -1,20 +1,22 @@
 -- What is judged of meanings, names, actuals and items on the way to the first fault of the items.
-use Rattle.std.specs.Prelude.{◌≡◌, ◌↔◌, ◌<◌, ℕ, Bool, true, false, ◌||◌, ◌&&◌, List, [], ◌∷◌, ◌++◌, length, map, Option, Some, None, IfSome, slice_get, if◌then◌else◌}
+use Rattle.std.specs.Prelude.{◌≡◌, ◌↔◌, ◌<◌, ℕ, Bool, true, false, ◌||◌, ◌&&◌, List, [], ◌∷◌, ◌++◌, length, map, Option, Some, None, IfSome}
+use Rattle.std.specs.Prelude.{slice_get, if◌then◌else◌}
 use Rattle.std.specs.Borrow.{Bor}
 use Rattle.smv_language.specs.ProgramTree.{Text, Path, Formula, DeclaredTree, boolean, range, members, instance, ModuleTree, ProgramTree}
 use Rattle.smv_language.specs.Scope.{Place, an_instance, find_module, kind_at, module_at, plain_name}
 use Rattle.smv_language.specs.Trace.{Each, AtSome}
-use Rattle.smv_language.specs.Written.{tree_of}
+use Rattle.smv_language.specs.ExpressionTree.{tree_of}
 use Rattle.smv_language.specs.declared.expr.Expr.{Expr}
 use Rattle.smv_language.specs.Flat.{FlatInstance}
 use Rattle.smv_flat_laws.specs.Items.{Item, NumberedItem, items_named, instances_of}
-use Rattle.smv_flat_laws.specs.Resolved.{has_next}
+use Rattle.smv_flat_laws.specs.NameResolution.{has_next}
 use Rattle.smv_flat_laws.specs.Rules as rules
-use Rattle.smv_flat_laws.specs.Rules.{ActualHasNoMeaning, ActualLoops, SomeActualLoops, some_has_next, has_twice, HasNoValue, GivesInput, Site, item_of, a_use, number_of, Breaks, IsKept}
+use Rattle.smv_flat_laws.specs.Rules.{ActualHasNoMeaning, ActualLoops, SomeActualLoops, some_has_next, has_twice, HasNoValue, GivesInput}
+use Rattle.smv_flat_laws.specs.Rules.{Site, item_of, a_use, number_of, Breaks, IsKept}
 use Rattle.smv_scope.specs.Faults.{rule_of}
 use Rattle.smv_scope.specs.declared.fault.FlatFault.{FlatFault}
-use Rattle.smv_scope.specs.declared.fault.Rule.{Rule}
-use Rattle.smv_flat.specs.declared.values.Judged.{Judged}
+use Rattle.smv_scope.specs.declared.fault.FlatRule.{FlatRule}
+use Rattle.smv_flat.specs.declared.values.JudgedValue.{JudgedValue}
 use Rattle.smv_flat.specs.declared.values.JudgedActual.{JudgedActual}
 use Rattle.smv_language.specs.declared.model.Role.TheVariants.{State, Input, Frozen}
 use Rattle.smv_scope.specs.declared.names.Formal.{Formal}
@@ -63,7 +65,7 @@ names_under [] = []
 names_under (u ∷ us) = if u.1 then u.0 ∷ names_under us else names_under us
 
 -- a value judged by a name more: whether it has no value, and whether it gives an input, under `next` or not
-abbrev pub with_flags : Judged → Bool → Bool → Bool → Judged
+abbrev pub with_flags : JudgedValue → Bool → Bool → Bool → JudgedValue
 with_flags j no_value input under =
     record {
       no_value = j.no_value || no_value;
@@ -74,13 +76,13 @@ with_flags j no_value input under =
     }
 
 -- what is judged of some names of a value
-pub record AreNoted (p : ProgramTree) (at : Place) (us : List (Path × Bool)) (j : Judged) : Type 0 where
+pub record AreNoted (p : ProgramTree) (at : Place) (us : List (Path × Bool)) (j : JudgedValue) : Type 0 where
   pub no_value : (j.no_value ≡ true) ↔ AtSome (HasNoValue p at) (names_in us)
   pub input : (j.input ≡ true) ↔ AtSome (GivesInput p at) (names_in us)
   pub next_input : (j.next_input ≡ true) ↔ AtSome (GivesInput p at) (names_under us)
 
 -- the same at the instance of a number, with where the value has `next`
-pub record AreJudged (p : ProgramTree) (spot : ℕ) (us : List (Path × Bool)) (next nested : Bool) (j : Judged) : Type 0 where
+pub record AreJudged (p : ProgramTree) (spot : ℕ) (us : List (Path × Bool)) (next nested : Bool) (j : JudgedValue) : Type 0 where
   pub names : (at : FlatInstance) → slice_get (instances_of p) spot ≡ Some at → AreNoted p at.place us j
   pub has_next : j.next ≡ next
   pub has_nested : j.nested_next ≡ nested
@@ -96,12 +98,12 @@ IsToldRule p site None = Unit {0}
 IsToldRule p site (Some rule) = IsLowestAt p site rule
 
 -- what is told of a site is right: no rule is broken, or this one and none lower
-abbrev pub IsTold : ProgramTree → Site → Option Rule → Type 0
+abbrev pub IsTold : ProgramTree → Site → Option FlatRule → Type 0
 IsTold p site None = IsKept p site
 IsTold p site (Some r) = IsToldRule p site (rule_of r)
 
 -- what is told of an item, wherever it stands in the module of an instance
-abbrev pub IsToldOf : ProgramTree → ℕ → Item → Option Rule → Type 0
+abbrev pub IsToldOf : ProgramTree → ℕ → Item → Option FlatRule → Type 0
 IsToldOf p spot item o =
     (at : FlatInstance) → slice_get (instances_of p) spot ≡ Some at → (i : NumberedItem) → i.item ≡ item → IsTold p (a_use at i) o
 
@@ -133,7 +135,8 @@ is_circle_meant n known.Unknown = false
 
 -- An instance that is declared in another one, with its module and what it is handed: as many actuals as formals, no
 -- two of one name.
-pub record IsHanded (p : ProgramTree) (spot inner : ℕ) (m : ModuleTree) (at inside : FlatInstance) (own : Text) (actuals : List Formula) : Type 0 where
+pub record IsHanded (p : ProgramTree) (spot inner : ℕ) (m : ModuleTree) (at inside : FlatInstance) (own : Text)
+    (actuals : List Formula) : Type 0 where
   pub at_is : slice_get (instances_of p) spot ≡ Some at
   pub inside_is : slice_get (instances_of p) inner ≡ Some inside
   pub place : inside.place ≡ own ∷ at.place
@@ -153,10 +156,11 @@ pub record IsActualJudged (p : ProgramTree) (at inside : Place) (m : ModuleTree)
   pub next : j.next ≡ has_next e
 
 -- what is judged of some actuals
-pub record AreActualsJudged (p : ProgramTree) (at inside : Place) (m : ModuleTree) (actuals : List Formula) (j : JudgedActual) : Type 0 where
-  pub no_value : (j.no_value ≡ true) ↔ AtSome (λ e. ActualHasNoMeaning p at e (plain_name e)) actuals
-  pub circle : (j.circle ≡ true) ↔ SomeActualLoops p inside m actuals
-  pub next : j.next ≡ some_has_next actuals
+pub record AreActualsJudged (p : ProgramTree) (at inside : Place) (m : ModuleTree) (actuals : List Formula) (j : JudgedActual) : Type 0
+  where
+    pub no_value : (j.no_value ≡ true) ↔ AtSome (λ e. ActualHasNoMeaning p at e (plain_name e)) actuals
+    pub circle : (j.circle ≡ true) ↔ SomeActualLoops p inside m actuals
+    pub next : j.next ≡ some_has_next actuals
 
 -- what is wrong with one or with the other
 abbrev pub joined_actual : JudgedActual → JudgedActual → JudgedActual
@@ -171,12 +175,14 @@ JudgesActual p spot inner index e j =
 -- what is judged of some of the actuals that an instance is handed
 abbrev pub JudgesActuals : ProgramTree → ℕ → ℕ → List Formula → List Formula → JudgedActual → Type 0
 JudgesActuals p spot inner actuals some j =
-    (m : ModuleTree) (at inside : FlatInstance) (own : Text) → IsHanded p spot inner m at inside own actuals → AreActualsJudged p at.place inside.place m some j
+    (m : ModuleTree) (at inside : FlatInstance) (own : Text) → IsHanded p spot inner m at inside own actuals →
+    AreActualsJudged p at.place inside.place m some j
 
 -- what is told of the item at a place of an instance, if it is this one
-abbrev pub IsToldHere : ProgramTree → ℕ → ℕ → Item → Option Rule → Type 0
+abbrev pub IsToldHere : ProgramTree → ℕ → ℕ → Item → Option FlatRule → Type 0
 IsToldHere p spot place item o =
-    (at : FlatInstance) → slice_get (instances_of p) spot ≡ Some at → (i : NumberedItem) → slice_get (items_named p at.module_name) place ≡ Some i →
+    (at : FlatInstance) → slice_get (instances_of p) spot ≡ Some at → (i : NumberedItem) →
+    slice_get (items_named p at.module_name) place ≡ Some i →
     i.item ≡ item → IsTold p (a_use at i) o
 
 -- the actuals of the declaration of an instance; a variable has none
@@ -216,4 +222,5 @@ AreTold p ss (Some f) = IfSome (rule_of f.rule) (IsFirstAt p ss f.item)
 
 -- what is told of the items of an instance
 abbrev pub IsInstanceTold : ProgramTree → ℕ → Option FlatFault → Type 0
-IsInstanceTold p spot o = (at : FlatInstance) → slice_get (instances_of p) spot ≡ Some at → AreTold p (map (a_use at) (items_named p at.module_name)) o
+IsInstanceTold p spot o = (at : FlatInstance) → slice_get (instances_of p) spot ≡ Some at →
+    AreTold p (map (a_use at) (items_named p at.module_name)) o

@@ -5,29 +5,30 @@
 //! the item and the instance that it comes from, for the faults that the layers above tell.
 //!
 //! `judge` has been called before and has refused nothing, so nothing can be refused here but for want of memory.
-
 ghost use Rattle.std.specs.Prelude.{◌≡◌, Some, ◌++◌, ◌∷◌, [], true, length, map, flat_map, IfOk, IfErr, OnOk, slice_get};
 ghost use Rattle.smv_language.specs.declared.expr.Op.TheVariants as op;
 ghost use Rattle.smv_language.specs.Tree.{binary, next_of, leaf as leaf_tree};
 ghost use Rattle.smv_language.specs.Trace.{Each};
-ghost use Rattle.smv_language.specs.Written.{tree_of};
+ghost use Rattle.smv_language.specs.ExpressionTree.{tree_of};
 ghost use Rattle.smv_language.specs.declared.program.Moment.TheVariants.{First};
 ghost use Rattle.smv_flat_laws.specs.Items.{instances_of};
 ghost use Rattle.smv_flat_laws.specs.Model.{IsFlatOf, now_among, next_among, kept};
 ghost use Rattle.smv_flat_laws.specs.Rules.{IsAccepted};
-ghost use Rattle.smv_scope.specs.Closed.{is_within, is_closed, are_closed, are_earlier, AreVariables, IsClosedModel};
+ghost use Rattle.smv_scope.specs.ClosedModels.{is_within, is_closed, are_closed, are_earlier, AreVariables, IsClosedModel};
 ghost use Rattle.smv_scope.specs.Faults.{IsWant};
 ghost use Rattle.smv_scope.specs.SceneTree.{IsScene, program_of, items_at};
 ghost use Rattle.smv_scope.specs.NeedsTree.{AreNeeds};
-ghost use Rattle.smv_scope.specs.Walked.{AreDeclared};
+ghost use Rattle.smv_scope.specs.WalkFindings.{AreDeclared};
 ghost use Rattle.smv_scope.specs.ItemTree.{item_tree};
 ghost use Rattle.smv_language.specs.BorrowedTexts.{texts};
 ghost use Rattle.smv_language.specs.ModelTree.{instance_tree, leaf_of, model_tree};
 ghost use Rattle.smv_flat.specs.ResolverOf.{leaf_at, told_tree};
-ghost use Rattle.smv_flat.specs.Asked.{told, asked_definition, IsReady, AreReady, conditions_asked, clause_tree, asked_condition, is_variable_within, IsConditionKnown, AreConditionsKnown, asked_conditions, asked_items, asked_from, item_listed, instance_in, instance_told};
+ghost use Rattle.smv_flat.specs.FormulaLists.{told, asked_definition, IsReady, AreReady, conditions_asked, clause_tree, asked_condition};
+ghost use Rattle.smv_flat.specs.FormulaLists.{is_variable_within, IsConditionKnown, AreConditionsKnown, asked_conditions, asked_items};
+ghost use Rattle.smv_flat.specs.FormulaLists.{asked_from, item_listed, instance_in, instance_told};
 
-use crate::clauses::{Asked, Clause, clause_of};
-use crate::resolve::{Source, resolve};
+use crate::clauses::{AskedFormulas, ItemClause, clause_of};
+use crate::resolve::{ExpressionSource, resolve};
 use base_values::{Dotted, Items, Name, NameList, OutOfMemory};
 use smv_language::copy_model::{boxed, copy_path};
 use smv_language::model::{
@@ -37,7 +38,7 @@ use smv_language::{Expr, Op};
 use smv_scope::bounds::Bounds;
 use smv_scope::fault::FlatFault;
 use smv_scope::items::{Item, number_of};
-use smv_scope::modules::Names;
+use smv_scope::modules::ModuleNames;
 use smv_scope::names::Scene;
 use smv_scope::needs::Needs;
 use smv_scope::symbols::symbol_names;
@@ -102,10 +103,10 @@ fn with_formulas(
         symbols: symbols.len(),
         definitions: definitions.len(),
     };
-    let init = formulas_of(alloc, scene, needs, bounds, Asked::First)?;
-    let invar = formulas_of(alloc, scene, needs, bounds, Asked::Each)?;
-    let mut trans = formulas_of(alloc, scene, needs, bounds, Asked::Step)?;
-    add_formulas(alloc, scene, needs, bounds, Asked::Kept, &mut trans)?;
+    let init = formulas_of(alloc, scene, needs, bounds, AskedFormulas::First)?;
+    let invar = formulas_of(alloc, scene, needs, bounds, AskedFormulas::Each)?;
+    let mut trans = formulas_of(alloc, scene, needs, bounds, AskedFormulas::Step)?;
+    add_formulas(alloc, scene, needs, bounds, AskedFormulas::Kept, &mut trans)?;
     Ok(FlatModel {
         instances,
         variables,
@@ -146,7 +147,7 @@ fn add_instance(
 /// Appends an instance of a module.
 fn push_instance(
     spot: &Spot<'_>,
-    names: &Names<'_>,
+    names: &ModuleNames<'_>,
     instances: &mut InstanceList,
 ) -> Result<(), OutOfMemory>
     ensures { OnOk result (map instance_tree instances.new ≡ map instance_tree instances.old ++ instance_in spot.now (Some names.now)) }
@@ -200,7 +201,7 @@ fn add_definition(
     let Some(defined) = scene.definitions.as_slice().get(place) else {
         unreachable!();
     };
-    let source = Source {
+    let source = ExpressionSource {
         spot: defined.spot,
         item: defined.item,
         bounds,
@@ -213,20 +214,21 @@ fn add_definition(
 #[tactic(auto, using(smv_scope::proofs::ClosedLaws::earlier_push))]
 fn push_definition(
     list: &mut FlatList,
-    source: Source,
+    source: ExpressionSource,
     value: Expr<Flat>,
 ) -> Result<(), OutOfMemory>
     requires before { are_earlier source.bounds.variables source.bounds.symbols 0 list.old ≡ true }
     requires next { source.bounds.definitions ≡ length list.old }
     requires value { is_closed source.bounds value ≡ true }
-    ensures told { OnOk result (map told list.new ≡ map told list.old ++ record { tree = told_tree value; item = source.item; number = source.spot } ∷ []) }
+    ensures told { OnOk result (map told list.new
+        ≡ map told list.old ++ record { tree = told_tree value; item = source.item; number = source.spot } ∷ []) }
     ensures earlier { OnOk result (are_earlier source.bounds.variables source.bounds.symbols 0 list.new ≡ true) }
 {
     list.push(formula(source, value)?)
 }
 
 /// An expression as a formula that knows where it comes from.
-fn formula(source: Source, value: Expr<Flat>) -> Result<Formula, OutOfMemory>
+fn formula(source: ExpressionSource, value: Expr<Flat>) -> Result<Formula, OutOfMemory>
     ensures value { IfOk result (λ made. made.value ≡ value) }
     ensures told { IfOk result (λ made. told made ≡ record { tree = told_tree value; item = source.item; number = source.spot }) }
 {
@@ -243,7 +245,7 @@ fn formulas_of(
     scene: &Scene<'_>,
     needs: &Needs,
     bounds: Bounds,
-    asked: Asked,
+    asked: AskedFormulas,
 ) -> Result<FlatList, FlatFault>
     requires scene { IsScene scene.now }
     requires known { AreConditionsKnown scene.now needs.now bounds (conditions_asked asked) }
@@ -263,7 +265,7 @@ fn add_formulas(
     scene: &Scene<'_>,
     needs: &Needs,
     bounds: Bounds,
-    asked: Asked,
+    asked: AskedFormulas,
     list: &mut FlatList,
 ) -> Result<(), FlatFault>
     requires scene { IsScene scene.now }
@@ -286,7 +288,7 @@ fn add_of_instance(
     scene: &Scene<'_>,
     needs: &Needs,
     bounds: Bounds,
-    asked: Asked,
+    asked: AskedFormulas,
     spot: usize,
     list: &mut FlatList,
 ) -> Result<(), FlatFault>
@@ -310,7 +312,7 @@ fn add_at(
     scene: &Scene<'_>,
     needs: &Needs,
     bounds: Bounds,
-    asked: Asked,
+    asked: AskedFormulas,
     spot: usize,
     place: usize,
     list: &mut FlatList,
@@ -325,7 +327,7 @@ fn add_at(
 {
     match scene.item_at(spot, place) {
         Some((item, number)) => {
-            let source = Source {
+            let source = ExpressionSource {
                 spot,
                 item: number,
                 bounds,
@@ -341,12 +343,13 @@ fn add_of_item(
     alloc: Global,
     scene: &Scene<'_>,
     needs: &Needs,
-    source: Source,
-    asked: Asked,
+    source: ExpressionSource,
+    asked: AskedFormulas,
     item: Item<'_>,
     list: &mut FlatList,
 ) -> Result<(), FlatFault>
-    requires known { Each (IsConditionKnown (leaf_at scene.now needs.now source.spot) source.bounds) (conditions_asked asked (item_tree item)) }
+    requires known { Each (IsConditionKnown (leaf_at scene.now needs.now source.spot) source.bounds)
+        (conditions_asked asked (item_tree item)) }
     requires closed { are_closed source.bounds list.old ≡ true }
     ensures told { OnOk result (map told list.new ≡ map told list.old ++ asked_conditions
         (leaf_at scene.now needs.now source.spot) source.spot source.item (conditions_asked asked (item_tree item.entry))) }
@@ -364,8 +367,8 @@ fn add_clause(
     alloc: Global,
     scene: &Scene<'_>,
     needs: &Needs,
-    source: Source,
-    clause: Clause<'_>,
+    source: ExpressionSource,
+    clause: ItemClause<'_>,
     list: &mut FlatList,
 ) -> Result<(), FlatFault>
     requires known { IsConditionKnown (leaf_at scene.now needs.now source.spot) source.bounds (clause_tree clause) }
@@ -381,10 +384,15 @@ fn add_clause(
 
 /// Appends a formula.
 #[tactic(auto, using(smv_scope::proofs::ClosedLaws::formulas_push))]
-fn push_formula(list: &mut FlatList, source: Source, value: Expr<Flat>) -> Result<(), OutOfMemory>
+fn push_formula(
+    list: &mut FlatList,
+    source: ExpressionSource,
+    value: Expr<Flat>,
+) -> Result<(), OutOfMemory>
     requires old { are_closed source.bounds list.old ≡ true }
     requires value { is_closed source.bounds value ≡ true }
-    ensures told { OnOk result (map told list.new ≡ map told list.old ++ record { tree = told_tree value; item = source.item; number = source.spot } ∷ []) }
+    ensures told { OnOk result (map told list.new
+        ≡ map told list.old ++ record { tree = told_tree value; item = source.item; number = source.spot } ∷ []) }
     ensures closed { OnOk result (are_closed source.bounds list.new ≡ true) }
 {
     list.push(formula(source, value)?)
@@ -395,19 +403,20 @@ fn clause_value(
     alloc: Global,
     scene: &Scene<'_>,
     needs: &Needs,
-    source: Source,
-    clause: Clause<'_>,
+    source: ExpressionSource,
+    clause: ItemClause<'_>,
 ) -> Result<Expr<Flat>, FlatFault>
     requires known { IsConditionKnown (leaf_at scene.now needs.now source.spot) source.bounds (clause_tree clause) }
-    ensures told { IfOk result (λ made. told_tree made ≡ asked_condition (leaf_at scene.now needs.now source.spot) (clause_tree clause.entry)) }
+    ensures told { IfOk result (λ made. told_tree made
+        ≡ asked_condition (leaf_at scene.now needs.now source.spot) (clause_tree clause.entry)) }
     ensures closed { IfOk result (λ made. is_closed source.bounds made ≡ true) }
     ensures want { IfErr result IsWant }
 {
     match clause {
-        Clause::Plain(e) => resolve(alloc, scene, needs, source, e),
-        Clause::Now(target, e) => now_value(alloc, scene, needs, source, target, e),
-        Clause::Next(target, e) => next_value(alloc, scene, needs, source, target, e),
-        Clause::Kept(target) => kept_value(alloc, scene, needs, source, target),
+        ItemClause::Plain(e) => resolve(alloc, scene, needs, source, e),
+        ItemClause::Now(target, e) => now_value(alloc, scene, needs, source, target, e),
+        ItemClause::Next(target, e) => next_value(alloc, scene, needs, source, target, e),
+        ItemClause::Kept(target) => kept_value(alloc, scene, needs, source, target),
     }
 }
 
@@ -417,7 +426,7 @@ fn now_value(
     alloc: Global,
     scene: &Scene<'_>,
     needs: &Needs,
-    source: Source,
+    source: ExpressionSource,
     target: &Name,
     e: &Expr<Dotted>,
 ) -> Result<Expr<Flat>, FlatFault>
@@ -438,7 +447,7 @@ fn next_value(
     alloc: Global,
     scene: &Scene<'_>,
     needs: &Needs,
-    source: Source,
+    source: ExpressionSource,
     target: &Name,
     e: &Expr<Dotted>,
 ) -> Result<Expr<Flat>, FlatFault>
@@ -459,7 +468,7 @@ fn kept_value(
     alloc: Global,
     scene: &Scene<'_>,
     needs: &Needs,
-    source: Source,
+    source: ExpressionSource,
     target: &Name,
 ) -> Result<Expr<Flat>, FlatFault>
     requires known { is_variable_within source.bounds (leaf_at scene.now needs.now source.spot (target.now ∷ [])) ≡ true }
@@ -472,7 +481,7 @@ fn kept_value(
 }
 
 /// The variable that a condition speaks of.
-fn target_of(scene: &Scene<'_>, needs: &Needs, source: Source, target: &Name) -> Flat
+fn target_of(scene: &Scene<'_>, needs: &Needs, source: ExpressionSource, target: &Name) -> Flat
     requires known { is_variable_within source.bounds (leaf_at scene.now needs.now source.spot (target.now ∷ [])) ≡ true }
     ensures leaf { Some (leaf_of result) ≡ leaf_at scene.now needs.now source.spot (target.now ∷ []) }
     ensures closed { is_within source.bounds result ≡ true }

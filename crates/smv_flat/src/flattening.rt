@@ -3,13 +3,12 @@
 //!
 //! Each makes the tables of `smv_scope`, judges by `judge` or `values`, and builds by `build` or `resolve`. What breaks a
 //! rule of names is told as a [`FlatFault`]: its item is one of the program, or 0 for an expression that is none of its parts.
-
 ghost use Rattle.std.specs.Prelude.{◌≡◌, ◌∷◌, [], ◌↔◌, ◌&&◌, codes, not, true, false, None, IfOk, IfErr, OnOk, IsErrOf};
 ghost use Rattle.smv_language.specs.ProgramTree.{ProgramTree, program_tree};
 ghost use Rattle.smv_language.specs.Scope.{find_module};
-ghost use Rattle.smv_scope.specs.declared.fault.Rule.TheVariants.{NoMain, NoSuchName, NextHere, InputHere};
+ghost use Rattle.smv_scope.specs.declared.fault.FlatRule.TheVariants.{NoMain, NoSuchName, NextHere, InputHere};
 ghost use Rattle.smv_flat.specs.Shape.{shape};
-ghost use Rattle.smv_scope.specs.Closed.{is_closed, bounds_of, IsClosedModel};
+ghost use Rattle.smv_scope.specs.ClosedModels.{is_closed, bounds_of, IsClosedModel};
 ghost use Rattle.smv_language.specs.ModelTree.{model_tree};
 ghost use Rattle.smv_flat_laws.specs.FlatTrace.{NamesOwn};
 ghost use Rattle.smv_scope.specs.Faults.{first_of, IsFaultOf};
@@ -17,8 +16,8 @@ ghost use Rattle.std.specs.Prelude.{Some};
 ghost use Rattle.smv_flat_laws.specs.Rules.{IsAccepted};
 ghost use Rattle.smv_flat_laws.specs.Model.{IsFlatOf};
 ghost use Rattle.smv_scope.specs.SceneTree.{module_from, IsScene, program_of};
-ghost use Rattle.smv_scope.specs.Closed.{AreVariables};
-ghost use Rattle.smv_scope.specs.Walked.{AreDeclared};
+ghost use Rattle.smv_scope.specs.ClosedModels.{AreVariables};
+ghost use Rattle.smv_scope.specs.WalkFindings.{AreDeclared};
 ghost use Rattle.smv_scope.specs.NeedsTree.{AreNeeds};
 ghost use Rattle.smv_flat.specs.ScopeOf.{IsScopeOf, IsAnyScope};
 ghost use Rattle.smv_flat.specs.ResolvedAt.{ResolvesAt, HasNoNextAt, KeepsAt, TellsAt};
@@ -27,13 +26,13 @@ ghost use Rattle.smv_flat_laws.specs.Looks.{ActualsMean};
 
 use crate::build::build;
 use crate::judge::judge;
-use crate::resolve::{Source, resolve};
-use crate::values::{Judged, judge_value};
+use crate::resolve::{ExpressionSource, resolve};
+use crate::values::{JudgedValue, judge_value};
 use base_values::Dotted;
 use smv_language::model::{Flat, FlatModel, VariableList};
 use smv_language::{Expr, Program};
 use smv_scope::bounds::Bounds;
-use smv_scope::fault::{FlatFault, Rule};
+use smv_scope::fault::{FlatFault, FlatRule};
 use smv_scope::modules::{Modules, main_place};
 use smv_scope::names::Scene;
 use smv_scope::needs::Needs;
@@ -56,7 +55,7 @@ impl<'a> Scope<'a> {
         match main_place(p.modules.as_slice()) {
             Some(main) => scope_from(alloc, p, main),
             None => Err(FlatFault {
-                rule: Rule::NoMain,
+                rule: FlatRule::NoMain,
                 item: 0,
             }),
         }
@@ -121,7 +120,7 @@ pub fn flatten(alloc: Global, p: &Program) -> Result<FlatModel, FlatFault>
     match main_place(p.modules.as_slice()) {
         Some(main) => flatten_from(alloc, p, main),
         None => Err(FlatFault {
-            rule: Rule::NoMain,
+            rule: FlatRule::NoMain,
             item: 0,
         }),
     }
@@ -222,7 +221,7 @@ pub fn resolve_at(
     match main_place(p.modules.as_slice()) {
         Some(main) => resolve_from(alloc, p, main, m, instance as usize, inputs, e),
         None => Err(FlatFault {
-            rule: Rule::NoMain,
+            rule: FlatRule::NoMain,
             item: 0,
         }),
     }
@@ -298,10 +297,10 @@ fn resolve_value(
 }
 
 /// The place of an expression that is no part of the program.
-fn source_at(m: &FlatModel, spot: usize) -> Source
+fn source_at(m: &FlatModel, spot: usize) -> ExpressionSource
     ensures { result ≡ record { spot = spot; item = 0; bounds = bounds_of m.now } }
 {
-    Source {
+    ExpressionSource {
         spot,
         item: 0,
         bounds: all_of(m),
@@ -320,15 +319,15 @@ fn all_of(m: &FlatModel) -> Bounds
 }
 
 /// The first rule that an expression breaks as the value of a DEFINE.
-fn rule_at(judged: Judged, inputs: bool) -> Option<Rule>
+fn rule_at(judged: JudgedValue, inputs: bool) -> Option<FlatRule>
     ensures { result ≡ first_of ((judged.no_value, NoSuchName) ∷ (judged.next, NextHere) ∷ (judged.input && not inputs, InputHere) ∷ []) }
 {
     if judged.no_value {
-        Some(Rule::NoSuchName)
+        Some(FlatRule::NoSuchName)
     } else if judged.next {
-        Some(Rule::NextHere)
+        Some(FlatRule::NextHere)
     } else if judged.input && !inputs {
-        Some(Rule::InputHere)
+        Some(FlatRule::InputHere)
     } else {
         None
     }

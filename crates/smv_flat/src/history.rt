@@ -1,15 +1,15 @@
 //! A model with one more bit for each fault, which tells whether the fault's mode stands or stood before.
 //! [`with_history`] is the main function. The search asks of such a model which faults a state has in its past, and
 //! so needs to look at no trace.
-
 ghost use Rattle.std.specs.Prelude.{◌≡◌, map, IfOk, OnOk};
 ghost use Rattle.smv_language.specs.declared.expr.Op.TheVariants as op;
 ghost use Rattle.smv_language.specs.Tree.{binary, leaf as leaf_tree};
 ghost use Rattle.smv_language.specs.ModelTree.{variable_tree, formula_tree, flat_tree, model_tree};
 ghost use Rattle.smv_flat_laws.specs.FaultModes.{mode_of};
-ghost use Rattle.smv_flat.specs.Traced.{HasHistory};
+ghost use Rattle.smv_flat.specs.HistoryTraces.{HasHistory};
 ghost use Rattle.smv_language.specs.Flat.{flat_symbol};
-ghost use Rattle.smv_flat_laws.specs.History.{with_history as history_of, with_bit, bit_variable as bit_tree, bit_at_first as first_tree, bit_at_step as step_tree, added as added_tree};
+ghost use Rattle.smv_flat_laws.specs.History.{with_history as history_of, with_bit, bit_variable as bit_tree, bit_at_first as first_tree};
+ghost use Rattle.smv_flat_laws.specs.History.{bit_at_step as step_tree, added as added_tree};
 
 use crate::build::{within, within_next};
 use base_values::{Dotted, Name, OutOfMemory};

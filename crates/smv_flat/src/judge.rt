@@ -4,30 +4,30 @@
 //!
 //! Whether a target is assigned twice is known from the assignments before: for each target of an instance [`Times`] has
 //! the moments of which they speak.
-
 ghost use Rattle.std.specs.Prelude.{◌≡◌, ◌∷◌, [], if◌then◌else◌, IfOk, IfErr, OnOk};
 ghost use Rattle.std.specs.Prelude.{Some};
 ghost use Rattle.smv_language.specs.ProgramTree.{Text, assignment_tree, decl_tree, declared_tree, define_tree};
 ghost use Rattle.smv_language.specs.Texts.{same_text};
 ghost use Rattle.smv_language.specs.Scope.{Role as RoleOf};
 ghost use Rattle.smv_language.specs.Trace.{Each};
-ghost use Rattle.smv_language.specs.Written.{tree_of};
+ghost use Rattle.smv_language.specs.ExpressionTree.{tree_of};
 ghost use Rattle.smv_flat_laws.specs.Items.{a_declaration, a_definition, an_assignment, an_init, an_invar, a_trans};
 ghost use Rattle.smv_scope.specs.ItemTree.{item_tree};
-ghost use Rattle.smv_flat.specs.Assigned.{value_rule, assignment_rule, IsItemTold, IsPlaceTold, IsTargetTold, may_assign, local_meant, is_met, times_of, with_moment};
+ghost use Rattle.smv_flat.specs.Assignments.{value_rule, assignment_rule, IsItemTold, IsPlaceTold, IsTargetTold, may_assign, local_meant};
+ghost use Rattle.smv_flat.specs.Assignments.{is_met, times_of, with_moment};
 ghost use Rattle.smv_flat_laws.specs.Rules.{IsKept, use_sites};
 ghost use Rattle.smv_scope.specs.SceneTree.{IsScene, program_of};
 ghost use Rattle.smv_scope.specs.NeedsTree.{AreNeeds};
 ghost use Rattle.smv_flat.specs.Verdicts.{IsToldOf, IsToldHere, IsInstanceTold, AreActuals, instance_in};
 ghost use Rattle.smv_scope.specs.Faults.{first_of, IsFaultOf};
-ghost use Rattle.smv_scope.specs.declared.fault.Rule.TheVariants.{NoSuchName, DefineLoop, NextHere, InputHere};
+ghost use Rattle.smv_scope.specs.declared.fault.FlatRule.TheVariants.{NoSuchName, DefineLoop, NextHere, InputHere};
 
-use crate::values::{Judged, JudgedActual, is_on_meaning_circle, judge_actuals, judge_value};
+use crate::values::{JudgedActual, JudgedValue, is_on_meaning_circle, judge_actuals, judge_value};
 use base_values::{Dotted, Name, OutOfMemory};
 use indexmap::IndexMap;
 use smv_language::model::Role;
 use smv_language::{Assignment, Decl, Declared, Define, Expr, Moment};
-use smv_scope::fault::{FlatFault, Rule};
+use smv_scope::fault::{FlatFault, FlatRule};
 use smv_scope::items::Item;
 use smv_scope::modules::Local;
 use smv_scope::names::Scene;
@@ -56,7 +56,7 @@ pub(crate) fn judge(alloc: Global, scene: &Scene<'_>, needs: &Needs) -> Result<(
             Ok(Some(fault)) => return Err(fault),
             Err(OutOfMemory) => {
                 return Err(FlatFault {
-                    rule: Rule::OutOfMemory,
+                    rule: FlatRule::OutOfMemory,
                     item: 0,
                 });
             }
@@ -117,7 +117,7 @@ fn judge_item<'a>(
     place: usize,
     item: Item<'a>,
     assigned: &mut IndexMap<&'a [u8], Times>,
-) -> Result<Option<Rule>, OutOfMemory>
+) -> Result<Option<FlatRule>, OutOfMemory>
     requires scene { IsScene scene.now }
     requires needs { AreNeeds (program_of scene.now) needs.now }
     ensures { IfOk result (IsItemTold (program_of scene.now) spot place assigned.old.entries assigned.new.entries (item_tree item.entry)) }
@@ -143,10 +143,11 @@ fn judge_declaration(
     spot: usize,
     place: usize,
     decl: &Decl,
-) -> Result<Option<Rule>, OutOfMemory>
+) -> Result<Option<FlatRule>, OutOfMemory>
     requires scene { IsScene scene.now }
     requires needs { AreNeeds (program_of scene.now) needs.now }
-    ensures { IfOk result (λ o. (role : RoleOf) → IsToldHere (program_of scene.now) spot place (a_declaration role (decl_tree decl.now)) o) }
+    ensures { IfOk result (λ o. (role : RoleOf) →
+        IsToldHere (program_of scene.now) spot place (a_declaration role (decl_tree decl.now)) o) }
 {
     let Some(actuals) = actuals_of(&decl.what) else {
         return Ok(None);
@@ -186,7 +187,7 @@ fn judge_definition(
     spot: usize,
     place: usize,
     define: &Define,
-) -> Result<Option<Rule>, OutOfMemory>
+) -> Result<Option<FlatRule>, OutOfMemory>
     requires scene { IsScene scene.now }
     requires needs { AreNeeds (program_of scene.now) needs.now }
     ensures { IfOk result (IsToldHere (program_of scene.now) spot place (a_definition (define_tree define.now))) }
@@ -203,7 +204,7 @@ fn judge_moment(
     needs: &Needs,
     spot: usize,
     e: &Expr<Dotted>,
-) -> Result<Option<Rule>, OutOfMemory>
+) -> Result<Option<FlatRule>, OutOfMemory>
     requires scene { IsScene scene.now }
     requires needs { AreNeeds (program_of scene.now) needs.now }
     ensures first { IfOk result (IsToldOf (program_of scene.now) spot (an_init (tree_of e.now))) }
@@ -220,7 +221,7 @@ fn judge_step(
     needs: &Needs,
     spot: usize,
     e: &Expr<Dotted>,
-) -> Result<Option<Rule>, OutOfMemory>
+) -> Result<Option<FlatRule>, OutOfMemory>
     requires scene { IsScene scene.now }
     requires needs { AreNeeds (program_of scene.now) needs.now }
     ensures { IfOk result (IsToldOf (program_of scene.now) spot (a_trans (tree_of e.now))) }
@@ -230,67 +231,67 @@ fn judge_step(
 }
 
 /// The first rule that the value of a define breaks.
-fn rule_of_definition(value: Judged, on_circle: bool) -> Option<Rule>
+fn rule_of_definition(value: JudgedValue, on_circle: bool) -> Option<FlatRule>
     ensures { result ≡ first_of ((value.no_value, NoSuchName) ∷ (on_circle, DefineLoop) ∷ (value.next, NextHere) ∷ []) }
 {
     if value.no_value {
-        Some(Rule::NoSuchName)
+        Some(FlatRule::NoSuchName)
     } else if on_circle {
-        Some(Rule::DefineLoop)
+        Some(FlatRule::DefineLoop)
     } else if value.next {
-        Some(Rule::NextHere)
+        Some(FlatRule::NextHere)
     } else {
         None
     }
 }
 
 /// The first rule that the actuals of an instance break.
-fn rule_of_actuals(actuals: JudgedActual) -> Option<Rule>
+fn rule_of_actuals(actuals: JudgedActual) -> Option<FlatRule>
     ensures { result ≡ first_of ((actuals.no_value, NoSuchName) ∷ (actuals.circle, DefineLoop) ∷ (actuals.next, NextHere) ∷ []) }
 {
     if actuals.no_value {
-        Some(Rule::NoSuchName)
+        Some(FlatRule::NoSuchName)
     } else if actuals.circle {
-        Some(Rule::DefineLoop)
+        Some(FlatRule::DefineLoop)
     } else if actuals.next {
-        Some(Rule::NextHere)
+        Some(FlatRule::NextHere)
     } else {
         None
     }
 }
 
 /// The first rule that a value breaks which speaks of one moment alone.
-fn rule_of_now(now: Judged) -> Option<Rule>
+fn rule_of_now(now: JudgedValue) -> Option<FlatRule>
     ensures { result ≡ first_of ((now.no_value, NoSuchName) ∷ (now.next, NextHere) ∷ (now.input, InputHere) ∷ []) }
 {
     if now.no_value {
-        Some(Rule::NoSuchName)
+        Some(FlatRule::NoSuchName)
     } else if now.next {
-        Some(Rule::NextHere)
+        Some(FlatRule::NextHere)
     } else if now.input {
-        Some(Rule::InputHere)
+        Some(FlatRule::InputHere)
     } else {
         None
     }
 }
 
 /// The first rule that a value breaks which speaks of a moment and the one after it.
-fn rule_of_step(step: Judged) -> Option<Rule>
+fn rule_of_step(step: JudgedValue) -> Option<FlatRule>
     ensures { result ≡ first_of ((step.no_value, NoSuchName) ∷ (step.nested_next, NextHere) ∷ (step.next_input, InputHere) ∷ []) }
 {
     if step.no_value {
-        Some(Rule::NoSuchName)
+        Some(FlatRule::NoSuchName)
     } else if step.nested_next {
-        Some(Rule::NextHere)
+        Some(FlatRule::NextHere)
     } else if step.next_input {
-        Some(Rule::InputHere)
+        Some(FlatRule::InputHere)
     } else {
         None
     }
 }
 
 /// The first rule that the value of an assignment breaks, by the moment of which it speaks.
-fn rule_of_value(when: Moment, value: Judged) -> Option<Rule>
+fn rule_of_value(when: Moment, value: JudgedValue) -> Option<FlatRule>
     ensures { result ≡ value_rule when value }
 {
     match when {
@@ -301,11 +302,11 @@ fn rule_of_value(when: Moment, value: Judged) -> Option<Rule>
 
 /// The first rule that an assignment breaks whose names and target are lawful; `met` says that an earlier
 /// one speaks of the same time.
-fn rule_of_assignment(met: bool, when: Moment, value: Judged) -> Option<Rule>
+fn rule_of_assignment(met: bool, when: Moment, value: JudgedValue) -> Option<FlatRule>
     ensures { result ≡ assignment_rule met when value }
 {
     if met {
-        Some(Rule::DoubleAssign)
+        Some(FlatRule::DoubleAssign)
     } else {
         rule_of_value(when, value)
     }
@@ -320,17 +321,19 @@ fn judge_assignment<'a>(
     place: usize,
     assignment: &'a Assignment,
     assigned: &mut IndexMap<&'a [u8], Times>,
-) -> Result<Option<Rule>, OutOfMemory>
+) -> Result<Option<FlatRule>, OutOfMemory>
     requires scene { IsScene scene.now }
     requires needs { AreNeeds (program_of scene.now) needs.now }
-    ensures { IfOk result (IsItemTold (program_of scene.now) spot place assigned.old.entries assigned.new.entries (an_assignment (assignment_tree assignment.now))) }
+    ensures { IfOk result
+        (IsItemTold (program_of scene.now) spot place assigned.old.entries assigned.new.entries
+        (an_assignment (assignment_tree assignment.now))) }
 {
     let judged = judge_value(alloc, scene, needs, spot, &assignment.value)?;
     if judged.no_value {
-        return Ok(Some(Rule::NoSuchName));
+        return Ok(Some(FlatRule::NoSuchName));
     }
     let Some(target) = target_of(scene, spot, assignment) else {
-        return Ok(Some(Rule::NotATarget));
+        return Ok(Some(FlatRule::NotATarget));
     };
     let met = note_assigned(assigned, target, assignment.when)?;
     Ok(rule_of_assignment(met, assignment.when, judged))
@@ -375,7 +378,8 @@ fn note_assigned<'a>(
 ) -> Result<bool, OutOfMemory>
     ensures met { IfOk result (λ met. met ≡ is_met (times_of assigned.old.entries target.now) when) }
     ensures noted { OnOk result ((x : Text) → times_of assigned.new.entries x
-        ≡ (if same_text target.now x then with_moment (times_of assigned.old.entries target.now) when else times_of assigned.old.entries x)) }
+        ≡ (if same_text target.now x then with_moment (times_of assigned.old.entries target.now) when else times_of assigned.old.entries
+        x)) }
 {
     let times = times_at(assigned, target.text());
     note_times(assigned, target.text(), times.with(when))?;

@@ -27,4 +27,4 @@ mod values;
 
 pub use flattening::{Scope, flatten, resolve_at, resolve_top};
 pub use history::with_history;
-pub use smv_scope::{Bounds, FlatFault, Rule};
+pub use smv_scope::{Bounds, FlatFault, FlatRule};

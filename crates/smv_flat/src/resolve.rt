@@ -1,21 +1,21 @@
 //! Written expressions over the numbers of a flat model. [`resolve`] is the main function: a copy of the tree whose names
 //! are variables, definitions and symbols by their numbers. A name that has none is refused, so that what is made
 //! is within its bounds even where nobody has judged the expression before.
-
 ghost use Rattle.std.specs.Prelude.{◌≡◌, true, Some, IfOk, IfErr, map, slice_get};
 ghost use Rattle.std.specs.List.{list_all, All};
-ghost use Rattle.smv_scope.specs.Closed.{is_within, is_closed, is_branch_closed};
+ghost use Rattle.smv_scope.specs.ClosedModels.{is_within, is_closed, is_branch_closed};
 ghost use Rattle.smv_flat.specs.Shape.{shape, branch_shapes};
 ghost use Rattle.smv_scope.specs.Faults.{IsWant};
 ghost use Rattle.smv_language.specs.ModelTree.{leaf_of};
-ghost use Rattle.smv_flat.specs.ResolverOf.{leaf_at, leaf_placed, is_leaf_within, told_tree, asked_tree, told_branch, asked_branch, IsKnown, IsBranchKnown};
+ghost use Rattle.smv_flat.specs.ResolverOf.{leaf_at, leaf_placed, is_leaf_within, told_tree, asked_tree, told_branch, asked_branch};
+ghost use Rattle.smv_flat.specs.ResolverOf.{IsKnown, IsBranchKnown};
 
 use base_values::{Dotted, Items};
 use smv_language::copy_model::boxed;
 use smv_language::model::Flat;
 use smv_language::{BranchList, Expr, ExprList};
 use smv_scope::bounds::Bounds;
-use smv_scope::fault::{FlatFault, Rule};
+use smv_scope::fault::{FlatFault, FlatRule};
 use smv_scope::items::number_of;
 use smv_scope::names::Scene;
 use smv_scope::needs::Needs;
@@ -25,7 +25,7 @@ use std::alloc::Global;
 /// Where an expression is written, and what it may name: the instance, the item that a fault tells, and
 /// the numbers that are there.
 #[derive(Clone, Copy)]
-pub(crate) struct Source {
+pub(crate) struct ExpressionSource {
     pub spot: usize,
     pub item: u32,
     pub bounds: Bounds,
@@ -38,7 +38,7 @@ pub(crate) fn resolve(
     alloc: Global,
     scene: &Scene<'_>,
     needs: &Needs,
-    source: Source,
+    source: ExpressionSource,
     e: &Expr<Dotted>,
 ) -> Result<Expr<Flat>, FlatFault>
     ensures resolved { IfOk result (λ made. told_tree made ≡ asked_tree (leaf_at scene.now needs.now source.spot) e.now) }
@@ -78,7 +78,7 @@ fn resolve_boxed(
     alloc: Global,
     scene: &Scene<'_>,
     needs: &Needs,
-    source: Source,
+    source: ExpressionSource,
     e: &Expr<Dotted>,
 ) -> Result<Box<Expr<Flat>>, FlatFault>
     ensures resolved { IfOk result (λ made. told_tree made.value ≡ asked_tree (leaf_at scene.now needs.now source.spot) e.now) }
@@ -97,7 +97,7 @@ fn resolve_members(
     alloc: Global,
     scene: &Scene<'_>,
     needs: &Needs,
-    source: Source,
+    source: ExpressionSource,
     members: &[Expr<Dotted>],
 ) -> Result<ExprList<Flat>, FlatFault>
     ensures resolved { IfOk result (λ made. map told_tree made ≡ map (asked_tree (leaf_at scene.now needs.now source.spot)) members.now) }
@@ -119,10 +119,11 @@ fn resolve_branches(
     alloc: Global,
     scene: &Scene<'_>,
     needs: &Needs,
-    source: Source,
+    source: ExpressionSource,
     branches: &[(Expr<Dotted>, Expr<Dotted>)],
 ) -> Result<BranchList<Flat>, FlatFault>
-    ensures resolved { IfOk result (λ made. map told_branch made ≡ map (asked_branch (leaf_at scene.now needs.now source.spot)) branches.now) }
+    ensures resolved { IfOk result (λ made. map told_branch made
+        ≡ map (asked_branch (leaf_at scene.now needs.now source.spot)) branches.now) }
     ensures shapes { IfOk result (λ made. map branch_shapes made ≡ map branch_shapes branches.now) }
     ensures closed { IfOk result (λ made. list_all (is_branch_closed source.bounds) made ≡ true) }
     ensures want { All (IsBranchKnown (leaf_at scene.now needs.now source.spot) source.bounds) branches.now → IfErr result IsWant }
@@ -140,7 +141,7 @@ fn resolve_branches(
 pub(crate) fn leaf(
     scene: &Scene<'_>,
     needs: &Needs,
-    source: Source,
+    source: ExpressionSource,
     name: &Dotted,
 ) -> Result<Flat, FlatFault>
     ensures leaf { IfOk result (λ made. Some (leaf_of made) ≡ leaf_at scene.now needs.now source.spot name.now) }
@@ -156,14 +157,14 @@ pub(crate) fn leaf(
         }
         Meaning::Definition(definition) => placed(needs, source, definition),
         _ => Err(FlatFault {
-            rule: Rule::NoSuchName,
+            rule: FlatRule::NoSuchName,
             item: source.item,
         }),
     }
 }
 
 /// The definition of a number of the scene's list, by its place in the order.
-fn placed(needs: &Needs, source: Source, definition: usize) -> Result<Flat, FlatFault>
+fn placed(needs: &Needs, source: ExpressionSource, definition: usize) -> Result<Flat, FlatFault>
     ensures leaf { IfOk result (λ made. Some (leaf_of made) ≡ leaf_placed (slice_get needs.now.places.items definition)) }
     ensures closed { IfOk result (λ made. is_within source.bounds made ≡ true) }
     ensures want { is_leaf_within source.bounds (leaf_placed (slice_get needs.now.places.items definition)) ≡ true → IfErr result IsWant }
@@ -173,7 +174,7 @@ fn placed(needs: &Needs, source: Source, definition: usize) -> Result<Flat, Flat
             Ok(Flat::Definition(number_of(*place)?))
         }
         _ => Err(FlatFault {
-            rule: Rule::DefineLoop,
+            rule: FlatRule::DefineLoop,
             item: source.item,
         }),
     }

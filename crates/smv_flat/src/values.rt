@@ -1,18 +1,18 @@
 //! Values and the actuals of instances, judged for what may be wrong with them wherever they stand: a name
 //! without a value, a circle, `next`, an input. [`judge_value`] and [`judge_actuals`] are the main functions.
-
 ghost use Rattle.std.specs.Prelude.{◌≡◌, ◌∷◌, ◌++◌, [], List, Bool, map, is_some, IfOk};
 ghost use Rattle.std.specs.Prelude.{Some, slice_get};
 ghost use Rattle.smv_language.specs.ProgramTree.{Path};
 ghost use Rattle.smv_language.specs.Scope.{plain_name};
-ghost use Rattle.smv_language.specs.Written.{tree_of};
+ghost use Rattle.smv_language.specs.ExpressionTree.{tree_of};
 ghost use Rattle.smv_language.specs.Flat.{FlatInstance};
 ghost use Rattle.smv_flat_laws.specs.Items.{instances_of};
 ghost use Rattle.smv_scope.specs.SceneTree.{IsScene, program_of};
 ghost use Rattle.smv_scope.specs.NeedsTree.{AreNeeds};
-ghost use Rattle.smv_flat.specs.Judging.{IsJudged};
+ghost use Rattle.smv_flat.specs.ValueJudgement.{IsJudged};
 ghost use Rattle.smv_scope.specs.Links.{is_marked as is_marked_in};
-ghost use Rattle.smv_flat.specs.Verdicts.{is_without_value, is_input_found, is_circle_found, with_flags, AreJudged, is_nothing_known, is_circle_known, is_circle_meant, JudgesActual, JudgesActuals, joined_actual};
+ghost use Rattle.smv_flat.specs.Verdicts.{is_without_value, is_input_found, is_circle_found, with_flags, AreJudged, is_nothing_known};
+ghost use Rattle.smv_flat.specs.Verdicts.{is_circle_known, is_circle_meant, JudgesActual, JudgesActuals, joined_actual};
 
 use base_values::{Dotted, OutOfMemory};
 use smv_language::Expr;
@@ -26,7 +26,7 @@ use std::alloc::Global;
 /// What may be wrong with a value, wherever it stands: a name that means nothing or an instance, `next`,
 /// `next` under another, an input, and an input under `next`.
 #[derive(Clone, Copy)]
-pub(crate) struct Judged {
+pub(crate) struct JudgedValue {
     pub no_value: bool,
     pub next: bool,
     pub nested_next: bool,
@@ -149,7 +149,7 @@ pub(crate) fn judge_value(
     needs: &Needs,
     spot: usize,
     value: &Expr<Dotted>,
-) -> Result<Judged, OutOfMemory>
+) -> Result<JudgedValue, OutOfMemory>
     requires scene { IsScene scene.now }
     requires needs { AreNeeds (program_of scene.now) needs.now }
     ensures judged { (at : FlatInstance) → slice_get (instances_of (program_of scene.now)) spot ≡ Some at →
@@ -174,12 +174,12 @@ fn judge_names(
     names: &[Use<'_>],
     next: bool,
     nested_next: bool,
-) -> Judged
+) -> JudgedValue
     requires scene { IsScene scene.now }
     requires needs { AreNeeds (program_of scene.now) needs.now }
     ensures { AreJudged (program_of scene.now) spot names.now next nested_next result }
 {
-    let mut judged = Judged {
+    let mut judged = JudgedValue {
         no_value: false,
         next,
         nested_next,
@@ -192,9 +192,9 @@ fn judge_names(
     judged
 }
 
-impl Judged {
+impl JudgedValue {
     /// The value judged by one name more.
-    fn with_name(self, scene: &Scene<'_>, needs: &Needs, spot: usize, each: &Use<'_>) -> Judged
+    fn with_name(self, scene: &Scene<'_>, needs: &Needs, spot: usize, each: &Use<'_>) -> JudgedValue
         requires scene { IsScene scene.now }
         requires needs { AreNeeds (program_of scene.now) needs.now }
         ensures { (us : List (Path × Bool)) (next nested : Bool) → AreJudged (program_of scene.now) spot us next nested self →
@@ -209,10 +209,10 @@ impl Judged {
     }
 
     /// The value judged by a name that has no value or has one, and that gives an input or not, under `next` or not.
-    fn with_flags(self, no_value: bool, input: bool, next: bool) -> Judged
+    fn with_flags(self, no_value: bool, input: bool, next: bool) -> JudgedValue
         ensures { result ≡ with_flags self no_value input next }
     {
-        Judged {
+        JudgedValue {
             no_value: self.no_value || no_value,
             next: self.next,
             nested_next: self.nested_next,

@@ -10,7 +10,7 @@ use Rattle.smv_language.specs.May.{Valuation, May}
 use Rattle.smv_language.specs.Trace.{Each, EachBoth}
 use Rattle.smv_language.proofs.ValueLaws.{same_value_equal, same_value_refl}
 use Rattle.smv_language.specs.Flat.{FlatLeaf, flat_variable, FlatFormula, FlatModel, one_of, leaves_at, FlatMay, Holds, Numbers}
-use Rattle.smv_flat_laws.specs.Resolved.{Definition, Resolver, IsSound, AreDefinitions}
+use Rattle.smv_flat_laws.specs.NameResolution.{Definition, Resolver, IsSound, AreDefinitions}
 use Rattle.smv_flat_laws.specs.Model.{Condition, plain, now_among, next_among, kept, Written, IsVariableNumber, IsConditionTree, IsFormulaOf}
 use Rattle.smv_flat_laws.proofs.Reaches.{each_left, each_right}
 use Rattle.smv_flat_laws.proofs.Lists.{each_map, each_of_map, each_more}

@@ -8,7 +8,7 @@ use Rattle.smv_language.specs.Values.{Value, truth, number, symbol, Values, one}
 use Rattle.smv_language.specs.Evaluate.{evaluate, gives_within, gives_applied}
 use Rattle.smv_language.specs.Trace.{Each, EachPair, in_domain}
 use Rattle.smv_language.specs.Flat.{FlatLeaf, flat_variable, flat_symbol, flat_definition, FlatVariable, FlatFormula, FlatModel, one_of, symbol_of, flat_leaves, definition_gives, table_after, leaves_at, Holds}
-use Rattle.smv_flat_laws.specs.Resolved.{leaves_in}
+use Rattle.smv_flat_laws.specs.NameResolution.{leaves_in}
 use Rattle.smv_flat_laws.specs.History.{Mode, bit_variables, bit_at_first, bit_at_step, bits_at_first, bits_at_step, with_history}
 use Rattle.smv_flat_laws.specs.FlatTrace.{AreInDomains, IsFlatMoment, IsFlatStep, IsFlatTrace, is_symbol_value, stands, stands_in_some, bits_after, told_from, IsOwnName, IsOwnFormula, NamesOwn, IsModeOf}
 use Rattle.smv_flat_laws.proofs.Lists.{length_end, get_within, each_more}

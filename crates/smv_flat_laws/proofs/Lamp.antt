@@ -8,7 +8,7 @@ use Rattle.smv_language.specs.ProgramTree.{Text, Formula, boolean, var, define, 
 use Rattle.smv_language.specs.Scope.{Place, state, Key, define_key, a_variable_at, an_expression_at, an_instance_at, Means, means_in}
 use Rattle.smv_language.specs.Trace.{Each, AtSome}
 use Rattle.smv_language.specs.Flat.{FlatLeaf, flat_variable, flat_definition, FlatInstance, FlatFormula, FlatModel}
-use Rattle.smv_flat_laws.specs.Resolved.{leaves_in, has_next, IsResolved, IsBefore, Definition, IsLeafOf, Resolver, IsSound, AreDefinitions}
+use Rattle.smv_flat_laws.specs.NameResolution.{leaves_in, has_next, IsResolved, IsBefore, Definition, IsLeafOf, Resolver, IsSound, AreDefinitions}
 use Rattle.smv_flat_laws.specs.Items.{Item, a_declaration, a_definition, an_assignment, NumberedModule}
 use Rattle.smv_flat_laws.specs.Rules.{no_main, main_has_parameters, double_module, double_name, no_such_module, wrong_count, module_loop, no_such_name, not_a_target, double_assign, define_loop, next_here, too_many, the_program, a_header, an_item, a_visit, a_use, HasNoValue, nothing, only_an_instance, Needs, IsKept, IsAccepted}
 use Rattle.smv_flat_laws.specs.Model.{IsFlatOf, comes, no_more, one_more}

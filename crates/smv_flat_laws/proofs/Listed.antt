@@ -7,7 +7,7 @@ use Rattle.smv_language.specs.Texts.{same_text}
 use Rattle.smv_language.specs.Scope.{Place, Role, Kind, a_define, Key, define_key, actual_key, kind_declared, kind_after_formals, kind_in_sections, kind_in, formal_from, find_module, plain_name, nth_formula}
 use Rattle.smv_language.specs.Trace.{Each, IsInstance}
 use Rattle.smv_language.specs.Flat.{FlatInstance, FlatModel}
-use Rattle.smv_flat_laws.specs.Resolved.{Definition}
+use Rattle.smv_flat_laws.specs.NameResolution.{Definition}
 use Rattle.smv_flat_laws.specs.Items.{Item, a_declaration, a_definition, an_assignment, some_constants, an_init, an_invar, a_trans, NumberedItem, items_of, items_named, instances_of}
 use Rattle.smv_flat_laws.specs.Rules.{IsWalkable}
 use Rattle.smv_flat_laws.specs.Model.{Condition, written_at, conditions, Root, root_of_actual, roots_of_actuals, roots_of_item, roots_of, same_place, same_key, is_key_among, Adds, AddsAll, stands, comes, no_more, one_more, IsFlatOf}

@@ -5,7 +5,7 @@ use Rattle.smv_language.specs.Values.{Values}
 use Rattle.smv_language.specs.Evaluate.{Leaves, evaluate, evaluate_trees, evaluate_branches}
 use Rattle.smv_language.specs.Trace.{Each}
 use Rattle.smv_language.proofs.Monotone.{Below}
-use Rattle.smv_flat_laws.specs.Resolved.{leaves_in, has_next, trees_have_next, branches_have_next}
+use Rattle.smv_flat_laws.specs.NameResolution.{leaves_in, has_next, trees_have_next, branches_have_next}
 use Rattle.smv_flat_laws.proofs.Reaches.{BothReach, tree_reaches}
 use Rattle.smv_flat_laws.proofs.Lists.{each_more}
 use Rattle.std.proofs.lemmas.Bool.{or_parts as neither}

@@ -9,7 +9,7 @@ use Rattle.smv_language.proofs.ValueLaws.{same_text_refl}
 use Rattle.smv_language.specs.Scope.{Place, Key, Meaning, a_variable_at, an_expression_at, an_instance_at, a_symbol, find_module}
 use Rattle.smv_language.specs.Trace.{Each, EachBoth}
 use Rattle.smv_language.specs.Flat.{FlatLeaf, flat_variable, flat_symbol, flat_definition, FlatVariable, FlatFormula, FlatModel}
-use Rattle.smv_flat_laws.specs.Resolved.{leaves_in, Definition, StandsFor, IsLeafOf, IsResolved}
+use Rattle.smv_flat_laws.specs.NameResolution.{leaves_in, Definition, StandsFor, IsLeafOf, IsResolved}
 use Rattle.smv_flat_laws.specs.Items.{items_of, Visit, variables_of}
 use Rattle.smv_flat_laws.specs.Rules.{IsWalkable, expression_of}
 use Rattle.smv_flat_laws.specs.Model.{Condition, plain, now_among, next_among, kept, Written, conditions, first_conditions, each_conditions, step_conditions, kept_conditions, IsVariableNumber, IsConditionTree, IsInstanceNumber, IsFormulaOf, IsVariableOf, first_appearances, symbols_of_item, symbols_of, Root, roots_of, keys_of_meaning, AreNamed, Adds, AddsAll, stands, comes, no_more, one_more, IsDefinitionOf, KeysDiffer, IsFlatOf}

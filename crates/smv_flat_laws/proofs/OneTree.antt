@@ -5,7 +5,7 @@ use Rattle.smv_language.specs.Leaves.{tree_map, trees_map, branches_map}
 use Rattle.smv_language.specs.ProgramTree.{Path, Formula}
 use Rattle.smv_language.specs.Trace.{Each}
 use Rattle.smv_language.specs.Flat.{FlatLeaf, flat_symbol}
-use Rattle.smv_flat_laws.specs.Resolved.{leaves_in, trees_leaves, branches_leaves, IsResolved}
+use Rattle.smv_flat_laws.specs.NameResolution.{leaves_in, trees_leaves, branches_leaves, IsResolved}
 use Rattle.smv_flat_laws.proofs.Reaches.{each_left, each_right}
 use Rattle.smv_flat_laws.proofs.Resolving.{Known, names_known, each_leaf}
 use Rattle.smv_flat_laws.proofs.KindLaws.{with_both}

@@ -7,7 +7,7 @@ use Rattle.smv_language.specs.Values.{truth, number, symbol, Values, no_value, o
 use Rattle.smv_language.specs.Evaluate.{Leaves, gives_not, gives_negative, gives_either, gives_within, gives_applied, gives_binary, gives_choice, evaluate, evaluate_trees, evaluate_branches}
 use Rattle.smv_language.specs.Trace.{Each}
 use Rattle.smv_language.proofs.Monotone.{Extends, evaluate_below, trees_below, branches_below}
-use Rattle.smv_flat_laws.specs.Resolved.{leaves_in, trees_leaves, branches_leaves}
+use Rattle.smv_flat_laws.specs.NameResolution.{leaves_in, trees_leaves, branches_leaves}
 
 pub each_left : {A : Type 0} (P : A → Type 0) (xs ys : List A) → Each P (xs ++ ys) → Each P xs
 each_left P [] ys h = tt

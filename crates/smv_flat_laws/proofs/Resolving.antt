@@ -12,7 +12,7 @@ use Rattle.smv_language.specs.Trace.{Each}
 use Rattle.smv_language.proofs.Monotone.{means_more, name_values_more}
 use Rattle.smv_language.proofs.Substituted.{evaluate_map}
 use Rattle.smv_language.specs.Flat.{FlatLeaf, flat_variable, flat_symbol, flat_definition, FlatFormula, FlatModel, one_of, symbol_of, leaves_at, FlatGives, FlatMay, Numbers}
-use Rattle.smv_flat_laws.specs.Resolved.{leaves_in, has_next, Definition, StandsFor, IsLeafOf, Resolver, IsSound, IsResolved, IsBefore, AreDefinitions, leaf_gives}
+use Rattle.smv_flat_laws.specs.NameResolution.{leaves_in, has_next, Definition, StandsFor, IsLeafOf, Resolver, IsSound, IsResolved, IsBefore, AreDefinitions, leaf_gives}
 use Rattle.smv_flat_laws.proofs.Reaches.{stays_on, IsChain, BothReach, tree_reaches, tree_stays}
 use Rattle.smv_flat_laws.proofs.Lists.{each_map, each_of_map, each_more, leaves_map}
 use Rattle.smv_flat_laws.proofs.Now.{without_next, BothBelow, below_on}

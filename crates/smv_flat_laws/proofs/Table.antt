@@ -6,7 +6,7 @@ use Rattle.smv_language.specs.Values.{Value, Values}
 use Rattle.smv_language.specs.Evaluate.{evaluate}
 use Rattle.smv_language.specs.Trace.{Each}
 use Rattle.smv_language.specs.Flat.{FlatLeaf, flat_variable, flat_symbol, flat_definition, FlatFormula, FlatModel, given, flat_leaves, definition_gives, table_after, leaves_at}
-use Rattle.smv_flat_laws.specs.Resolved.{leaves_in, IsBefore}
+use Rattle.smv_flat_laws.specs.NameResolution.{leaves_in, IsBefore}
 use Rattle.smv_flat_laws.proofs.Lists.{get_end, length_end, get_within, each_more}
 use Rattle.smv_flat_laws.proofs.Now.{BothSame, same_on}
 use Rattle.base_values.proofs.ListLaws.{get_left}

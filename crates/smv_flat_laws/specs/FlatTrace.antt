@@ -5,7 +5,7 @@ use Rattle.smv_language.specs.Values.{Value, truth, symbol}
 use Rattle.smv_language.specs.Texts.{same_text}
 use Rattle.smv_language.specs.Trace.{Each, EachPair, AtFirst, in_domain}
 use Rattle.smv_language.specs.Flat.{FlatLeaf, flat_variable, flat_symbol, flat_definition, FlatVariable, FlatFormula, FlatModel, Holds}
-use Rattle.smv_flat_laws.specs.Resolved.{leaves_in}
+use Rattle.smv_flat_laws.specs.NameResolution.{leaves_in}
 use Rattle.smv_flat_laws.specs.History.{Mode, with_history}
 
 -- a value for each variable, each within its declared type
@@ -81,7 +81,8 @@ pub record IsModeOf (m : FlatModel) (f : Mode) : Type 0 where
 -- at a moment exactly where the mode stands there or stood before.
 abbrev pub TellsHistory : FlatModel → List Mode → FlatModel → Type 0
 TellsHistory m fs made =
-    (long : List (List Value)) → (IsFlatTrace made long ↔ ((trace : List (List Value)) × IsFlatTrace m trace × (long ≡ told_from m fs [] trace)))
+    (long : List (List Value)) →
+    (IsFlatTrace made long ↔ ((trace : List (List Value)) × IsFlatTrace m trace × (long ≡ told_from m fs [] trace)))
 
 -- The law of history.
 abbrev pub HistoryIsExact : Type 0

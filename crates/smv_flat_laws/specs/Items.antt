@@ -1,6 +1,7 @@
 -- The items of a program with their numbers, and the walk over its instances, depth first by items.
 use Rattle.std.specs.Prelude.{ℕ, zero, suc, ◌+◌, List, [], ◌∷◌, ◌++◌, codes, length, map, flat_map, if◌then◌else◌}
-use Rattle.smv_language.specs.ProgramTree.{Text, Formula, DeclaredTree, instance, DeclTree, DefineTree, AssignmentTree, SectionTree, var, ivar, frozen, define, constants, assign, init, invar, trans, ModuleTree, ProgramTree}
+use Rattle.smv_language.specs.ProgramTree.{Text, Formula, DeclaredTree, instance, DeclTree, DefineTree, AssignmentTree, SectionTree, var}
+use Rattle.smv_language.specs.ProgramTree.{ivar, frozen, define, constants, assign, init, invar, trans, ModuleTree, ProgramTree}
 use Rattle.smv_language.specs.Scope.{Place, Role, state, input, frozen_role}
 use Rattle.smv_language.specs.Flat.{FlatInstance}
 use Rattle.smv_language.specs.Texts.{same_text, is_among}
@@ -51,7 +52,8 @@ pub record NumberedModule : Type 0 where
 -- modules with numbers that go on from one, after others
 abbrev pub modules_from : ℕ → List ModuleTree → List ModuleTree → List NumberedModule
 modules_from n before [] = []
-modules_from n before (m ∷ ms) = record { number = n; before = before; tree = m } ∷ modules_from (n + suc (length (items_of m))) (before ++ m ∷ []) ms
+modules_from n before (m ∷ ms) =
+    record { number = n; before = before; tree = m } ∷ modules_from (n + suc (length (items_of m))) (before ++ m ∷ []) ms
 
 -- items are numbered from 1, a module's header being one
 abbrev pub modules_of : ProgramTree → List NumberedModule

@@ -23,7 +23,8 @@ VariablesAreThose =
 -- and each list of as many values is that of a valuation
 abbrev pub ListsAreValuations : Type 0
 ListsAreValuations =
-    (p : ProgramTree) (m : FlatModel) → IsAccepted p → IsFlatOf p m → (v : List Value) → length v ≡ length m.variables → (named : Valuation) × Numbers m v named
+    (p : ProgramTree) (m : FlatModel) → IsAccepted p → IsFlatOf p m → (v : List Value) → length v ≡ length m.variables →
+    (named : Valuation) × Numbers m v named
 
 -- a program has at most one first broken rule, with one item
 abbrev pub OneFault : Type 0

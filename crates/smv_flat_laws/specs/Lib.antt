@@ -1,4 +1,4 @@
-pub mod Resolved
+pub mod NameResolution
 pub mod Items
 pub mod Looks
 pub mod Rules

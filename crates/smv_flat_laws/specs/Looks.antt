@@ -3,7 +3,8 @@ use Rattle.std.specs.Prelude.{◌≡◌, ℕ, zero, suc, List, [], ◌∷◌, �
 use Rattle.smv_language.specs.Tree.{leaf}
 use Rattle.smv_language.specs.ProgramTree.{Text, Path, Formula, ModuleTree, ProgramTree}
 use Rattle.smv_language.specs.Trace.{IsInstance}
-use Rattle.smv_language.specs.Scope.{Place, Kind, a_formal, a_variable, a_define, an_instance, undeclared, plain_name, nth_formula, kind_in, kind_at, module_at, actual_of_kind, means_in, Meaning, Means}
+use Rattle.smv_language.specs.Scope.{Place, Kind, a_formal, a_variable, a_define, an_instance, undeclared, plain_name, nth_formula, kind_in}
+use Rattle.smv_language.specs.Scope.{kind_at, module_at, actual_of_kind, means_in, Meaning, Means}
 
 -- a name that is looked up at an instance
 pub record Look : Type 0 where
@@ -57,7 +58,8 @@ ComesBack p at x = (n : ℕ) × (rest : Path) × (look_after (suc n) p at (x ∷
 -- the look-up of a name meets a formal whose look-up comes back to it
 abbrev pub MeetsLoop : ProgramTree → Place → Path → Type 0
 MeetsLoop p at name =
-    (n : ℕ) × (at' : Place) × (x : Text) × (rest : Path) × (look_after n p at name ≡ Some (record { place = at'; name = x ∷ rest })) × ComesBack p at' x
+    (n : ℕ) × (at' : Place) × (x : Text) × (rest : Path) × (look_after n p at name ≡ Some (record { place = at'; name = x ∷ rest }))
+    × ComesBack p at' x
 
 -- the name means nothing, and no loop is to blame
 pub record MeansNothing (p : ProgramTree) (at : Place) (name : Path) : Type 0 where
@@ -67,5 +69,6 @@ pub record MeansNothing (p : ProgramTree) (at : Place) (name : Path) : Type 0 wh
 -- each actual that is a name means something where it is written
 abbrev pub ActualsMean : ProgramTree → Type 0
 ActualsMean p =
-    (at : Place) (m : ModuleTree) → IsInstance p at m → (x n : Text) (actuals : List Formula) → kind_in m x ≡ an_instance n actuals → (k : ℕ) (name : Path) → nth_formula actuals k ≡ Some (leaf name) →
+    (at : Place) (m : ModuleTree) → IsInstance p at m → (x n : Text) (actuals : List Formula) → kind_in m x ≡ an_instance n actuals →
+    (k : ℕ) (name : Path) → nth_formula actuals k ≡ Some (leaf name) →
     (meaning : Meaning) × Means p at name meaning

@@ -1,5 +1,6 @@
 -- Which flat model a program has.
-use Rattle.std.specs.Prelude.{◌≡◌, ◌↔◌, ℕ, suc, Bool, true, false, ◌||◌, List, [], ◌∷◌, ◌++◌, Option, Some, None, map, flat_map, slice_get, nat_eq, ◌&&◌, if◌then◌else◌}
+use Rattle.std.specs.Prelude.{◌≡◌, ◌↔◌, ℕ, suc, Bool, true, false, ◌||◌, List, [], ◌∷◌, ◌++◌, Option, Some, None, map, flat_map, slice_get}
+use Rattle.std.specs.Prelude.{nat_eq, ◌&&◌, if◌then◌else◌}
 use Rattle.smv_language.specs.declared.expr.Op.TheVariants as op
 use Rattle.smv_language.specs.declared.program.Moment.{Moment}
 use Rattle.smv_language.specs.declared.program.Moment.TheVariants.{Always, First, After}
@@ -12,8 +13,9 @@ use Rattle.smv_language.specs.Scope.{Place, frozen_role, Key, define_key, actual
 use Rattle.smv_language.specs.May.{Valuation}
 use Rattle.smv_language.specs.Trace.{Each, IsFirst, IsInvariant, IsStep, EachBoth}
 use Rattle.smv_language.specs.Flat.{FlatLeaf, flat_variable, FlatInstance, FlatVariable, FlatFormula, FlatModel, Holds, Numbers}
-use Rattle.smv_flat_laws.specs.Resolved.{leaves_in, Definition, Resolver, IsSound, IsResolved, AreDefinitions}
-use Rattle.smv_flat_laws.specs.Items.{Item, a_declaration, a_definition, an_assignment, some_constants, an_init, an_invar, a_trans, NumberedItem, items_named, items_of, Visit, instances_of, variables_of}
+use Rattle.smv_flat_laws.specs.NameResolution.{leaves_in, Definition, Resolver, IsSound, IsResolved, AreDefinitions}
+use Rattle.smv_flat_laws.specs.Items.{Item, a_declaration, a_definition, an_assignment, some_constants, an_init, an_invar, a_trans}
+use Rattle.smv_flat_laws.specs.Items.{NumberedItem, items_named, items_of, Visit, instances_of, variables_of}
 use Rattle.smv_flat_laws.specs.Rules.{expression_of}
 use Rattle.smv_language.specs.Texts.{same_text, is_among}
 
@@ -89,7 +91,8 @@ pub record IsVariableNumber (m : FlatModel) (at : Place) (x : Text) (i : ℕ) : 
   pub same_name : variable.name ≡ x
 
 -- x in e, next(x) in e, next(x) in x
-pub record IsAmong (m : FlatModel) (r : Resolver) (at : Place) (x : Text) (e : Formula) (left : Tree FlatLeaf → Tree FlatLeaf) (flat : Tree FlatLeaf) : Type 0 where
+pub record IsAmong (m : FlatModel) (r : Resolver) (at : Place) (x : Text) (e : Formula) (left : Tree FlatLeaf →
+    Tree FlatLeaf) (flat : Tree FlatLeaf) : Type 0 where
   pub number : ℕ
   pub is_number : IsVariableNumber m at x number
   pub value : Tree FlatLeaf
@@ -190,7 +193,8 @@ roots_of_item at item _ = []
 
 -- those of a program
 abbrev pub roots_of : ProgramTree → List Root
-roots_of p = flat_map (λ at. flat_map (λ (i : NumberedItem). roots_of_item at.place i.number i.item) (items_named p at.module_name)) (instances_of p)
+roots_of p = flat_map (λ at. flat_map (λ (i : NumberedItem). roots_of_item at.place i.number i.item) (items_named p at.module_name))
+    (instances_of p)
 
 -- the key of a meaning that is a definition
 abbrev pub keys_of_meaning : Meaning → List Key
@@ -224,12 +228,14 @@ is_key_among (j ∷ js) k = same_key j k || is_key_among js k
 mutual
   pub data Adds (p : ProgramTree) : List Key → Key → List Key → Type 0 where
     stands : {done : List Key} {k : Key} → is_key_among done k ≡ true → Adds p done k done
-    comes : {done after needs : List Key} {k : Key} {at : Place} {e : Formula} → is_key_among done k ≡ false → expression_of p k ≡ Some (at, e) →
+    comes : {done after needs : List Key} {k : Key} {at : Place} {e : Formula} → is_key_among done k ≡ false →
+        expression_of p k ≡ Some (at, e) →
         AreNamed p at (leaves_in e) needs → AddsAll p done needs after → Adds p done k (after ++ k ∷ [])
 
   pub data AddsAll (p : ProgramTree) : List Key → List Key → List Key → Type 0 where
     no_more : {done : List Key} → AddsAll p done [] done
-    one_more : {done between after more : List Key} {k : Key} → Adds p done k between → AddsAll p between more after → AddsAll p done (k ∷ more) after
+    one_more : {done between after more : List Key} {k : Key} → Adds p done k between → AddsAll p between more after →
+        AddsAll p done (k ∷ more) after
 
 -- the flat definition is that of the written one, with the item of a root of its key
 pub record IsDefinitionOf (p : ProgramTree) (m : FlatModel) (d : Definition) (f : FlatFormula) : Type 0 where
@@ -261,4 +267,5 @@ pub record IsFlatOf (p : ProgramTree) (m : FlatModel) : Type 0 where
 pub record IsFlattened (p : ProgramTree) (m : FlatModel) : Type 0 where
   pub first : (v : List Value) (named : Valuation) → Numbers m v named → (Each (Holds m v v) m.at_first ↔ IsFirst p named)
   pub each : (v : List Value) (named : Valuation) → Numbers m v named → (Each (Holds m v v) m.at_each ↔ IsInvariant p named)
-  pub step : (v w : List Value) (now next : Valuation) → Numbers m v now → Numbers m w next → (Each (Holds m v w) m.at_step ↔ IsStep p now next)
+  pub step : (v w : List Value) (now next : Valuation) → Numbers m v now → Numbers m w next →
+      (Each (Holds m v w) m.at_step ↔ IsStep p now next)

@@ -3,7 +3,7 @@ use Rattle.smv_language.specs.Tree.{Tree}
 use Rattle.smv_language.specs.ProgramTree.{Formula, ProgramTree}
 use Rattle.smv_language.specs.Scope.{Place}
 use Rattle.smv_language.specs.Flat.{FlatLeaf, FlatModel}
-use Rattle.smv_flat_laws.specs.Resolved.{Resolver, IsSound, IsResolved}
+use Rattle.smv_flat_laws.specs.NameResolution.{Resolver, IsSound, IsResolved}
 use Rattle.smv_flat_laws.specs.Model.{IsFlatOf}
 
 -- the flat expression is the written one with each name replaced by what it means there, over the model's own definitions

@@ -1,15 +1,22 @@
 -- The rules of flattening, and which is the first that a program breaks.
-use Rattle.std.specs.Prelude.{◌≡◌, ℕ, zero, suc, ◌<◌, ◌≤◌, nat_eq, Bool, true, false, ◌||◌, ◌&&◌, ◌⊎◌, IsTrue, List, [], ◌∷◌, ◌++◌, Option, Some, None, codes, length, map, flat_map, slice_get}
+use Rattle.std.specs.Prelude.{◌≡◌, ℕ, zero, suc, ◌<◌, ◌≤◌, nat_eq, Bool, true, false, ◌||◌, ◌&&◌, ◌⊎◌, IsTrue, List, [], ◌∷◌, ◌++◌, Option}
+use Rattle.std.specs.Prelude.{Some, None, codes, length, map, flat_map, slice_get}
 use Rattle.smv_language.specs.declared.program.Moment.{Moment}
 use Rattle.smv_language.specs.declared.program.Moment.TheVariants.{Always, First, After}
-use Rattle.smv_language.specs.Tree.{Tree, Trees, Branches, truth, number, leaf, not_of, negate, next_of, binary, choice, case_of, set_of, span, no_tree, tree_then, no_branch, branch_then}
-use Rattle.smv_language.specs.ProgramTree.{Text, Path, Formula, DeclaredTree, boolean, range, members, instance, AssignmentTree, ModuleTree, ProgramTree}
+use Rattle.smv_language.specs.Tree.{Tree, Trees, Branches, truth, number, leaf, not_of, negate, next_of, binary, choice, case_of, set_of}
+use Rattle.smv_language.specs.Tree.{span, no_tree, tree_then, no_branch, branch_then}
+use Rattle.smv_language.specs.ProgramTree.{Text, Path, Formula, DeclaredTree, boolean, range, members, instance, AssignmentTree, ModuleTree}
+use Rattle.smv_language.specs.ProgramTree.{ProgramTree}
 use Rattle.smv_language.specs.Values.{opposite}
-use Rattle.smv_language.specs.Scope.{Place, state, input, frozen_role, Kind, a_variable, a_define, Key, define_key, actual_key, a_variable_at, an_expression_at, an_instance_at, Means, find_module, kind_at, module_at, actual_of_kind, plain_name}
+use Rattle.smv_language.specs.Scope.{Place, state, input, frozen_role, Kind, a_variable, a_define, Key, define_key, actual_key}
+use Rattle.smv_language.specs.Scope.{a_variable_at, an_expression_at, an_instance_at, Means, find_module, kind_at, module_at}
+use Rattle.smv_language.specs.Scope.{actual_of_kind, plain_name}
 use Rattle.smv_language.specs.Trace.{Each, AtSome}
 use Rattle.smv_language.specs.Flat.{FlatInstance}
-use Rattle.smv_flat_laws.specs.Resolved.{leaves_in, has_next}
-use Rattle.smv_flat_laws.specs.Items.{Item, a_declaration, a_definition, an_assignment, some_constants, an_init, an_invar, a_trans, NumberedItem, NumberedModule, modules_of, numbered_items, items_named, Visit, visits, instances_of, instance_declared, variable_declared}
+use Rattle.smv_flat_laws.specs.NameResolution.{leaves_in, has_next}
+use Rattle.smv_flat_laws.specs.Items.{Item, a_declaration, a_definition, an_assignment, some_constants, an_init, an_invar, a_trans}
+use Rattle.smv_flat_laws.specs.Items.{NumberedItem, NumberedModule, modules_of, numbered_items, items_named, Visit, visits, instances_of}
+use Rattle.smv_flat_laws.specs.Items.{instance_declared, variable_declared}
 use Rattle.smv_flat_laws.specs.Looks.{ComesBack, MeansNothing}
 use Rattle.smv_language.specs.Texts.{same_text, is_among}
 
@@ -323,7 +330,8 @@ some_has_next (e ∷ es) = has_next e || some_has_next es
 
 -- rule 12 is broken at an item
 abbrev pub breaks_next : Item → Bool
-breaks_next (a_declaration role d) = elim d.what [ boolean ↦ false | range lo hi ↦ false | members ms ↦ false | instance m actuals ↦ some_has_next actuals ]
+breaks_next (a_declaration role d) =
+    elim d.what [ boolean ↦ false | range lo hi ↦ false | members ms ↦ false | instance m actuals ↦ some_has_next actuals ]
 breaks_next (a_definition d) = has_next d.value
 breaks_next (an_assignment a) = has_bad_next (is_later a.when) a.value
 breaks_next (some_constants xs) = false
@@ -338,7 +346,8 @@ is_input_kind _ = false
 
 -- the name means an input
 abbrev pub MeansInput : ProgramTree → Place → Path → Type 0
-MeansInput p at name = (place : Place) × (x : Text) × Means p at name (a_variable_at place x) × IsTrue (is_input_kind (kind_at (module_at p place) x))
+MeansInput p at name = (place : Place) × (x : Text) × Means p at name (a_variable_at place x)
+    × IsTrue (is_input_kind (kind_at (module_at p place) x))
 
 -- the name means a definition that leads to one which names an input
 pub record ReadsInput (p : ProgramTree) (at : Place) (name : Path) : Type 0 where

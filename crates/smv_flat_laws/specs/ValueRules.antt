@@ -3,7 +3,7 @@ use Rattle.std.specs.Prelude.{◌≡◌, ◌<◌, Bool, true, false}
 use Rattle.smv_language.specs.ProgramTree.{Formula, ProgramTree}
 use Rattle.smv_language.specs.Scope.{Place}
 use Rattle.smv_language.specs.Trace.{AtSome}
-use Rattle.smv_flat_laws.specs.Resolved.{leaves_in, has_next}
+use Rattle.smv_flat_laws.specs.NameResolution.{leaves_in, has_next}
 use Rattle.smv_flat_laws.specs.Rules.{Rule, number_of, no_such_name, next_here, input_here, SomeHasNoValue, GivesInput}
 
 -- the expression breaks a rule as the value of a DEFINE, which may read inputs or not

@@ -16,7 +16,8 @@
 #![tactic(auto)]
 
 ghost use Rattle.smv_flat_laws.specs.FlatTrace.{HistoryIsExact};
-ghost use Rattle.smv_flat_laws.specs.Laws.{FlatteningIsExact, VariablesAreThose, ListsAreValuations, OneFault, AcceptedHasNoFault, OneModel};
+ghost use Rattle.smv_flat_laws.specs.Laws.{FlatteningIsExact, VariablesAreThose, ListsAreValuations, OneFault, AcceptedHasNoFault};
+ghost use Rattle.smv_flat_laws.specs.Laws.{OneModel};
 
 /// The flat model of an accepted program holds exactly what the program's conditions hold, its variables
 /// are those of the program's instances, and each list of as many values is a valuation's.

@@ -3,7 +3,7 @@ use Rattle.std.proofs.Common.{◌≡◌, ℕ, ◌+◌, ◌<◌, List, length, ge
 use Rattle.std.proofs.lemmas.List.{drop_more}
 use Rattle.smv_language.specs.declared.expr.Expr.{Expr}
 use Rattle.smv_language.specs.Tree.{size_of, trees_size, branches_size, height_of, trees_height, branches_height}
-use Rattle.smv_language.specs.Written.{tree_of, trees_of, branches_of}
+use Rattle.smv_language.specs.ExpressionTree.{tree_of, trees_of, branches_of}
 
 pub trees_size_more : {L : Type 0} (ts : List (Expr L)) (i : ℕ) (d : Expr L) → i < length ts →
     trees_size (trees_of (drop i ts)) ≡ size_of (tree_of (get_or ts i d)) + trees_size (trees_of (drop (i + 1) ts))

@@ -7,7 +7,7 @@ use Rattle.smv_language.specs.Tree.{Tree, Trees, Branches, truth, number, leaf, 
 use Rattle.smv_language.specs.ProgramTree.{Path}
 use Rattle.smv_language.specs.Lexemes.{Lexeme}
 use Rattle.smv_language.specs.Spells.{at_expr, at_iff, at_choice, at_or, at_and, at_rel, at_within, at_uni, at_sum, at_prod, at_neg, at_not, line_of, operator, SpellsInt, plain_int, minus_int, SpellsDotted, one_name, more_names, begins_span, is_repeated, Spells, only_iff, implies, repeated, only_or, chooses, only_not, negates, only_atom, inverts, SpellsMore, no_operator, one_operator, SpellsAtom, is_true, is_false, is_number, is_span, is_name, in_parentheses, is_next, is_set, is_case, SpellsTrees, one_tree, more_trees, SpellsBranches, one_branch, more_branches}
-use Rattle.smv_language.specs.Printed.{printed_int, printed_path, under_minus, printed, printed_trees, printed_branches, AreNames, IsWritable, AreWritable, AreWritableBranches}
+use Rattle.smv_language.specs.PrintedTokens.{printed_int, printed_path, under_minus, printed, printed_trees, printed_branches, AreNames, IsWritable, AreWritable, AreWritableBranches}
 
 -- a line that repeats an operator may have none
 pub without_operator : {l : ℕ} {ts : List Lexeme} {t : Tree Path} → is_repeated l ≡ true → Spells (suc l) ts t → Spells l ts t

@@ -14,7 +14,7 @@ use Rattle.smv_language.specs.Lexemes.{Lexeme, word, sign}
 use Rattle.smv_language.specs.SpellsProgram.{SpellsMany, no_more, one_more, SpellsCommas, last_one, one_comma, SpellsBracketed, no_brackets, brackets, SpellsName, a_name, SpellsExpr, SpellsMember, a_symbol, a_number, SpellsType, is_boolean, is_range, is_members, SpellsDeclared, is_type, is_instance, SpellsDecl, declares, SpellsDefine, defines, SpellsTarget, always, first, after, SpellsAssignment, assigns, SpellsFormula, ended, SpellsSection, a_var, an_ivar, a_frozen, a_define, some_constants, an_assign, an_init, an_invar, a_trans, SpellsSections, no_section, a_section, some_formals, SpellsModule, a_module, SpellsProgram}
 use Rattle.smv_language.specs.Bytes.{BytesSpellProgram}
 use Rattle.smv_language.specs.Text.{each_after, commas, in_brackets, text_of, member_text, declared_text, target_text, line, decl_line, define_line, assignment_line, all_of, section_text, module_text, program_text}
-use Rattle.smv_language.specs.Printed.{printed, printed_path, printed_int, IsName, AreNames, IsWritable}
+use Rattle.smv_language.specs.PrintedTokens.{printed, printed_path, printed_int, IsName, AreNames, IsWritable}
 use Rattle.smv_language.specs.WritableProgram.{IsWritableMember, IsWritableType, IsWritableDeclared, IsWritableDecl, IsWritableTyped, IsWritableDefine, IsWritableAssignment, IsWritableSection, IsWritableModule, IsWritableProgram}
 use Rattle.smv_language.specs.Trace.{Each}
 use Rattle.smv_language.proofs.Pieces.{Reads, nothing, then, as_lexemes, piece_reads, whole_reads}

@@ -18,7 +18,7 @@ use Rattle.smv_language.specs.Lexemes.{Lexeme, word, num, sign, lexeme_of, lexem
 use Rattle.smv_language.specs.Spells.{minus, SpellsInt, plain_int, minus_int, SpellsDotted, one_name, more_names, Spells, only_iff, implies, repeated, only_or, chooses, only_not, negates, only_atom, inverts, SpellsMore, no_operator, one_operator, SpellsAtom, is_true, is_false, is_number, is_span, is_name, in_parentheses, is_next, is_set, is_case, SpellsTrees, one_tree, more_trees, SpellsBranches, one_branch, more_branches}
 use Rattle.smv_language.specs.SpellsProgram.{SpellsMany, no_more, one_more, SpellsCommas, last_one, one_comma, SpellsBracketed, no_brackets, brackets, SpellsName, a_name, SpellsExpr, SpellsMember, a_symbol, a_number, SpellsType, is_boolean, is_range, is_members, SpellsDeclared, is_type, is_instance, is_empty_instance, SpellsDecl, declares, SpellsDefine, defines, SpellsTarget, always, first, after, SpellsAssignment, assigns, SpellsFormula, open_ended, ended, SpellsSection, a_var, an_ivar, a_frozen, a_define, some_constants, an_assign, an_init, an_invar, a_trans, SpellsSections, no_section, a_section, skipped, SpellsFormals, some_formals, empty_formals, SpellsModule, a_module}
 use Rattle.smv_language.specs.Bytes.{BytesSpellExpr, BytesSpellProgram}
-use Rattle.smv_language.specs.Printed.{IsSmall, IsEnd, AreNames, IsName, IsWritable, AreWritable, AreWritableBranches}
+use Rattle.smv_language.specs.PrintedTokens.{IsSmall, IsEnd, AreNames, IsName, IsWritable, AreWritable, AreWritableBranches}
 use Rattle.smv_language.specs.WritableProgram.{IsWritableMember, IsWritableType, IsWritableDeclared, IsWritableDecl, IsWritableTyped, IsWritableDefine, IsWritableAssignment, IsWritableSection, IsWritableModule, IsWritableProgram}
 use Rattle.smv_language.specs.Trace.{Each}
 use Rattle.smv_language.proofs.Pieces.{with_piece, seen, seen_tokens}

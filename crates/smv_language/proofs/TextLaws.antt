@@ -7,7 +7,7 @@ use Rattle.smv_language.specs.ProgramTree.{Path}
 use Rattle.smv_language.specs.Tree.{Tree, trees_from}
 use Rattle.smv_language.specs.Text.{text_of, trees_texts, commas}
 use Rattle.smv_language.proofs.WrittenLaws.{tree_of_set}
-use Rattle.smv_language.specs.Written.{tree_of}
+use Rattle.smv_language.specs.ExpressionTree.{tree_of}
 use Rattle.std.specs.Prelude.{codes}
 
 -- the texts of the members of a set are those of a list of trees

@@ -13,7 +13,7 @@ use Rattle.smv_language.specs.Spells.{operator}
 use Rattle.smv_language.specs.SpellsProgram.{SpellsExpr}
 use Rattle.smv_language.specs.Bytes.{BytesSpellExpr}
 use Rattle.smv_language.specs.Text.{op_text, each_after, after_minus, text_of, trees_texts, branches_text}
-use Rattle.smv_language.specs.Printed.{printed_int, printed_path, in_brackets, under_minus, printed, printed_trees, printed_branches, AreNames, IsEnd, IsSmall, IsWritable, AreWritable, AreWritableBranches}
+use Rattle.smv_language.specs.PrintedTokens.{printed_int, printed_path, in_brackets, under_minus, printed, printed_trees, printed_branches, AreNames, IsEnd, IsSmall, IsWritable, AreWritable, AreWritableBranches}
 use Rattle.smv_language.proofs.Pieces.{Reads, nothing, then, as_lexemes, piece_reads, whole_reads}
 use Rattle.smv_language.proofs.TokenTexts.{Ends, blank, is_open, is_close, is_open_brace, is_close_brace, is_comma, is_semicolon, is_dots, is_colon, is_question, Begins, NoEqual, NoDash, NoDot, is_bang, is_minus, is_dot, is_word, word_begins, is_number, number_begins}
 use Rattle.smv_language.proofs.PrintedSpells.{printed_spells, an_expr}

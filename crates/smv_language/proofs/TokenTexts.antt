@@ -15,7 +15,7 @@ use Rattle.smv_lexer.specs.Scan.{found, number_found, token_at, piece_at}
 use Rattle.smv_lexer.proofs.ByteLemmas.{word_not_blank, digit_not_blank, digit_not_word}
 use Rattle.smv_lexer.proofs.RunLemmas.{run_len-runs, Runs-digits}
 use Rattle.smv_language.specs.Lexemes.{word, num, sign}
-use Rattle.smv_language.specs.Printed.{IsSmall}
+use Rattle.smv_language.specs.PrintedTokens.{IsSmall}
 use Rattle.smv_language.proofs.Pieces.{Reads, piece_reads, as_lexemes}
 
 -- what may follow a word or a number

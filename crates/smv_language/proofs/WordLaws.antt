@@ -7,7 +7,7 @@ use Rattle.std.specs.List.{list_all}
 use Rattle.smv_lexer.specs.Tokens.{IsWord}
 use Rattle.smv_language.specs.Texts.{same_text, is_among}
 use Rattle.smv_language.specs.Lexemes.{is_reserved, section_words, expression_words, left_out_words}
-use Rattle.smv_language.specs.Printed.{IsName}
+use Rattle.smv_language.specs.PrintedTokens.{IsName}
 use Rattle.std.proofs.lemmas.Bool.{and_parts as both_parts, and_right as no_more_texts, or_from as neither}
 use Rattle.smv_lexer.proofs.SignLemmas.{not_true}
 

@@ -6,7 +6,7 @@ use Rattle.smv_language.specs.declared.expr.Expr.{Expr, fold-roll-Expr}
 use Rattle.smv_language.specs.declared.expr.Expr.TheVariants.{Case, SetOf, Not, rolls-Case, rolls-SetOf, rolls-Not}
 use Rattle.smv_language.specs.declared.expr.Expr.TheOpen as open_
 use Rattle.smv_language.specs.Tree.{Tree, case_of, set_of, not_of}
-use Rattle.smv_language.specs.Written.{tree_of, trees_of, branches_of, node_tree}
+use Rattle.smv_language.specs.ExpressionTree.{tree_of, trees_of, branches_of, node_tree}
 
 pub tree_of_case : {L : Type 0} (bs : List (Expr L × Expr L)) → tree_of (Case bs) ≡ case_of (branches_of bs)
 tree_of_case {L = L} bs = ap tree_of (sym (rolls-Case bs)) ∙ fold-roll-Expr L (Tree L) node_tree (open_.Case bs)

@@ -20,4 +20,6 @@ BytesSpellExpr bytes e = (tokens : List Token) × HasTokens bytes tokens × Spel
 -- the tree is at most `deepest` high, and as it is spelled parentheses are nested at most `deepest` deep
 abbrev pub HasDepths : List ℕ → Formula → Type 0
 HasDepths bytes e =
-    (height_of e ≤ deepest) × ((tokens : List Token) → HasTokens bytes tokens → (spelled : SpellsExpr (lexemes_of bytes tokens) e) → nesting_of spelled ≤ deepest)
+    (height_of e ≤ deepest)
+    × ((tokens : List Token) → HasTokens bytes tokens → (spelled : SpellsExpr (lexemes_of bytes tokens) e) →
+    nesting_of spelled ≤ deepest)

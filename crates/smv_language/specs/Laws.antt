@@ -1,11 +1,12 @@
 -- The laws of the grammar and of values, which small functions of `src/laws.rt` carry.
 use Rattle.std.specs.Prelude.{◌≡◌, ◌+◌, ℕ, List, Some}
-use Rattle.smv_language.specs.Tree.{Tree, Trees, Branches, truth, number, leaf, not_of, negate, next_of, binary, choice, case_of, set_of, span, no_tree, tree_then, no_branch, branch_then}
+use Rattle.smv_language.specs.Tree.{Tree, Trees, Branches, truth, number, leaf, not_of, negate, next_of, binary, choice, case_of, set_of}
+use Rattle.smv_language.specs.Tree.{span, no_tree, tree_then, no_branch, branch_then}
 use Rattle.smv_language.specs.ProgramTree.{Text, Path, Formula, ProgramTree}
 use Rattle.smv_language.specs.Lexemes.{Lexeme}
 use Rattle.smv_language.specs.Spells.{at_expr, Spells}
 use Rattle.smv_language.specs.SpellsProgram.{SpellsProgram, SpellsExpressions}
-use Rattle.smv_language.specs.Printed.{printed, IsWritable}
+use Rattle.smv_language.specs.PrintedTokens.{printed, IsWritable}
 use Rattle.smv_language.specs.Text.{text_of, program_text}
 use Rattle.smv_language.specs.Bytes.{BytesSpellExpr, BytesSpellProgram}
 use Rattle.smv_language.specs.WritableProgram.{IsWritableProgram}
@@ -48,7 +49,8 @@ SpelledIsWritable =
 -- what is found in so many steps is found in more
 abbrev pub DeeperMeansTheSame : Type 0
 DeeperMeansTheSame =
-    (n d : ℕ) (p : ProgramTree) (at : Place) (name : Path) (m : Meaning) → means_in n p at name ≡ Some m → means_in (n + d) p at name ≡ Some m
+    (n d : ℕ) (p : ProgramTree) (at : Place) (name : Path) (m : Meaning) → means_in n p at name ≡ Some m →
+    means_in (n + d) p at name ≡ Some m
 
 -- what an expression gives at some depth it gives at each greater depth
 abbrev pub DeeperGivesTheSame : Type 0
@@ -89,4 +91,5 @@ AgreeingLeavesGiveTheSame =
 -- evaluating a tree with its leaves changed is evaluating the tree over what the changed leaves give
 abbrev pub MappedLeavesGiveTheSame : Type 0
 MappedLeavesGiveTheSame =
-    (f : Path → Path) (t : Tree Path) (now next : Leaves Path) → evaluate now next (tree_map f t) ≡ evaluate (λ l. now (f l)) (λ l. next (f l)) t
+    (f : Path → Path) (t : Tree Path) (now next : Leaves Path) →
+    evaluate now next (tree_map f t) ≡ evaluate (λ l. now (f l)) (λ l. next (f l)) t

@@ -26,7 +26,8 @@ lexemes_of bytes tokens = map (λ t. lexeme_of t.kind (slice_range bytes t.start
 abbrev pub section_words : List (List ℕ)
 section_words =
     codes "MODULE" ∷ codes "VAR" ∷ codes "IVAR" ∷ codes "FROZENVAR" ∷ codes "DEFINE" ∷ codes "CONSTANTS" ∷ codes "ASSIGN" ∷ codes "INIT" ∷
-    codes "INVAR" ∷ codes "TRANS" ∷ codes "CTLSPEC" ∷ codes "SPEC" ∷ codes "LTLSPEC" ∷ codes "PSLSPEC" ∷ codes "INVARSPEC" ∷ codes "COMPUTE" ∷
+    codes "INVAR" ∷ codes "TRANS" ∷ codes "CTLSPEC" ∷ codes "SPEC" ∷ codes "LTLSPEC" ∷ codes "PSLSPEC" ∷ codes "INVARSPEC"
+    ∷ codes "COMPUTE" ∷
     codes "FAIRNESS" ∷ codes "JUSTICE" ∷ codes "COMPASSION" ∷ []
 
 -- the words of expressions, types and targets
@@ -38,7 +39,8 @@ expression_words =
 -- words that the language left out
 abbrev pub left_out_words : List (List ℕ)
 left_out_words =
-    codes "process" ∷ codes "self" ∷ codes "count" ∷ codes "toint" ∷ codes "bool" ∷ codes "word" ∷ codes "array" ∷ codes "of" ∷ codes "real" ∷
+    codes "process" ∷ codes "self" ∷ codes "count" ∷ codes "toint" ∷ codes "bool" ∷ codes "word" ∷ codes "array" ∷ codes "of"
+    ∷ codes "real" ∷
     codes "integer" ∷ codes "signed" ∷ codes "unsigned" ∷ codes "ISA" ∷ []
 
 -- no name has this text

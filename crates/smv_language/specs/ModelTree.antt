@@ -4,7 +4,7 @@ use Rattle.smv_language.specs.Tree.{Tree}
 use Rattle.smv_language.specs.ProgramTree.{Text, Path, declared_tree}
 use Rattle.smv_language.specs.Scope.{Place, Role as RoleOf, state, input, frozen_role}
 use Rattle.smv_language.specs.Leaves.{tree_map}
-use Rattle.smv_language.specs.Written.{tree_of}
+use Rattle.smv_language.specs.ExpressionTree.{tree_of}
 use Rattle.smv_language.specs.declared.expr.Expr.{Expr}
 use Rattle.smv_language.specs.declared.model.Fault.{Fault}
 use Rattle.smv_language.specs.declared.model.Flat.{Flat}
@@ -15,7 +15,8 @@ use Rattle.smv_language.specs.declared.model.Instance.{Instance}
 use Rattle.smv_language.specs.declared.model.Variable.{Variable}
 use Rattle.smv_language.specs.declared.model.Formula.{Formula}
 use Rattle.smv_language.specs.declared.model.FlatModel.{FlatModel}
-use Rattle.smv_language.specs.Flat.{FlatLeaf, flat_variable, flat_symbol, flat_definition, FlatInstance, FlatVariable, FlatFormula, FlatModel as ModelTree}
+use Rattle.smv_language.specs.Flat.{FlatLeaf, flat_variable, flat_symbol, flat_definition, FlatInstance, FlatVariable, FlatFormula}
+use Rattle.smv_language.specs.Flat.{FlatModel as ModelTree}
 
 -- a name of a flat expression
 abbrev pub leaf_of : Flat → FlatLeaf

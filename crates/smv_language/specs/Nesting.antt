@@ -3,7 +3,10 @@ use Rattle.std.specs.Prelude.{ℕ, ◌+◌, max, List}
 use Rattle.smv_language.specs.Tree.{Tree, Trees, Branches}
 use Rattle.smv_language.specs.ProgramTree.{Path}
 use Rattle.smv_language.specs.Lexemes.{Lexeme}
-use Rattle.smv_language.specs.Spells.{Spells, only_iff, implies, repeated, only_or, chooses, only_not, negates, only_atom, inverts, SpellsMore, no_operator, one_operator, SpellsAtom, is_true, is_false, is_number, is_span, is_name, in_parentheses, is_next, is_set, is_case, SpellsTrees, one_tree, more_trees, SpellsBranches, one_branch, more_branches}
+use Rattle.smv_language.specs.Spells.{Spells, only_iff, implies, repeated, only_or, chooses, only_not, negates, only_atom, inverts}
+use Rattle.smv_language.specs.Spells.{SpellsMore, no_operator, one_operator, SpellsAtom, is_true, is_false, is_number, is_span, is_name}
+use Rattle.smv_language.specs.Spells.{in_parentheses, is_next, is_set, is_case, SpellsTrees, one_tree, more_trees, SpellsBranches}
+use Rattle.smv_language.specs.Spells.{one_branch, more_branches}
 
 -- how deep parentheses are nested as the tokens spell the tree
 abbrev mutual

@@ -12,7 +12,7 @@ use Rattle.smv_language.specs.declared.program.Section.TheVariants as section
 use Rattle.smv_language.specs.declared.program.Module.{Module}
 use Rattle.smv_language.specs.declared.program.Program.{Program}
 use Rattle.smv_language.specs.Tree.{Tree}
-use Rattle.smv_language.specs.Written.{tree_of}
+use Rattle.smv_language.specs.ExpressionTree.{tree_of}
 
 -- a text, and names joined by dots
 abbrev pub Text : Type 0

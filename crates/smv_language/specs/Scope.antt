@@ -3,7 +3,9 @@ use Rattle.std.specs.Prelude.{◌≡◌, ℕ, zero, suc, Bool, false, List, [], 
 use Rattle.smv_language.specs.declared.program.Member.{Member}
 use Rattle.smv_language.specs.declared.program.Member.TheVariants as member
 use Rattle.smv_language.specs.Tree.{leaf}
-use Rattle.smv_language.specs.ProgramTree.{Text, Path, Formula, DeclaredTree, boolean, range, members, instance, DeclTree, DefineTree, SectionTree, var, ivar, frozen, define, constants, assign, init, invar, trans, ModuleTree, ProgramTree}
+use Rattle.smv_language.specs.ProgramTree.{Text, Path, Formula, DeclaredTree, boolean, range, members, instance, DeclTree, DefineTree}
+use Rattle.smv_language.specs.ProgramTree.{SectionTree, var, ivar, frozen, define, constants, assign, init, invar, trans, ModuleTree}
+use Rattle.smv_language.specs.ProgramTree.{ProgramTree}
 use Rattle.smv_language.specs.Texts.{same_text, is_among}
 
 -- An instance is named by the names of its declarations from the innermost to `main`'s, and `main` by none.
@@ -170,7 +172,8 @@ through_actual look key caller (Some e) rest = through_plain look key caller e (
 -- at a formal of an instance; main has no caller and so no actual
 abbrev pub through_formal : LookUp → ProgramTree → Place → ℕ → Path → Option Meaning
 through_formal look p [] i rest = None
-through_formal look p (own ∷ caller) i rest = through_actual look (actual_key (own ∷ caller) i) caller (actual_of_kind (kind_at (module_at p caller) own) i) rest
+through_formal look p (own ∷ caller) i rest =
+    through_actual look (actual_key (own ∷ caller) i) caller (actual_of_kind (kind_at (module_at p caller) own) i) rest
 
 -- the meaning of a name by what its first part is
 abbrev pub by_kind : LookUp → ProgramTree → Place → Kind → Text → Path → Option Meaning

@@ -1,9 +1,11 @@
 -- Which expressions a list of tokens spells: a case for each line of the grammar.
-use Rattle.std.specs.Prelude.{◌≡◌, ℕ, zero, suc, ℤ, pos, negsuc, Bool, true, false, List, [], ◌∷◌, ◌++◌, Option, Some, None, codes, nat_eq, nat_le, ◌&&◌, ◌||◌}
+use Rattle.std.specs.Prelude.{◌≡◌, ℕ, zero, suc, ℤ, pos, negsuc, Bool, true, false, List, [], ◌∷◌, ◌++◌, Option, Some, None, codes, nat_eq}
+use Rattle.std.specs.Prelude.{nat_le, ◌&&◌, ◌||◌}
 use Rattle.smv_lexer.specs.declared.token.TokenKind.TheVariants as k
 use Rattle.smv_language.specs.declared.expr.Op.{Op}
 use Rattle.smv_language.specs.declared.expr.Op.TheVariants as op
-use Rattle.smv_language.specs.Tree.{Tree, Trees, Branches, truth, number, leaf, not_of, negate, next_of, binary, choice, case_of, set_of, span, no_tree, tree_then, no_branch, branch_then}
+use Rattle.smv_language.specs.Tree.{Tree, Trees, Branches, truth, number, leaf, not_of, negate, next_of, binary, choice, case_of, set_of}
+use Rattle.smv_language.specs.Tree.{span, no_tree, tree_then, no_branch, branch_then}
 use Rattle.smv_language.specs.ProgramTree.{Text, Path}
 use Rattle.smv_language.specs.Lexemes.{Lexeme, word, num, sign, is_reserved}
 
@@ -102,7 +104,8 @@ pub data SpellsInt : List Lexeme → ℤ → Type 0 where
 -- dotted = name { "." name }
 pub data SpellsDotted : List Lexeme → Path → Type 0 where
   one_name : {x : Text} → is_reserved x ≡ false → SpellsDotted (word x ∷ []) (x ∷ [])
-  more_names : {x : Text} {ts : List Lexeme} {p : Path} → is_reserved x ≡ false → SpellsDotted ts p → SpellsDotted (word x ∷ sign k.Dot ∷ ts) (x ∷ p)
+  more_names : {x : Text} {ts : List Lexeme} {p : Path} → is_reserved x ≡ false → SpellsDotted ts p →
+      SpellsDotted (word x ∷ sign k.Dot ∷ ts) (x ∷ p)
 
 -- a number and two dots: a `-` before them is no operator
 abbrev pub begins_span : List Lexeme → Bool
@@ -118,16 +121,19 @@ mutual
   pub data Spells : ℕ → List Lexeme → Tree Path → Type 0 where
     -- expr = iff [ "->" expr ]
     only_iff : {ts : List Lexeme} {t : Tree Path} → Spells at_iff ts t → Spells at_expr ts t
-    implies : {xs ys : List Lexeme} {a b : Tree Path} → Spells at_iff xs a → Spells at_expr ys b → Spells at_expr (xs ++ sign k.Implies ∷ ys) (binary op.Implies a b)
+    implies : {xs ys : List Lexeme} {a b : Tree Path} → Spells at_iff xs a → Spells at_expr ys b →
+        Spells at_expr (xs ++ sign k.Implies ∷ ys) (binary op.Implies a b)
     -- line = next { operator next }
-    repeated : {l : ℕ} {xs ys : List Lexeme} {a t : Tree Path} → is_repeated l ≡ true → Spells (suc l) xs a → SpellsMore l ys a t → Spells l (xs ++ ys) t
+    repeated : {l : ℕ} {xs ys : List Lexeme} {a t : Tree Path} → is_repeated l ≡ true → Spells (suc l) xs a → SpellsMore l ys a t →
+        Spells l (xs ++ ys) t
     -- choice = or [ "?" expr ":" choice ]
     only_or : {ts : List Lexeme} {t : Tree Path} → Spells at_or ts t → Spells at_choice ts t
     chooses : {zs xs ys : List Lexeme} {c a b : Tree Path} → Spells at_or zs c → Spells at_expr xs a → Spells at_choice ys b →
         Spells at_choice (zs ++ sign k.Question ∷ (xs ++ sign k.Colon ∷ ys)) (choice c a b)
     -- neg = "-" neg | not, where the `-` is not a span's own
     only_not : {ts : List Lexeme} {t : Tree Path} → Spells at_not ts t → Spells at_neg ts t
-    negates : {ts : List Lexeme} {t : Tree Path} → begins_span ts ≡ false → Spells at_neg ts t → Spells at_neg (sign k.Minus ∷ ts) (negate t)
+    negates : {ts : List Lexeme} {t : Tree Path} → begins_span ts ≡ false → Spells at_neg ts t →
+        Spells at_neg (sign k.Minus ∷ ts) (negate t)
     -- not = "!" not | atom
     only_atom : {ts : List Lexeme} {t : Tree Path} → SpellsAtom ts t → Spells at_not ts t
     inverts : {ts : List Lexeme} {t : Tree Path} → Spells at_not ts t → Spells at_not (sign k.Bang ∷ ts) (not_of t)
@@ -135,7 +141,8 @@ mutual
   -- { operator next }, after what makes the tree so far
   pub data SpellsMore : ℕ → List Lexeme → Tree Path → Tree Path → Type 0 where
     no_operator : {l : ℕ} {a : Tree Path} → SpellsMore l [] a a
-    one_operator : {l : ℕ} {o : Op} {xs ys : List Lexeme} {a b t : Tree Path} → line_of o ≡ Some l → Spells (suc l) xs b → SpellsMore l ys (binary o a b) t →
+    one_operator : {l : ℕ} {o : Op} {xs ys : List Lexeme} {a b t : Tree Path} → line_of o ≡ Some l → Spells (suc l) xs b →
+        SpellsMore l ys (binary o a b) t →
         SpellsMore l (operator o ∷ (xs ++ ys)) a t
 
   -- atom
@@ -146,9 +153,12 @@ mutual
     is_span : {xs ys : List Lexeme} {lo hi : ℤ} → SpellsInt xs lo → SpellsInt ys hi → SpellsAtom (xs ++ sign k.Dots ∷ ys) (span lo hi)
     is_name : {ts : List Lexeme} {p : Path} → SpellsDotted ts p → SpellsAtom ts (leaf p)
     in_parentheses : {ts : List Lexeme} {t : Tree Path} → Spells at_expr ts t → SpellsAtom (sign k.Open ∷ (ts ++ sign k.Close ∷ [])) t
-    is_next : {ts : List Lexeme} {t : Tree Path} → Spells at_expr ts t → SpellsAtom (word (codes "next") ∷ sign k.Open ∷ (ts ++ sign k.Close ∷ [])) (next_of t)
-    is_set : {ts : List Lexeme} {us : Trees Path} → SpellsTrees ts us → SpellsAtom (sign k.OpenBrace ∷ (ts ++ sign k.CloseBrace ∷ [])) (set_of us)
-    is_case : {ts : List Lexeme} {bs : Branches Path} → SpellsBranches ts bs → SpellsAtom (word (codes "case") ∷ (ts ++ word (codes "esac") ∷ [])) (case_of bs)
+    is_next : {ts : List Lexeme} {t : Tree Path} → Spells at_expr ts t →
+        SpellsAtom (word (codes "next") ∷ sign k.Open ∷ (ts ++ sign k.Close ∷ [])) (next_of t)
+    is_set : {ts : List Lexeme} {us : Trees Path} → SpellsTrees ts us →
+        SpellsAtom (sign k.OpenBrace ∷ (ts ++ sign k.CloseBrace ∷ [])) (set_of us)
+    is_case : {ts : List Lexeme} {bs : Branches Path} → SpellsBranches ts bs →
+        SpellsAtom (word (codes "case") ∷ (ts ++ word (codes "esac") ∷ [])) (case_of bs)
 
   -- expr { "," expr }
   pub data SpellsTrees : List Lexeme → Trees Path → Type 0 where
@@ -160,5 +170,6 @@ mutual
   pub data SpellsBranches : List Lexeme → Branches Path → Type 0 where
     one_branch : {zs xs : List Lexeme} {c a : Tree Path} → Spells at_expr zs c → Spells at_expr xs a →
         SpellsBranches (zs ++ sign k.Colon ∷ (xs ++ sign k.Semicolon ∷ [])) (branch_then c a no_branch)
-    more_branches : {zs xs ys : List Lexeme} {c a : Tree Path} {more : Branches Path} → Spells at_expr zs c → Spells at_expr xs a → SpellsBranches ys more →
+    more_branches : {zs xs ys : List Lexeme} {c a : Tree Path} {more : Branches Path} → Spells at_expr zs c → Spells at_expr xs a →
+        SpellsBranches ys more →
         SpellsBranches (zs ++ sign k.Colon ∷ (xs ++ sign k.Semicolon ∷ ys)) (branch_then c a more)

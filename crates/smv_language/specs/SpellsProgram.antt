@@ -5,7 +5,9 @@ use Rattle.smv_language.specs.declared.program.Member.{Member}
 use Rattle.smv_language.specs.declared.program.Member.TheVariants as member
 use Rattle.smv_language.specs.declared.program.Moment.{Moment}
 use Rattle.smv_language.specs.declared.program.Moment.TheVariants.{Always, First, After}
-use Rattle.smv_language.specs.ProgramTree.{Text, Path, Formula, DeclaredTree, boolean, range, members, instance, DeclTree, DefineTree, AssignmentTree, SectionTree, var, ivar, frozen, define, constants, assign, init, invar, trans, ModuleTree, ProgramTree}
+use Rattle.smv_language.specs.ProgramTree.{Text, Path, Formula, DeclaredTree, boolean, range, members, instance, DeclTree, DefineTree}
+use Rattle.smv_language.specs.ProgramTree.{AssignmentTree, SectionTree, var, ivar, frozen, define, constants, assign, init, invar, trans}
+use Rattle.smv_language.specs.ProgramTree.{ModuleTree, ProgramTree}
 use Rattle.smv_language.specs.Lexemes.{Lexeme, word, num, sign, is_reserved, section_words}
 use Rattle.smv_language.specs.Texts.{is_among}
 use Rattle.smv_language.specs.Spells.{at_expr, SpellsInt, SpellsDotted, Spells}
@@ -18,12 +20,14 @@ pub data SpellsMany {A : Type 0} (One : List Lexeme → A → Type 0) : List Lex
 -- one or more, with commas between
 pub data SpellsCommas {A : Type 0} (One : List Lexeme → A → Type 0) : List Lexeme → List A → Type 0 where
   last_one : {ts : List Lexeme} {a : A} → One ts a → SpellsCommas One ts (a ∷ [])
-  one_comma : {ts us : List Lexeme} {a : A} {more : List A} → One ts a → SpellsCommas One us more → SpellsCommas One (ts ++ sign k.Comma ∷ us) (a ∷ more)
+  one_comma : {ts us : List Lexeme} {a : A} {more : List A} → One ts a → SpellsCommas One us more →
+      SpellsCommas One (ts ++ sign k.Comma ∷ us) (a ∷ more)
 
 -- none, or "(" one or more with commas between ")"
 pub data SpellsBracketed {A : Type 0} (One : List Lexeme → A → Type 0) : List Lexeme → List A → Type 0 where
   no_brackets : SpellsBracketed One [] []
-  brackets : {ts : List Lexeme} {list : List A} → SpellsCommas One ts list → SpellsBracketed One (sign k.Open ∷ (ts ++ sign k.Close ∷ [])) list
+  brackets : {ts : List Lexeme} {list : List A} → SpellsCommas One ts list →
+      SpellsBracketed One (sign k.Open ∷ (ts ++ sign k.Close ∷ [])) list
 
 -- name
 pub data SpellsName : List Lexeme → Text → Type 0 where
@@ -42,7 +46,8 @@ pub data SpellsMember : List Lexeme → Member → Type 0 where
 pub data SpellsType : List Lexeme → DeclaredTree → Type 0 where
   is_boolean : SpellsType (word (codes "boolean") ∷ []) boolean
   is_range : {xs ys : List Lexeme} {lo hi : ℤ} → SpellsInt xs lo → SpellsInt ys hi → SpellsType (xs ++ sign k.Dots ∷ ys) (range lo hi)
-  is_members : {ts : List Lexeme} {ms : List Member} → SpellsCommas SpellsMember ts ms → SpellsType (sign k.OpenBrace ∷ (ts ++ sign k.CloseBrace ∷ [])) (members ms)
+  is_members : {ts : List Lexeme} {ms : List Member} → SpellsCommas SpellsMember ts ms →
+      SpellsType (sign k.OpenBrace ∷ (ts ++ sign k.CloseBrace ∷ [])) (members ms)
 
 -- type | instance, and instance = name [ "(" [ expr { "," expr } ] ")" ]
 pub data SpellsDeclared : List Lexeme → DeclaredTree → Type 0 where
@@ -64,8 +69,10 @@ pub data SpellsDefine : List Lexeme → DefineTree → Type 0 where
 -- target = dotted | "init" "(" dotted ")" | "next" "(" dotted ")"
 pub data SpellsTarget : List Lexeme → Moment → Path → Type 0 where
   always : {ts : List Lexeme} {d : Path} → SpellsDotted ts d → SpellsTarget ts Always d
-  first : {ts : List Lexeme} {d : Path} → SpellsDotted ts d → SpellsTarget (word (codes "init") ∷ sign k.Open ∷ (ts ++ sign k.Close ∷ [])) First d
-  after : {ts : List Lexeme} {d : Path} → SpellsDotted ts d → SpellsTarget (word (codes "next") ∷ sign k.Open ∷ (ts ++ sign k.Close ∷ [])) After d
+  first : {ts : List Lexeme} {d : Path} → SpellsDotted ts d →
+      SpellsTarget (word (codes "init") ∷ sign k.Open ∷ (ts ++ sign k.Close ∷ [])) First d
+  after : {ts : List Lexeme} {d : Path} → SpellsDotted ts d →
+      SpellsTarget (word (codes "next") ∷ sign k.Open ∷ (ts ++ sign k.Close ∷ [])) After d
 
 -- target ":=" expr ";"
 pub data SpellsAssignment : List Lexeme → AssignmentTree → Type 0 where
@@ -90,12 +97,18 @@ HasNoSection (sign s ∷ ts) = HasNoSection ts
 
 -- section
 pub data SpellsSection : List Lexeme → SectionTree → Type 0 where
-  a_var : {ts : List Lexeme} {ds : List DeclTree} → SpellsMany (SpellsDecl SpellsDeclared) ts ds → SpellsSection (word (codes "VAR") ∷ ts) (var ds)
-  an_ivar : {ts : List Lexeme} {ds : List DeclTree} → SpellsMany (SpellsDecl SpellsType) ts ds → SpellsSection (word (codes "IVAR") ∷ ts) (ivar ds)
-  a_frozen : {ts : List Lexeme} {ds : List DeclTree} → SpellsMany (SpellsDecl SpellsType) ts ds → SpellsSection (word (codes "FROZENVAR") ∷ ts) (frozen ds)
-  a_define : {ts : List Lexeme} {ds : List DefineTree} → SpellsMany SpellsDefine ts ds → SpellsSection (word (codes "DEFINE") ∷ ts) (define ds)
-  some_constants : {ts : List Lexeme} {xs : List Text} → SpellsCommas SpellsName ts xs → SpellsSection (word (codes "CONSTANTS") ∷ (ts ++ sign k.Semicolon ∷ [])) (constants xs)
-  an_assign : {ts : List Lexeme} {list : List AssignmentTree} → SpellsMany SpellsAssignment ts list → SpellsSection (word (codes "ASSIGN") ∷ ts) (assign list)
+  a_var : {ts : List Lexeme} {ds : List DeclTree} → SpellsMany (SpellsDecl SpellsDeclared) ts ds →
+      SpellsSection (word (codes "VAR") ∷ ts) (var ds)
+  an_ivar : {ts : List Lexeme} {ds : List DeclTree} → SpellsMany (SpellsDecl SpellsType) ts ds →
+      SpellsSection (word (codes "IVAR") ∷ ts) (ivar ds)
+  a_frozen : {ts : List Lexeme} {ds : List DeclTree} → SpellsMany (SpellsDecl SpellsType) ts ds →
+      SpellsSection (word (codes "FROZENVAR") ∷ ts) (frozen ds)
+  a_define : {ts : List Lexeme} {ds : List DefineTree} → SpellsMany SpellsDefine ts ds →
+      SpellsSection (word (codes "DEFINE") ∷ ts) (define ds)
+  some_constants : {ts : List Lexeme} {xs : List Text} → SpellsCommas SpellsName ts xs →
+      SpellsSection (word (codes "CONSTANTS") ∷ (ts ++ sign k.Semicolon ∷ [])) (constants xs)
+  an_assign : {ts : List Lexeme} {list : List AssignmentTree} → SpellsMany SpellsAssignment ts list →
+      SpellsSection (word (codes "ASSIGN") ∷ ts) (assign list)
   an_init : {ts : List Lexeme} {e : Formula} → SpellsFormula ts e → SpellsSection (word (codes "INIT") ∷ ts) (init e)
   an_invar : {ts : List Lexeme} {e : Formula} → SpellsFormula ts e → SpellsSection (word (codes "INVAR") ∷ ts) (invar e)
   a_trans : {ts : List Lexeme} {e : Formula} → SpellsFormula ts e → SpellsSection (word (codes "TRANS") ∷ ts) (trans e)
@@ -103,8 +116,10 @@ pub data SpellsSection : List Lexeme → SectionTree → Type 0 where
 -- { section }, where a skipped section leaves nothing
 pub data SpellsSections : List Lexeme → List SectionTree → Type 0 where
   no_section : SpellsSections [] []
-  a_section : {ts us : List Lexeme} {s : SectionTree} {ss : List SectionTree} → SpellsSection ts s → SpellsSections us ss → SpellsSections (ts ++ us) (s ∷ ss)
-  skipped : (x : Text) (ts : List Lexeme) {us : List Lexeme} {ss : List SectionTree} → is_among skipped_words x ≡ true → HasNoSection ts → SpellsSections us ss →
+  a_section : {ts us : List Lexeme} {s : SectionTree} {ss : List SectionTree} → SpellsSection ts s → SpellsSections us ss →
+      SpellsSections (ts ++ us) (s ∷ ss)
+  skipped : (x : Text) (ts : List Lexeme) {us : List Lexeme} {ss : List SectionTree} → is_among skipped_words x ≡ true → HasNoSection ts →
+      SpellsSections us ss →
       SpellsSections (word x ∷ (ts ++ us)) ss
 
 -- module = "MODULE" name [ "(" [ name { "," name } ] ")" ] { section }
@@ -114,7 +129,8 @@ pub data SpellsFormals : List Lexeme → List Text → Type 0 where
 
 -- the header and the sections of a module
 pub data SpellsModule : List Lexeme → ModuleTree → Type 0 where
-  a_module : {x : Text} {fs ts : List Lexeme} {formals : List Text} {ss : List SectionTree} → is_reserved x ≡ false → SpellsFormals fs formals → SpellsSections ts ss →
+  a_module : {x : Text} {fs ts : List Lexeme} {formals : List Text} {ss : List SectionTree} → is_reserved x ≡ false →
+      SpellsFormals fs formals → SpellsSections ts ss →
       SpellsModule (word (codes "MODULE") ∷ word x ∷ (fs ++ ts)) (record { name = x; formals = formals; sections = ss })
 
 -- program = { module }

@@ -7,8 +7,11 @@ use Rattle.smv_language.specs.declared.program.Member.{Member}
 use Rattle.smv_language.specs.declared.program.Member.TheVariants as member
 use Rattle.smv_language.specs.declared.program.Moment.{Moment}
 use Rattle.smv_language.specs.declared.program.Moment.TheVariants.{Always, First, After}
-use Rattle.smv_language.specs.Tree.{Tree, Trees, Branches, truth, number, leaf, not_of, negate, next_of, binary, choice, case_of, set_of, span, no_tree, tree_then, no_branch, branch_then}
-use Rattle.smv_language.specs.ProgramTree.{Text, Path, DeclaredTree, boolean, range, members, instance, DeclTree, DefineTree, AssignmentTree, SectionTree, var, ivar, frozen, define, constants, assign, init, invar, trans, ModuleTree, ProgramTree}
+use Rattle.smv_language.specs.Tree.{Tree, Trees, Branches, truth, number, leaf, not_of, negate, next_of, binary, choice, case_of, set_of}
+use Rattle.smv_language.specs.Tree.{span, no_tree, tree_then, no_branch, branch_then}
+use Rattle.smv_language.specs.ProgramTree.{Text, Path, DeclaredTree, boolean, range, members, instance, DeclTree, DefineTree}
+use Rattle.smv_language.specs.ProgramTree.{AssignmentTree, SectionTree, var, ivar, frozen, define, constants, assign, init, invar, trans}
+use Rattle.smv_language.specs.ProgramTree.{ModuleTree, ProgramTree}
 
 -- an operator with a space on each side
 abbrev pub op_text : Op → Text

@@ -4,7 +4,8 @@ use Rattle.smv_language.specs.declared.program.Member.{Member}
 use Rattle.smv_language.specs.declared.program.Member.TheVariants as member
 use Rattle.smv_language.specs.declared.program.Moment.{Moment}
 use Rattle.smv_language.specs.declared.program.Moment.TheVariants.{Always, First, After}
-use Rattle.smv_language.specs.ProgramTree.{Text, Path, Formula, DeclaredTree, boolean, range, members, instance, SectionTree, var, ivar, frozen, assign, init, invar, trans, ModuleTree, ProgramTree}
+use Rattle.smv_language.specs.ProgramTree.{Text, Path, Formula, DeclaredTree, boolean, range, members, instance, SectionTree, var, ivar}
+use Rattle.smv_language.specs.ProgramTree.{frozen, assign, init, invar, trans, ModuleTree, ProgramTree}
 use Rattle.smv_language.specs.Values.{Value, truth, number, symbol, same_int, is_between}
 use Rattle.smv_language.specs.Texts.{same_text}
 use Rattle.smv_language.specs.Scope.{Place, Role, a_variable, kind_in, module_at}

@@ -1,5 +1,6 @@
 -- What expressions give: a value, or several.
-use Rattle.std.specs.Prelude.{ℤ, Bool, true, false, Option, Some, None, nat_eq, ◌&&◌, ◌||◌, pos, negsuc, int_lt, int_div, int_rem, ◌+ℤ◌, ◌-ℤ◌, ◌*ℤ◌, codes}
+use Rattle.std.specs.Prelude.{ℤ, Bool, true, false, Option, Some, None, nat_eq, ◌&&◌, ◌||◌, pos, negsuc, int_lt, int_div, int_rem, ◌+ℤ◌}
+use Rattle.std.specs.Prelude.{◌-ℤ◌, ◌*ℤ◌, codes}
 use Rattle.std.specs.Fmt.{signed_decimal}
 use Rattle.smv_language.specs.declared.expr.Op.{Op}
 use Rattle.smv_language.specs.declared.expr.Op.TheVariants as op

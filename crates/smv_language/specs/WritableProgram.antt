@@ -2,8 +2,10 @@
 use Rattle.std.specs.Prelude.{◌≢◌, []}
 use Rattle.smv_language.specs.declared.program.Member.{Member}
 use Rattle.smv_language.specs.declared.program.Member.TheVariants as member
-use Rattle.smv_language.specs.ProgramTree.{DeclaredTree, boolean, range, members, instance, DeclTree, DefineTree, AssignmentTree, SectionTree, var, ivar, frozen, define, constants, assign, init, invar, trans, ModuleTree, ProgramTree}
-use Rattle.smv_language.specs.Printed.{IsName, AreNames, IsEnd, IsWritable}
+use Rattle.smv_language.specs.ProgramTree.{DeclaredTree, boolean, range, members, instance, DeclTree, DefineTree, AssignmentTree}
+use Rattle.smv_language.specs.ProgramTree.{SectionTree, var, ivar, frozen, define, constants, assign, init, invar, trans, ModuleTree}
+use Rattle.smv_language.specs.ProgramTree.{ProgramTree}
+use Rattle.smv_language.specs.PrintedTokens.{IsName, AreNames, IsEnd, IsWritable}
 use Rattle.smv_language.specs.Trace.{Each}
 
 -- a member of a type

@@ -1,7 +1,6 @@
 //! Copies of written expressions: [`Expr::copy`] gives the same tree in memory of its own.
-
 ghost use Rattle.std.specs.Prelude.{◌≡◌, IfOk, map};
-ghost use Rattle.smv_language.specs.Written.{tree_of, branch_trees};
+ghost use Rattle.smv_language.specs.ExpressionTree.{tree_of, branch_trees};
 
 use crate::expr::{BranchList, Expr, ExprList};
 use base_values::{Dotted, Items, OutOfMemory};

@@ -1,7 +1,6 @@
 //! Copies of a flat model and of its parts: [`FlatModel::copy`], and [`copy_flat`] for a single expression.
-
 ghost use Rattle.std.specs.Prelude.{◌≡◌, IfOk, map};
-ghost use Rattle.smv_language.specs.Written.{tree_of, branch_trees};
+ghost use Rattle.smv_language.specs.ExpressionTree.{tree_of, branch_trees};
 ghost use Rattle.smv_language.specs.ModelTree.{instance_tree, variable_tree, formula_tree, model_tree};
 
 use crate::expr::{BranchList, Expr, ExprList};

@@ -1,7 +1,7 @@
 //! Copies of a program and of its parts: [`Program::copy`] gives the same program in memory of its own.
-
 ghost use Rattle.std.specs.Prelude.{◌≡◌, IfOk, map};
-ghost use Rattle.smv_language.specs.ProgramTree.{program_tree, module_tree, section_tree, decl_tree, declared_tree, define_tree, assignment_tree};
+ghost use Rattle.smv_language.specs.ProgramTree.{program_tree, module_tree, section_tree, decl_tree, declared_tree, define_tree};
+ghost use Rattle.smv_language.specs.ProgramTree.{assignment_tree};
 
 use crate::copy::copy_expressions;
 use crate::program::{

@@ -1,6 +1,5 @@
 //! Expressions: [`Expr`], a tree over leaves of any kind.
 //! A written expression has dotted names as its leaves, a flat one variables, symbols and definitions by number (`model`).
-
 use base_values::Items;
 
 /// An operator between two operands. `Within` is written `in`, `Differs` is `!=`, `Over` is `/`; `Union`

@@ -1,6 +1,7 @@
 //! Laws of the definitions, each as the contract of a function that does nothing.
-
-ghost use Rattle.smv_language.specs.Laws.{SpellsOneExpression, SpellsOneProgram, SpellsOneList, PrintedSpells, TextsSpell, ProgramTextsSpell, SpelledIsWritable, DeeperMeansTheSame, DeeperGivesTheSame, AgreeingLeavesGiveTheSame, MappedLeavesGiveTheSame};
+ghost use Rattle.smv_language.specs.Laws.{SpellsOneExpression, SpellsOneProgram, SpellsOneList, PrintedSpells, TextsSpell};
+ghost use Rattle.smv_language.specs.Laws.{ProgramTextsSpell, SpelledIsWritable, DeeperMeansTheSame, DeeperGivesTheSame};
+ghost use Rattle.smv_language.specs.Laws.{AgreeingLeavesGiveTheSame, MappedLeavesGiveTheSame};
 
 /// No list of tokens spells two expressions.
 pub fn one_tree()

@@ -2,7 +2,7 @@
 //!
 //! An [`Expr`] is a tree over leaves; a written expression has dotted names as its leaves. Boxes have
 //! pointers in them, so contracts never compare expressions: they compare trees, by `tree_of` of
-//! `specs/Written.antt`, and programs by `program_tree` of `specs/ProgramTree.antt`. Two expressions
+//! `specs/ExpressionTree.antt`, and programs by `program_tree` of `specs/ProgramTree.antt`. Two expressions
 //! are the same exactly where their trees are equal. All fields are public, so that the layers above
 //! build and take apart what they need, and every definition and contract above speaks of trees.
 //!

@@ -1,8 +1,7 @@
 //! How many nodes an expression has, and how high it is: [`size`] and [`height`].
-
 ghost use Rattle.std.specs.Prelude.{◌≡◌, ◌<◌, ◌≤◌, ◌^◌, ◌+◌};
 ghost use Rattle.smv_language.specs.Tree.{size_of, trees_size, branches_size, height_of, trees_height, branches_height};
-ghost use Rattle.smv_language.specs.Written.{tree_of, trees_of, branches_of};
+ghost use Rattle.smv_language.specs.ExpressionTree.{tree_of, trees_of, branches_of};
 
 use crate::expr::Expr;
 use base_values::Dotted;

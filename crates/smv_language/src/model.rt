@@ -1,5 +1,4 @@
 //! Flat models as values: one list of variables, and formulas over them, whose names are numbers.
-
 use crate::expr::Expr;
 use crate::program::Declared;
 use base_values::{Dotted, Items, Name, NameList};

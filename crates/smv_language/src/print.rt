@@ -1,9 +1,8 @@
 //! Printing an expression: [`print_expr`]. All text goes to the end of one buffer, so the work is linear in the text.
-
 ghost use Rattle.std.specs.Prelude.{◌≡◌, ◌++◌, IfOk, OnOk, map};
 ghost use Rattle.smv_language.specs.Text.{text_of, op_text, after_minus, span_text, dotted_text, commas, branches_text, joined};
-ghost use Rattle.smv_language.specs.Written.{tree_of, branches_of};
-ghost use Rattle.smv_language.specs.Printed.{IsWritable};
+ghost use Rattle.smv_language.specs.ExpressionTree.{tree_of, branches_of};
+ghost use Rattle.smv_language.specs.PrintedTokens.{IsWritable};
 ghost use Rattle.smv_language.specs.Bytes.{BytesSpellExpr};
 
 use crate::expr::{Expr, Op};

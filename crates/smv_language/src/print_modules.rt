@@ -1,9 +1,10 @@
 //! Printing a program: [`print_program`]. All text goes to the end of one buffer, so the work is linear in the text.
-
 ghost use Rattle.std.specs.Prelude.{◌≡◌, ◌++◌, IfOk, OnOk, map};
-ghost use Rattle.smv_language.specs.ProgramTree.{program_tree, module_tree, section_tree, decl_tree, declared_tree, define_tree, assignment_tree};
-ghost use Rattle.smv_language.specs.Text.{program_text, module_text, section_text, decl_line, declared_text, define_line, assignment_line, target_text, member_text, constants_text, in_brackets, commas, line, all_of, text_of};
-ghost use Rattle.smv_language.specs.Written.{tree_of};
+ghost use Rattle.smv_language.specs.ProgramTree.{program_tree, module_tree, section_tree, decl_tree, declared_tree, define_tree};
+ghost use Rattle.smv_language.specs.ProgramTree.{assignment_tree};
+ghost use Rattle.smv_language.specs.Text.{program_text, module_text, section_text, decl_line, declared_text, define_line, assignment_line};
+ghost use Rattle.smv_language.specs.Text.{target_text, member_text, constants_text, in_brackets, commas, line, all_of, text_of};
+ghost use Rattle.smv_language.specs.ExpressionTree.{tree_of};
 ghost use Rattle.smv_language.specs.WritableProgram.{IsWritableProgram};
 ghost use Rattle.smv_language.specs.Bytes.{BytesSpellProgram};
 

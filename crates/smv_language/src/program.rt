@@ -1,6 +1,5 @@
 //! Programs as they are written: [`Program`], with its modules, their sections, and what stands in these.
 //! Nothing is judged here: a program may name what is not declared, and give a name twice.
-
 use crate::expr::{Expr, ExprList};
 use base_values::{Dotted, Items, Name, NameList};
 

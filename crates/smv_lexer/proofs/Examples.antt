@@ -2,7 +2,7 @@
 use Rattle.std.proofs.Common.{◌≡◌, [], ◌∷◌, Some, None, refl, arith}
 use Rattle.std.specs.Prelude.{codes}
 use Rattle.smv_lexer.specs.declared.token.TokenKind.TheVariants.{Word, Iff}
-use Rattle.smv_lexer.specs.declared.scan.Stop.TheVariants as stop
+use Rattle.smv_lexer.specs.declared.scan.TokenStop.TheVariants as stop
 use Rattle.smv_lexer.specs.Tokens.{number_of, HasTokens}
 use Rattle.smv_lexer.specs.Faults.{HasNoSplit}
 use Rattle.smv_lexer.specs.Scan.{found, piece_at}

@@ -7,9 +7,9 @@ use Rattle.smv_lexer.specs.declared.token.TokenKind.{TokenKind}
 use Rattle.smv_lexer.specs.declared.token.TokenKind.TheVariants.{Word, Number}
 use Rattle.smv_lexer.specs.declared.token.LexFault.{LexFault}
 use Rattle.smv_lexer.specs.declared.token.LexFault.TheVariants as fault
-use Rattle.smv_lexer.specs.declared.scan.Found.{Found}
-use Rattle.smv_lexer.specs.declared.scan.Stop.{Stop}
-use Rattle.smv_lexer.specs.declared.scan.Stop.TheVariants as stop
+use Rattle.smv_lexer.specs.declared.scan.FoundPiece.{FoundPiece}
+use Rattle.smv_lexer.specs.declared.scan.TokenStop.{TokenStop}
+use Rattle.smv_lexer.specs.declared.scan.TokenStop.TheVariants as stop
 use Rattle.smv_lexer.specs.Bytes.{is_blank}
 use Rattle.smv_lexer.specs.Runs.{block_len}
 use Rattle.smv_lexer.specs.Tokens.{Piece, Splits, IsLineComment, IsBlockComment, IsBlankByte, IsToken}
@@ -46,12 +46,12 @@ bad_piece bytes None len bad piece = bad_blank bytes (take len bytes) (drop len 
 bad_piece bytes (Some kind) len bad piece =
     bad.no_token kind (take len bytes) (drop len bytes) (sym (take-append-drop len bytes)) piece.piece.longest.token
 
-bad_stop : (bytes : List ℕ) (why : Stop) → IsBadByte bytes → IsStop why bytes → stopped why ≡ stopped stop.BadByte
+bad_stop : (bytes : List ℕ) (why : TokenStop) → IsBadByte bytes → IsStop why bytes → stopped why ≡ stopped stop.BadByte
 bad_stop bytes stop.BadByte bad is = refl
 bad_stop bytes stop.OpenComment bad is = absurd (bad.no_comment (inr (is.inner, is.spelled)))
 bad_stop bytes stop.NumberTooBig bad is = absurd (bad.no_token Number is.digits is.after is.spelled is.number.token)
 
-bad_result : (bytes : List ℕ) (result : Result Found Stop) → IsBadByte bytes → piece_at bytes ≡ result → result ≡ stopped stop.BadByte
+bad_result : (bytes : List ℕ) (result : Result FoundPiece TokenStop) → IsBadByte bytes → piece_at bytes ≡ result → result ≡ stopped stop.BadByte
 bad_result bytes (Ok here) bad at = absurd (bad_piece bytes here.kind here.len bad (piece_found bytes here bad.some at))
 bad_result bytes (Err why) bad at = bad_stop bytes why bad (piece_stops bytes why bad.some at)
 
@@ -98,7 +98,7 @@ big_piece bytes None len big piece =
 big_piece bytes (Some kind) len big piece =
     no_stop kind (take len bytes) (drop len bytes) stop.NumberTooBig piece.piece (subst IsBigNumber (sym (take-append-drop len bytes)) big)
 
-big_stop : (bytes : List ℕ) (why : Stop) → IsBigNumber bytes → IsStop why bytes → stopped why ≡ stopped stop.NumberTooBig
+big_stop : (bytes : List ℕ) (why : TokenStop) → IsBigNumber bytes → IsStop why bytes → stopped why ≡ stopped stop.NumberTooBig
 big_stop bytes stop.BadByte big is = absurd (is.no_token Number big.digits big.after big.spelled big.number.token)
 big_stop bytes stop.OpenComment big is =
     let first = big_begins bytes big in
@@ -107,7 +107,7 @@ big_stop bytes stop.OpenComment big is =
     cc
 big_stop bytes stop.NumberTooBig big is = refl
 
-big_result : (bytes : List ℕ) (result : Result Found Stop) → 0 < length bytes → IsBigNumber bytes → piece_at bytes ≡ result → result ≡ stopped stop.NumberTooBig
+big_result : (bytes : List ℕ) (result : Result FoundPiece TokenStop) → 0 < length bytes → IsBigNumber bytes → piece_at bytes ≡ result → result ≡ stopped stop.NumberTooBig
 big_result bytes (Ok here) some big at = absurd (big_piece bytes here.kind here.len big (piece_found bytes here some at))
 big_result bytes (Err why) some big at = big_stop bytes why big (piece_stops bytes why some at)
 
@@ -116,18 +116,18 @@ big_some bytes big =
     omega (arith, ap length big.spelled, length-append big.digits big.after, text_some Number big.digits big.after big.number.token)
 
 -- where a stop stands, it is what is found
-stop_refused : (bytes : List ℕ) (why : Stop) → IsStop why bytes → piece_at bytes ≡ stopped why
+stop_refused : (bytes : List ℕ) (why : TokenStop) → IsStop why bytes → piece_at bytes ≡ stopped why
 stop_refused bytes stop.BadByte is = bad_result bytes (piece_at bytes) is refl
 stop_refused bytes stop.OpenComment is = open_refused bytes is
 stop_refused bytes stop.NumberTooBig is = big_result bytes (piece_at bytes) (big_some bytes is) is refl
 
-no_piece_at_stop : (bytes text after : List ℕ) (kind : Option TokenKind) (why : Stop) → bytes ≡ text ++ after → piece_at bytes ≡ stopped why → piece_at (text ++ after) ≡ found kind (length text) → ⊥
+no_piece_at_stop : (bytes text after : List ℕ) (kind : Option TokenKind) (why : TokenStop) → bytes ≡ text ++ after → piece_at bytes ≡ stopped why → piece_at (text ++ after) ≡ found kind (length text) → ⊥
 no_piece_at_stop bytes text after kind why e stops here =
     let clash : stopped why ≡ found kind (length text) = sym stops ∙ ap piece_at e ∙ here in
     cc
 
 -- pieces stop at one place, and for one reason
-one_stop : (pieces others : List Piece) (bytes rest end : List ℕ) (why what : Stop) → Splits pieces bytes rest → Splits others bytes end → IsStop why rest → IsStop what end → (rest ≡ end) × (why ≡ what)
+one_stop : (pieces others : List Piece) (bytes rest end : List ℕ) (why what : TokenStop) → Splits pieces bytes rest → Splits others bytes end → IsStop why rest → IsStop what end → (rest ≡ end) × (why ≡ what)
 one_stop [] [] bytes rest end why what first second is other_is =
     let same : rest ≡ end = sym first ∙ second in
     (same, err_same why what (sym (stop_refused rest why is) ∙ ap piece_at same ∙ stop_refused end what other_is))
@@ -141,7 +141,7 @@ one_stop (piece ∷ pieces) (other ∷ others) bytes rest end why what (after, s
 
 -- a fault as a stop at a place
 record StopOf (bytes : List ℕ) (is : LexFault) : Type 0 where
-  why : Stop
+  why : TokenStop
   at : ℕ
   same : is ≡ fault_at why at
   stops : StopsAt bytes at (IsStop why)

@@ -8,9 +8,9 @@ use Rattle.std.proofs.lemmas.Bool.{leb-true, leb-false, eqb-true}
 use Rattle.std.proofs.Math.Seq.{take-append_seam}
 use Rattle.smv_lexer.specs.declared.token.TokenKind.{TokenKind}
 use Rattle.smv_lexer.specs.declared.token.TokenKind.TheVariants.{Word, Number}
-use Rattle.smv_lexer.specs.declared.scan.Found.{Found}
-use Rattle.smv_lexer.specs.declared.scan.Stop.{Stop}
-use Rattle.smv_lexer.specs.declared.scan.Stop.TheVariants as stop
+use Rattle.smv_lexer.specs.declared.scan.FoundPiece.{FoundPiece}
+use Rattle.smv_lexer.specs.declared.scan.TokenStop.{TokenStop}
+use Rattle.smv_lexer.specs.declared.scan.TokenStop.TheVariants as stop
 use Rattle.smv_lexer.specs.Bytes.{is_blank, is_word_start}
 use Rattle.smv_lexer.specs.Runs.{Runs, run_len, takes_word, takes_digit, takes_line, number_from, block_len}
 use Rattle.smv_lexer.specs.Tokens.{Sign, signs, IsToken, BeginsComment, EndsLine, IsLineComment, IsBlockComment, IsBlankByte, IsTokenPiece, IsPiece}
@@ -23,12 +23,12 @@ use Rattle.smv_lexer.proofs.BlockLemmas.{BlockAt, block_len-first, block_len-som
 use Rattle.smv_lexer.proofs.TokenLemmas.{word_longest, number_longest, sign_longest, no_token_at, one_longest, one_kind_longest, some_digits}
 
 -- a piece of this kind and length stands here
-pub record PieceHere (bytes : List ℕ) (here : Found) : Type 0 where
+pub record PieceHere (bytes : List ℕ) (here : FoundPiece) : Type 0 where
   pub some : 0 < here.len
   pub within : here.len ≤ length bytes
   pub piece : IsPiece here.kind (take here.len bytes) (drop here.len bytes)
 
-ok_same : (kind : Option TokenKind) (len : ℕ) (here : Found) → found kind len ≡ Ok here → record { kind = kind; len = len } ≡ here
+ok_same : (kind : Option TokenKind) (len : ℕ) (here : FoundPiece) → found kind len ≡ Ok here → record { kind = kind; len = len } ≡ here
 ok_same kind len here e = cc
 
 no_dashes : (bytes : List ℕ) → starts_with nat_eq bytes (codes "--") ≡ false → starts_with nat_eq bytes (codes "/--") ≡ false → BeginsComment bytes → ⊥
@@ -116,19 +116,19 @@ sign_here b bs sign no_comment no_word no_digit some =
       piece = subst (λ t. IsTokenPiece sign.kind t (drop (length sign.text) (b ∷ bs))) (sym text) piece;
     }
 
-sign_case : (b : ℕ) (bs : List ℕ) (here : Found) (sign : Option Sign) → (BeginsComment (b ∷ bs) → ⊥) → is_word_start b ≡ false → is_ascii_digit b ≡ false → sign_at signs (b ∷ bs) ≡ sign → sign_found sign ≡ Ok here → PieceHere (b ∷ bs) here
+sign_case : (b : ℕ) (bs : List ℕ) (here : FoundPiece) (sign : Option Sign) → (BeginsComment (b ∷ bs) → ⊥) → is_word_start b ≡ false → is_ascii_digit b ≡ false → sign_at signs (b ∷ bs) ≡ sign → sign_found sign ≡ Ok here → PieceHere (b ∷ bs) here
 sign_case b bs here None no_comment no_word no_digit at e = let clash : sign_found None ≡ Ok here = e in cc
 sign_case b bs here (Some sign) no_comment no_word no_digit at e =
     subst (PieceHere (b ∷ bs)) (ok_same (Some sign.kind) (length sign.text) here e) (sign_here b bs sign no_comment no_word no_digit at)
 
-number_case : (b : ℕ) (bs : List ℕ) (here : Found) → (BeginsComment (b ∷ bs) → ⊥) → is_ascii_digit b ≡ true → number_found (b ∷ bs) (run_len takes_digit (b ∷ bs)) ≡ Ok here → PieceHere (b ∷ bs) here
+number_case : (b : ℕ) (bs : List ℕ) (here : FoundPiece) → (BeginsComment (b ∷ bs) → ⊥) → is_ascii_digit b ≡ true → number_found (b ∷ bs) (run_len takes_digit (b ∷ bs)) ≡ Ok here → PieceHere (b ∷ bs) here
 number_case b bs here no_comment digit e =
     ⊎_elim
     (λ fits. subst (PieceHere (b ∷ bs)) (ok_same (Some Number) (run_len takes_digit (b ∷ bs)) here fits.1) (number_here b bs no_comment digit (leb-true _ _ fits.0)))
     (λ big. let clash : Err stop.NumberTooBig ≡ Ok here = big.1 in cc)
     (chosen_by (nat_le (number_from 0 (take (run_len takes_digit (b ∷ bs)) (b ∷ bs))) (2 ^ 63 - 1)) (found (Some Number) (run_len takes_digit (b ∷ bs))) (Err stop.NumberTooBig) (Ok here) e)
 
-token_case : (b : ℕ) (bs : List ℕ) (here : Found) → (BeginsComment (b ∷ bs) → ⊥) → token_at (b ∷ bs) ≡ Ok here → PieceHere (b ∷ bs) here
+token_case : (b : ℕ) (bs : List ℕ) (here : FoundPiece) → (BeginsComment (b ∷ bs) → ⊥) → token_at (b ∷ bs) ≡ Ok here → PieceHere (b ∷ bs) here
 token_case b bs here no_comment e =
     ⊎_elim
     (λ blank. subst (PieceHere (b ∷ bs)) (ok_same None 1 here blank.1) (blank_here b bs blank.0))
@@ -141,17 +141,17 @@ token_case b bs here no_comment e =
     (chosen_by (is_word_start b) _ _ (Ok here) no_blank.1))
     (chosen_by (is_blank b) _ _ (Ok here) e)
 
-tail_case : (bytes : List ℕ) (here : Found) → 0 < length bytes → (BeginsComment bytes → ⊥) → token_at bytes ≡ Ok here → PieceHere bytes here
+tail_case : (bytes : List ℕ) (here : FoundPiece) → 0 < length bytes → (BeginsComment bytes → ⊥) → token_at bytes ≡ Ok here → PieceHere bytes here
 tail_case [] here some no_comment e = absurd (omega arith)
 tail_case (b ∷ bs) here some no_comment e = token_case b bs here no_comment e
 
-block_case : (rest : List ℕ) (here : Found) (len : Option ℕ) → block_len rest ≡ len → block_found len ≡ Ok here → PieceHere (47 ∷ 45 ∷ 45 ∷ rest) here
+block_case : (rest : List ℕ) (here : FoundPiece) (len : Option ℕ) → block_len rest ≡ len → block_found len ≡ Ok here → PieceHere (47 ∷ 45 ∷ 45 ∷ rest) here
 block_case rest here None at e = let clash : block_found None ≡ Ok here = e in cc
 block_case rest here (Some len) at e =
     subst (PieceHere (47 ∷ 45 ∷ 45 ∷ rest)) (ok_same None (len + 3) here e) (block_here rest len (block_len-some rest len at))
 
 -- what is found is a piece
-pub piece_found : (bytes : List ℕ) (here : Found) → 0 < length bytes → piece_at bytes ≡ Ok here → PieceHere bytes here
+pub piece_found : (bytes : List ℕ) (here : FoundPiece) → 0 < length bytes → piece_at bytes ≡ Ok here → PieceHere bytes here
 piece_found bytes here some e =
     ⊎_elim
     (λ line.
@@ -166,15 +166,15 @@ piece_found bytes here some e =
     (chosen_by (starts_with nat_eq bytes (codes "--")) _ _ (Ok here) e)
 
 -- what a stop says of the bytes
-abbrev pub IsStop : Stop → List ℕ → Type 0
+abbrev pub IsStop : TokenStop → List ℕ → Type 0
 IsStop stop.BadByte bytes = IsBadByte bytes
 IsStop stop.OpenComment bytes = IsOpenComment bytes
 IsStop stop.NumberTooBig bytes = IsBigNumber bytes
 
-abbrev pub stopped : Stop → Result Found Stop
+abbrev pub stopped : TokenStop → Result FoundPiece TokenStop
 stopped s = Err s
 
-pub err_same : (s why : Stop) → stopped s ≡ stopped why → s ≡ why
+pub err_same : (s why : TokenStop) → stopped s ≡ stopped why → s ≡ why
 err_same s why e = cc
 
 bad_here : (b : ℕ) (bs : List ℕ) → (BeginsComment (b ∷ bs) → ⊥) → is_blank b ≡ false → is_word_start b ≡ false → is_ascii_digit b ≡ false → sign_at signs (b ∷ bs) ≡ None → IsBadByte (b ∷ bs)
@@ -185,12 +185,12 @@ bad_here b bs no_comment no_blank no_word no_digit none = record {
   no_token = no_token_at b bs no_word no_digit none;
 }
 
-sign_stop : (b : ℕ) (bs : List ℕ) (why : Stop) (sign : Option Sign) → (BeginsComment (b ∷ bs) → ⊥) → is_blank b ≡ false → is_word_start b ≡ false → is_ascii_digit b ≡ false → sign_at signs (b ∷ bs) ≡ sign → sign_found sign ≡ Err why → IsStop why (b ∷ bs)
+sign_stop : (b : ℕ) (bs : List ℕ) (why : TokenStop) (sign : Option Sign) → (BeginsComment (b ∷ bs) → ⊥) → is_blank b ≡ false → is_word_start b ≡ false → is_ascii_digit b ≡ false → sign_at signs (b ∷ bs) ≡ sign → sign_found sign ≡ Err why → IsStop why (b ∷ bs)
 sign_stop b bs why None no_comment no_blank no_word no_digit at e =
     subst (λ s. IsStop s (b ∷ bs)) (err_same stop.BadByte why e) (bad_here b bs no_comment no_blank no_word no_digit at)
 sign_stop b bs why (Some sign) no_comment no_blank no_word no_digit at e = let clash : found (Some sign.kind) (length sign.text) ≡ Err why = e in cc
 
-number_stop : (b : ℕ) (bs : List ℕ) (why : Stop) → is_ascii_digit b ≡ true → number_found (b ∷ bs) (run_len takes_digit (b ∷ bs)) ≡ Err why → IsStop why (b ∷ bs)
+number_stop : (b : ℕ) (bs : List ℕ) (why : TokenStop) → is_ascii_digit b ≡ true → number_found (b ∷ bs) (run_len takes_digit (b ∷ bs)) ≡ Err why → IsStop why (b ∷ bs)
 number_stop b bs why digit e =
     ⊎_elim
     (λ fits. let clash : found (Some Number) (run_len takes_digit (b ∷ bs)) ≡ Err why = fits.1 in cc)
@@ -203,7 +203,7 @@ number_stop b bs why digit e =
     }))
     (chosen_by (nat_le (number_from 0 (take (run_len takes_digit (b ∷ bs)) (b ∷ bs))) (2 ^ 63 - 1)) (found (Some Number) (run_len takes_digit (b ∷ bs))) (Err stop.NumberTooBig) (Err why) e)
 
-token_stop : (b : ℕ) (bs : List ℕ) (why : Stop) → (BeginsComment (b ∷ bs) → ⊥) → token_at (b ∷ bs) ≡ Err why → IsStop why (b ∷ bs)
+token_stop : (b : ℕ) (bs : List ℕ) (why : TokenStop) → (BeginsComment (b ∷ bs) → ⊥) → token_at (b ∷ bs) ≡ Err why → IsStop why (b ∷ bs)
 token_stop b bs why no_comment e =
     ⊎_elim
     (λ blank. let clash : found None 1 ≡ Err why = blank.1 in cc)
@@ -216,17 +216,17 @@ token_stop b bs why no_comment e =
     (chosen_by (is_word_start b) _ _ (Err why) no_blank.1))
     (chosen_by (is_blank b) _ _ (Err why) e)
 
-tail_stop : (bytes : List ℕ) (why : Stop) → 0 < length bytes → (BeginsComment bytes → ⊥) → token_at bytes ≡ Err why → IsStop why bytes
+tail_stop : (bytes : List ℕ) (why : TokenStop) → 0 < length bytes → (BeginsComment bytes → ⊥) → token_at bytes ≡ Err why → IsStop why bytes
 tail_stop [] why some no_comment e = absurd (omega arith)
 tail_stop (b ∷ bs) why some no_comment e = token_stop b bs why no_comment e
 
-block_stop : (rest : List ℕ) (why : Stop) (len : Option ℕ) → block_len rest ≡ len → block_found len ≡ Err why → IsStop why (47 ∷ 45 ∷ 45 ∷ rest)
+block_stop : (rest : List ℕ) (why : TokenStop) (len : Option ℕ) → block_len rest ≡ len → block_found len ≡ Err why → IsStop why (47 ∷ 45 ∷ 45 ∷ rest)
 block_stop rest why None at e =
     subst (λ s. IsStop s (47 ∷ 45 ∷ 45 ∷ rest)) (err_same stop.OpenComment why e) (record { inner = rest; spelled = refl; open_ = λ front back spelled. block_len-none rest front back at spelled })
 block_stop rest why (Some len) at e = let clash : found None (len + 3) ≡ Err why = e in cc
 
 -- why nothing is found
-pub piece_stops : (bytes : List ℕ) (why : Stop) → 0 < length bytes → piece_at bytes ≡ Err why → IsStop why bytes
+pub piece_stops : (bytes : List ℕ) (why : TokenStop) → 0 < length bytes → piece_at bytes ≡ Err why → IsStop why bytes
 piece_stops bytes why some e =
     ⊎_elim
     (λ line. let clash : found None (run_len takes_line (drop 2 bytes) + 2) ≡ Err why = line.1 in cc)
@@ -297,7 +297,7 @@ found_token kind text after (Some other) len token piece =
     let same_len : len ≡ length text = sym (length-take-le len (text ++ after) piece.within) ∙ ap length same_text in
     ap (λ k. found (Some k) len) same_kind ∙ ap (found (Some kind)) same_len
 
-pub no_stop : (kind : TokenKind) (text after : List ℕ) (why : Stop) → IsTokenPiece kind text after → IsStop why (text ++ after) → ⊥
+pub no_stop : (kind : TokenKind) (text after : List ℕ) (why : TokenStop) → IsTokenPiece kind text after → IsStop why (text ++ after) → ⊥
 no_stop kind text after stop.BadByte token bad = bad.no_token kind text after refl token.longest.token
 no_stop kind text after stop.OpenComment token open_comment = token.no_comment (inr (open_comment.inner, open_comment.spelled))
 no_stop kind text after stop.NumberTooBig token big =
@@ -305,7 +305,7 @@ no_stop kind text after stop.NumberTooBig token big =
     let same_kind = one_kind_longest Number kind _ _ _ _ big.number token.longest (sym big.spelled) in
     omega (arith, token.small (sym same_kind), big.big, ap (number_from 0) same_text)
 
-token_piece : (kind : TokenKind) (text after : List ℕ) (result : Result Found Stop) → IsTokenPiece kind text after → piece_at (text ++ after) ≡ result → result ≡ found (Some kind) (length text)
+token_piece : (kind : TokenKind) (text after : List ℕ) (result : Result FoundPiece TokenStop) → IsTokenPiece kind text after → piece_at (text ++ after) ≡ result → result ≡ found (Some kind) (length text)
 token_piece kind text after (Ok here) token at =
     let some : 0 < length (text ++ after) = omega (arith, text_some kind text after token.longest.token, length-append text after) in
     found_token kind text after here.kind here.len token (piece_found (text ++ after) here some at)

@@ -5,9 +5,9 @@ use Rattle.std.proofs.lemmas.List.{take-append-drop, append-nil}
 use Rattle.std.proofs.Math.Seq.{drop-append_seam}
 use Rattle.smv_lexer.specs.declared.token.TokenKind.{TokenKind}
 use Rattle.smv_lexer.specs.declared.token.Token.{Token}
-use Rattle.smv_lexer.specs.declared.scan.Found.{Found}
-use Rattle.smv_lexer.specs.declared.scan.Stop.{Stop}
-use Rattle.smv_lexer.specs.declared.scan.Stop.TheVariants as stop
+use Rattle.smv_lexer.specs.declared.scan.FoundPiece.{FoundPiece}
+use Rattle.smv_lexer.specs.declared.scan.TokenStop.{TokenStop}
+use Rattle.smv_lexer.specs.declared.scan.TokenStop.TheVariants as stop
 use Rattle.smv_lexer.specs.Tokens.{Piece, IsPiece, Splits, token_of, tokens_from, HasTokens}
 use Rattle.smv_lexer.specs.Faults.{HasNoSplit, IsFaultOf, fault_at}
 use Rattle.smv_lexer.specs.Scan.{found, piece_at}
@@ -39,7 +39,7 @@ tokens_from-more start (first ∷ pieces) piece =
     ∙ sym (append_assoc (token_of start first.kind (length first.text)) (tokens_from (start + length first.text) pieces) (token_of (start + length first.text + size pieces) piece.kind (length piece.text)))
     ∙ ap (λ n. (token_of start first.kind (length first.text) ++ tokens_from (start + length first.text) pieces) ++ token_of n piece.kind (length piece.text)) place
 
-abbrev here_as : Option TokenKind → ℕ → Found
+abbrev here_as : Option TokenKind → ℕ → FoundPiece
 here_as kind len = record { kind = kind; len = len }
 
 found_same : (a b : Option TokenKind) (m n : ℕ) → found a m ≡ found b n → (a ≡ b) × (m ≡ n)
@@ -72,7 +72,7 @@ one_split (piece ∷ pieces) (other ∷ others) bytes (after, spelled, is, later
     λ i. first i ∷ next i
 
 -- where no piece is found, no split goes on
-pub no_split : (pieces others : List Piece) (bytes rest : List ℕ) (why : Stop) → Splits pieces bytes rest → 0 < length rest → piece_at rest ≡ Err why → Splits others bytes [] → ⊥
+pub no_split : (pieces others : List Piece) (bytes rest : List ℕ) (why : TokenStop) → Splits pieces bytes rest → 0 < length rest → piece_at rest ≡ Err why → Splits others bytes [] → ⊥
 no_split [] [] bytes rest why e some stops done = omega (arith, ap length e, ap length done)
 no_split [] (other ∷ others) bytes rest why e some stops (behind, cut, is, later) =
     let found_here : piece_at rest ≡ found other.kind (length other.text) = ap piece_at (sym e ∙ cut) ∙ piece_at-piece other.kind other.text behind is in
@@ -95,7 +95,7 @@ pub record IsSplitTo (bytes rest : List ℕ) (tokens : List Token) : Type 0 wher
   pub same : tokens ≡ tokens_from 0 pieces
 
 -- the piece that was found makes the split longer
-pub IsSplitTo-more : (bytes rest : List ℕ) (tokens more : List Token) (start : ℕ) (here : Found) → IsSplitTo bytes rest tokens → 0 < length rest → start + length rest ≡ length bytes → piece_at rest ≡ Ok here → more ≡ tokens ++ token_of start here.kind here.len → IsSplitTo bytes (drop here.len rest) more
+pub IsSplitTo-more : (bytes rest : List ℕ) (tokens more : List Token) (start : ℕ) (here : FoundPiece) → IsSplitTo bytes rest tokens → 0 < length rest → start + length rest ≡ length bytes → piece_at rest ≡ Ok here → more ≡ tokens ++ token_of start here.kind here.len → IsSplitTo bytes (drop here.len rest) more
 IsSplitTo-more bytes rest tokens more start here split some place at pushed =
     let found_here = piece_found rest here some at in
     let piece : Piece = record { kind = here.kind; text = take here.len rest } in
@@ -110,16 +110,16 @@ IsSplitTo-more bytes rest tokens more start here split some place at pushed =
           ∙ sym (tokens_from-more 0 split.pieces (record { kind = here.kind; text = take here.len rest }));
     }
 
-pub found_within : (rest : List ℕ) (here : Found) → 0 < length rest → piece_at rest ≡ Ok here → (0 < here.len) × (here.len ≤ length rest)
+pub found_within : (rest : List ℕ) (here : FoundPiece) → 0 < length rest → piece_at rest ≡ Ok here → (0 < here.len) × (here.len ≤ length rest)
 found_within rest here some at = let found_here = piece_found rest here some at in (found_here.some, found_here.within)
 
 -- the fault at a stop
-pub fault_of_stop : (bytes rest : List ℕ) (tokens : List Token) (start : ℕ) (why : Stop) → IsSplitTo bytes rest tokens → 0 < length rest → start + length rest ≡ length bytes → piece_at rest ≡ Err why → IsFaultOf bytes (fault_at why start)
+pub fault_of_stop : (bytes rest : List ℕ) (tokens : List Token) (start : ℕ) (why : TokenStop) → IsSplitTo bytes rest tokens → 0 < length rest → start + length rest ≡ length bytes → piece_at rest ≡ Err why → IsFaultOf bytes (fault_at why start)
 fault_of_stop bytes rest tokens start stop.BadByte split some place stops = (split.pieces, rest, split.splits, place, piece_stops rest stop.BadByte some stops)
 fault_of_stop bytes rest tokens start stop.OpenComment split some place stops = (split.pieces, rest, split.splits, place, piece_stops rest stop.OpenComment some stops)
 fault_of_stop bytes rest tokens start stop.NumberTooBig split some place stops = (split.pieces, rest, split.splits, place, piece_stops rest stop.NumberTooBig some stops)
 
-pub no_split_at_stop : (bytes rest : List ℕ) (tokens : List Token) (why : Stop) → IsSplitTo bytes rest tokens → 0 < length rest → piece_at rest ≡ Err why → HasNoSplit bytes
+pub no_split_at_stop : (bytes rest : List ℕ) (tokens : List Token) (why : TokenStop) → IsSplitTo bytes rest tokens → 0 < length rest → piece_at rest ≡ Err why → HasNoSplit bytes
 no_split_at_stop bytes rest tokens why split some stops others done = no_split split.pieces others bytes rest why split.splits some stops done
 
 -- at the end the tokens are those of the split

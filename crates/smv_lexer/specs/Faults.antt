@@ -4,8 +4,8 @@ use Rattle.smv_lexer.specs.declared.token.TokenKind.{TokenKind}
 use Rattle.smv_lexer.specs.declared.token.TokenKind.TheVariants.{Number}
 use Rattle.smv_lexer.specs.declared.token.LexFault.{LexFault}
 use Rattle.smv_lexer.specs.declared.token.LexFault.TheVariants as fault
-use Rattle.smv_lexer.specs.declared.scan.Stop.{Stop}
-use Rattle.smv_lexer.specs.declared.scan.Stop.TheVariants as stop
+use Rattle.smv_lexer.specs.declared.scan.TokenStop.{TokenStop}
+use Rattle.smv_lexer.specs.declared.scan.TokenStop.TheVariants as stop
 use Rattle.smv_lexer.specs.Bytes.{is_blank}
 use Rattle.smv_lexer.specs.Tokens.{IsToken, IsLongest, Piece, Splits, BeginsComment, number_of}
 
@@ -47,7 +47,7 @@ IsFaultOf bytes (fault.NumberTooBig at) = StopsAt bytes at IsBigNumber
 IsFaultOf bytes fault.OutOfMemory = ⊥
 
 -- the fault of a stop at this place
-abbrev pub fault_at : Stop → ℕ → LexFault
+abbrev pub fault_at : TokenStop → ℕ → LexFault
 fault_at stop.BadByte at = fault.BadByte at
 fault_at stop.OpenComment at = fault.OpenComment at
 fault_at stop.NumberTooBig at = fault.NumberTooBig at

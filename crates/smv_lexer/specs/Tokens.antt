@@ -1,7 +1,11 @@
 -- How bytes split into tokens and blanks: a relation on whole texts.
-use Rattle.std.specs.Prelude.{◌≡◌, ◌⊎◌, ◌<◌, ◌≤◌, ◌+◌, ◌-◌, ◌^◌, ℕ, true, List, [], ◌∷◌, ◌++◌, length, drop, slice_range, Option, Some, None, codes}
+use Rattle.std.specs.Prelude.{◌≡◌, ◌⊎◌, ◌<◌, ◌≤◌, ◌+◌, ◌-◌, ◌^◌, ℕ, true, List, [], ◌∷◌, ◌++◌, length, drop, slice_range, Option, Some}
+use Rattle.std.specs.Prelude.{None, codes}
 use Rattle.smv_lexer.specs.declared.token.TokenKind.{TokenKind}
-use Rattle.smv_lexer.specs.declared.token.TokenKind.TheVariants.{Word, Number, Becomes, Dots, NotEqual, AtMost, AtLeast, Iff, Implies, Open, Close, OpenBrace, CloseBrace, OpenSquare, CloseSquare, Comma, Semicolon, Colon, Dot, Bang, And, Bar, Equal, Less, Greater, Plus, Minus, Star, Slash, Question}
+use Rattle.smv_lexer.specs.declared.token.TokenKind.TheVariants.{Word, Number, Becomes, Dots, NotEqual, AtMost, AtLeast, Iff, Implies, Open}
+use Rattle.smv_lexer.specs.declared.token.TokenKind.TheVariants.{Close, OpenBrace, CloseBrace, OpenSquare, CloseSquare, Comma, Semicolon}
+use Rattle.smv_lexer.specs.declared.token.TokenKind.TheVariants.{Colon, Dot, Bang, And, Bar, Equal, Less, Greater, Plus, Minus, Star, Slash}
+use Rattle.smv_lexer.specs.declared.token.TokenKind.TheVariants.{Question}
 use Rattle.smv_lexer.specs.declared.token.Token.{Token}
 use Rattle.smv_lexer.specs.Bytes.{is_blank, is_word_start}
 use Rattle.smv_lexer.specs.Runs.{Runs, takes_word, takes_digit, takes_line, number_from}
@@ -80,7 +84,8 @@ IsToken kind text after =
 -- the text is a token of this kind, and no longer token begins at its place
 pub record IsLongest (kind : TokenKind) (text after : List ℕ) : Type 0 where
   pub token : IsToken kind text after
-  pub longest : (other : TokenKind) (front back : List ℕ) → front ++ back ≡ text ++ after → IsToken other front back → length front ≤ length text
+  pub longest : (other : TokenKind) (front back : List ℕ) → front ++ back ≡ text ++ after → IsToken other front back →
+      length front ≤ length text
 
 -- a piece of a text: a token of a kind, or a blank
 pub record Piece : Type 0 where

@@ -1,32 +1,32 @@
-// The split of a text, piece by piece: `tokens` is the crate's one call.
-//
-// Each round takes the piece that begins where the last one ended, keeps it where it is a token, and stops at the first
-// place where no piece begins. Of the pieces themselves `scan` knows.
+//! The split of a text, piece by piece: `tokens` is the crate's one call.
+//!
+//! Each round takes the piece that begins where the last one ended, keeps it where it is a token, and stops at the first
+//! place where no piece begins. Of the pieces themselves `scan` knows.
 ghost use Rattle.std.specs.Prelude.{◌≡◌, ◌⊎◌, ◌<◌, ◌+◌, ◌^◌, ◌++◌, List, length, All, OnOk, IfOk, IfErr};
 ghost use Rattle.smv_lexer.specs.declared.token.Token.{Token};
 ghost use Rattle.smv_lexer.specs.declared.token.LexFault.{LexFault};
 ghost use Rattle.smv_lexer.specs.Tokens.{token_of, HasTokens, StandsIn};
 ghost use Rattle.smv_lexer.specs.Faults.{HasNoSplit, IsFaultOf, fault_at};
 
-use crate::scan::{Found, Stop, piece_at};
+use crate::scan::{FoundPiece, TokenStop, piece_at};
 use crate::{LexFault, OutOfMemory, Token, TokenList};
 use std::alloc::Global;
 
-impl Stop {
+impl TokenStop {
     /// The fault of this stop at a place.
     fn at(self, place: u32) -> LexFault
         ensures { result ≡ fault_at self place }
     {
         match self {
-            Stop::BadByte => LexFault::BadByte(place),
-            Stop::OpenComment => LexFault::OpenComment(place),
-            Stop::NumberTooBig => LexFault::NumberTooBig(place),
+            TokenStop::BadByte => LexFault::BadByte(place),
+            TokenStop::OpenComment => LexFault::OpenComment(place),
+            TokenStop::NumberTooBig => LexFault::NumberTooBig(place),
         }
     }
 }
 
 /// Appends the token of a piece, and nothing for a blank.
-fn push_found(tokens: &mut TokenList, start: u32, found: Found) -> Result<(), OutOfMemory>
+fn push_found(tokens: &mut TokenList, start: u32, found: FoundPiece) -> Result<(), OutOfMemory>
     requires { start + found.len < 2 ^ 32 }
     ensures ok { OnOk result (tokens.new ≡ tokens.old ++ token_of start found.kind found.len) }
 {

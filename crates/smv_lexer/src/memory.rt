@@ -1,4 +1,4 @@
-// Want of memory, which is this crate's own since it stands on no other.
+//! Want of memory, which is this crate's own since it stands on no other.
 use std::alloc::{AllocError, AllocFailed};
 
 /// The answer for want of memory, which stands for nothing else.

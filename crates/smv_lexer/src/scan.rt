@@ -1,7 +1,7 @@
-// The piece that begins at a place, and how long it is: `piece_at`.
-//
-// A comment is tried first; then the first byte decides between a blank, a word, a number and a sign. Nothing here takes
-// memory.
+//! The piece that begins at a place, and how long it is: `piece_at`.
+//!
+//! A comment is tried first; then the first byte decides between a blank, a word, a number and a sign. Nothing here takes
+//! memory.
 ghost use Rattle.std.specs.Prelude.{◌≡◌, None, Some, ◌≤◌, ◌<◌, ◌-◌, ◌^◌, [], length, nat_le, IfSome};
 ghost use Rattle.smv_lexer.specs.Bytes.{is_word_start, is_word_byte, is_blank};
 ghost use Rattle.smv_lexer.specs.Runs.{Runs, run_len, ends_word, takes_word, takes_digit, takes_line, number_from, block_len};
@@ -15,24 +15,24 @@ const MAX_NUMBER: u128 = i64::MAX as u128;
 
 /// A piece of the text by its length: a token, or a blank, which has no kind.
 #[derive(Clone, Copy, Debug, PartialEq, Eq)]
-pub(crate) struct Found {
+pub(crate) struct FoundPiece {
     pub(crate) kind: Option<TokenKind>,
     pub(crate) len: usize,
 }
 
-impl Found {
+impl FoundPiece {
     /// A blank of so many bytes.
-    fn blank(len: usize) -> Found
+    fn blank(len: usize) -> FoundPiece
         ensures { result ≡ record { kind = None; len = len } }
     {
-        Found { kind: None, len }
+        FoundPiece { kind: None, len }
     }
 
     /// A token of so many bytes.
-    fn token(kind: TokenKind, len: usize) -> Found
+    fn token(kind: TokenKind, len: usize) -> FoundPiece
         ensures { result ≡ record { kind = Some kind; len = len } }
     {
-        Found {
+        FoundPiece {
             kind: Some(kind),
             len,
         }
@@ -41,7 +41,7 @@ impl Found {
 
 /// Why no piece begins at a place.
 #[derive(Clone, Copy, Debug, PartialEq, Eq)]
-pub(crate) enum Stop {
+pub(crate) enum TokenStop {
     BadByte,
     OpenComment,
     NumberTooBig,
@@ -182,49 +182,49 @@ fn is_small(digits: &[u8]) -> bool
 }
 
 /// The number at the front, which has so many digits.
-fn number_at(bytes: &[u8]) -> Result<Found, Stop>
+fn number_at(bytes: &[u8]) -> Result<FoundPiece, TokenStop>
     ensures { result ≡ number_found bytes.now (run_len takes_digit bytes.now) }
 {
     let len = digits_len(bytes);
     if is_small(&bytes[..len]) {
-        Ok(Found::token(TokenKind::Number, len))
+        Ok(FoundPiece::token(TokenKind::Number, len))
     } else {
-        Err(Stop::NumberTooBig)
+        Err(TokenStop::NumberTooBig)
     }
 }
 
 /// The token or the blank byte at the front, where no comment begins.
-fn token_at(bytes: &[u8]) -> Result<Found, Stop>
+fn token_at(bytes: &[u8]) -> Result<FoundPiece, TokenStop>
     ensures { result ≡ token_at bytes.now }
 {
     let [first, after @ ..] = bytes else {
-        return Err(Stop::BadByte);
+        return Err(TokenStop::BadByte);
     };
     if is_blank(*first) {
-        Ok(Found::blank(1))
+        Ok(FoundPiece::blank(1))
     } else if is_word_start(*first) {
-        Ok(Found::token(TokenKind::Word, word_len(after) + 1))
+        Ok(FoundPiece::token(TokenKind::Word, word_len(after) + 1))
     } else if first.is_ascii_digit() {
         number_at(bytes)
     } else {
         match sign_at(bytes) {
-            Some(sign) => Ok(Found::token(sign.kind, sign.text.len())),
-            None => Err(Stop::BadByte),
+            Some(sign) => Ok(FoundPiece::token(sign.kind, sign.text.len())),
+            None => Err(TokenStop::BadByte),
         }
     }
 }
 
 /// The piece at the front.
-pub(crate) fn piece_at(bytes: &[u8]) -> Result<Found, Stop>
+pub(crate) fn piece_at(bytes: &[u8]) -> Result<FoundPiece, TokenStop>
     ensures { result ≡ piece_at bytes.now }
 {
     if bytes.starts_with(b"--") {
-        return Ok(Found::blank(line_len(&bytes[2..]) + 2));
+        return Ok(FoundPiece::blank(line_len(&bytes[2..]) + 2));
     }
     if bytes.starts_with(b"/--") {
         return match block_len(&bytes[3..]) {
-            Some(len) => Ok(Found::blank(len + 3)),
-            None => Err(Stop::OpenComment),
+            Some(len) => Ok(FoundPiece::blank(len + 3)),
+            None => Err(TokenStop::OpenComment),
         };
     }
     token_at(bytes)

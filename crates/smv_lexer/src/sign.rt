@@ -1,6 +1,6 @@
-// The signs, and which of them begins at a place: `sign_at`.
-//
-// The table has the longest first, so that the first sign that fits is the longest.
+//! The signs, and which of them begins at a place: `sign_at`.
+//!
+//! The table has the longest first, so that the first sign that fits is the longest.
 ghost use Rattle.std.specs.Prelude.{◌≡◌, map};
 ghost use Rattle.std.specs.Option.{option_map};
 ghost use Rattle.smv_lexer.specs.Tokens.{signs};

@@ -1,4 +1,4 @@
-// Tokens (`Token`), their kinds and places, and why bytes have none (`LexFault`).
+//! Tokens (`Token`), their kinds and places, and why bytes have none (`LexFault`).
 ghost use Rattle.std.specs.Prelude.{◌≡◌, ◌<◌, ◌↔◌, [], ◌∷◌, ◌++◌, length, IsTrue, OnOk, OnErr, IfOk, Some, slice_get};
 ghost use Rattle.smv_lexer.specs.declared.token.LexFault.TheVariants as fault;
 

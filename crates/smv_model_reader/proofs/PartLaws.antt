@@ -6,7 +6,7 @@ use Rattle.smv_language.specs.declared.program.Section.{Section}
 use Rattle.smv_language.specs.ProgramTree.{SectionTree, section_tree}
 use Rattle.smv_language.specs.Lexemes.{Lexeme}
 use Rattle.smv_expression_reader.specs.Marks.{w_skipped}
-use Rattle.smv_expression_reader.specs.Reads.{Read, got, deep, none, and_then, with_front, mark_at, rest_of, has_next, is_past}
+use Rattle.smv_expression_reader.specs.SecondPass.{Read, got, deep, none, and_then, with_front, mark_at, rest_of, has_next, is_past}
 use Rattle.smv_model_reader.specs.ProgramParts.{past_skipped, section_at, is_kept, sections_at}
 use Rattle.smv_expression_reader.proofs.ReadLaws.{front_next}
 

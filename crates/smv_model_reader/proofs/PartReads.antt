@@ -15,14 +15,14 @@ use Rattle.smv_language.specs.Spells.{plain_int, minus_int, SpellsDotted, one_na
 use Rattle.smv_language.specs.SpellsProgram as g
 use Rattle.smv_language.specs.SpellsProgram.{SpellsMany, no_more, one_more, SpellsCommas, last_one, one_comma, SpellsBracketed, no_brackets, brackets, SpellsName, a_name, SpellsExpr, SpellsMember, a_symbol, SpellsType, is_boolean, is_range, is_members, SpellsDeclared, is_type, is_instance, is_empty_instance, SpellsDecl, declares, SpellsDefine, SpellsTarget, always, first, after, SpellsAssignment, SpellsFormula, open_ended, ended, HasNoSection, SpellsSection, a_var, an_ivar, a_frozen, a_define, some_constants, an_assign, an_init, an_invar, a_trans, SpellsSections, no_section, a_section, skipped, SpellsFormals, some_formals, empty_formals, SpellsModule, a_module, SpellsProgram}
 use Rattle.smv_language.specs.Bytes.{BytesSpellProgram}
-use Rattle.smv_expression_reader.specs.Recognise.{stuck, run, is_whole, start}
+use Rattle.smv_expression_reader.specs.Recogniser.{stuck, run, is_whole, start}
 use Rattle.smv_expression_reader.specs.Marks.{Mark, mark_of, w_module, w_skipped, w_first, w_after, s_becomes, s_open, s_close, s_close_brace, s_comma, s_semicolon, s_colon, s_dot}
 use Rattle.smv_expression_reader.specs.Marks as m
 use Rattle.smv_expression_reader.specs.MarkView.{is_mark}
 use Rattle.smv_model_reader.specs.Symbols.{IsProgram}
-use Rattle.smv_expression_reader.specs.Within.{Spelling, AreWithin, is_too_deep, are_too_deep, spelling, in_formula, in_many}
-use Rattle.smv_model_reader.specs.Within.{in_commas, in_actuals, in_actual, in_declared, in_decl, in_define, in_assignment, in_section, in_sections, in_module, in_program, HasProgramDepths, IsProgramTooDeep}
-use Rattle.smv_expression_reader.specs.Reads.{Read, got, deep, none, and_then, answer, mark_at, rest_of, has_next, expect_at, name_at, expr_at, each_at, some_at, past_semicolon, is_past, int_at}
+use Rattle.smv_expression_reader.specs.ExpressionDepths.{Spelling, AreWithin, is_too_deep, are_too_deep, spelling, in_formula, in_many}
+use Rattle.smv_model_reader.specs.ProgramDepths.{in_commas, in_actuals, in_actual, in_declared, in_decl, in_define, in_assignment, in_section, in_sections, in_module, in_program, HasProgramDepths, IsProgramTooDeep}
+use Rattle.smv_expression_reader.specs.SecondPass.{Read, got, deep, none, and_then, answer, mark_at, rest_of, has_next, expect_at, name_at, expr_at, each_at, some_at, past_semicolon, is_past, int_at}
 use Rattle.smv_model_reader.specs.ProgramParts.{next_name, dotted_at, names_at, member_at, members_at, braced_at, type_at, commas_at, closed_at, bracketed_at, instance_at, declared_at, decl_at, decls_at, value_at, define_at, defines_at, moment_at, past_moment, target_at, assignment_at, begins_assignment, assigns_at, constants_at, formula_at, past_skipped, section_at, is_kept, sections_at, next_module, program_at}
 use Rattle.smv_expression_reader.proofs.Accepted.{run_stuck, spelled_accepted}
 use Rattle.smv_expression_reader.proofs.Marks.{Marked, marked, mark_of_name, mark_of_skipped, skipped_section, begins_section, section_mark}

@@ -9,11 +9,11 @@ use Rattle.smv_language.specs.Lexemes.{Lexeme, word, num, sign, is_reserved}
 use Rattle.smv_language.specs.Spells.{SpellsInt, plain_int, minus_int, SpellsDotted, one_name, more_names}
 use Rattle.smv_language.specs.SpellsProgram.{SpellsMany, no_more, one_more, SpellsBracketed, no_brackets, brackets, SpellsName, SpellsExpr, SpellsMember, a_symbol, SpellsType, is_boolean, is_range, is_members, SpellsDeclared, is_type, is_instance, is_empty_instance, SpellsDecl, declares, SpellsDefine, defines, always, first, SpellsAssignment, assigns, SpellsFormula, open_ended, ended, HasNoSection, a_var, an_ivar, a_frozen, a_define, some_constants, an_assign, an_init, an_invar, a_trans, SpellsSections, no_section, a_section, skipped, SpellsFormals, some_formals, empty_formals, SpellsModule, a_module}
 use Rattle.smv_language.specs.SpellsProgram as g
-use Rattle.smv_expression_reader.specs.Recognise.{role_of, start}
-use Rattle.smv_expression_reader.specs.Recognise as machine
+use Rattle.smv_expression_reader.specs.Recogniser.{role_of, start}
+use Rattle.smv_expression_reader.specs.Recogniser as machine
 use Rattle.smv_expression_reader.specs.Marks.{Mark, a_name, s_close, mark_of}
-use Rattle.smv_model_reader.specs.ProgramRead.{the_name, the_number, the_colon, the_becomes, the_semicolon, the_open, the_close, the_dots, Sym, Tail, tail_end, tail_more, is_single, IsName, IsMember, IsFormals, IsActuals, spelled, empty, expr, live, alone, passing, after_type, after_declared, after_section, after, after_actual, next, shortest, programs}
-use Rattle.smv_model_reader.specs.ProgramRead as s
+use Rattle.smv_model_reader.specs.ProgramGrammar.{the_name, the_number, the_colon, the_becomes, the_semicolon, the_open, the_close, the_dots, Sym, Tail, tail_end, tail_more, is_single, IsName, IsMember, IsFormals, IsActuals, spelled, empty, expr, live, alone, passing, after_type, after_declared, after_section, after, after_actual, next, shortest, programs}
+use Rattle.smv_model_reader.specs.ProgramGrammar as s
 use Rattle.smv_expression_reader.proofs.Accepted.{spelled_accepted}
 use Rattle.smv_expression_reader.proofs.Exact.{completes}
 use Rattle.smv_expression_reader.proofs.Marks.{Marked, marked, mark_of_name, mark_of_skipped}

@@ -3,12 +3,12 @@ use Rattle.std.proofs.Common.{◌≡◌, ℕ, Bool, true, false, List, [], ◌�
 use Rattle.std.specs.Prelude.{◌&&◌, ◌||◌}
 use Rattle.smv_language.specs.Lexemes.{Lexeme, word, num, sign, is_reserved, section_words}
 use Rattle.smv_language.specs.Texts.{is_among}
-use Rattle.smv_expression_reader.specs.Recognise.{role_of, State, stuck, start}
-use Rattle.smv_expression_reader.specs.Recognise as machine
-use Rattle.smv_expression_reader.specs.Predict.{Fits, IsPredictable, can_start, all_empty, is_some}
+use Rattle.smv_expression_reader.specs.Recogniser.{role_of, State, stuck, start}
+use Rattle.smv_expression_reader.specs.Recogniser as machine
+use Rattle.smv_expression_reader.specs.PredictiveReader.{Fits, IsPredictable, can_start, all_empty, is_some}
 use Rattle.smv_expression_reader.specs.Marks.{Mark, w_module, w_var, w_ivar, w_frozen, w_define, w_constants, w_assign, w_init, w_invar, w_trans, w_skipped, w_boolean, w_first, w_after, a_name, a_number, s_becomes, s_dots, s_open, s_close, s_open_brace, s_close_brace, s_comma, s_semicolon, s_colon, s_dot, s_minus, no_mark, mark_of, is_section}
-use Rattle.smv_model_reader.specs.ProgramRead.{the_becomes, the_semicolon, the_close, Sym, is_single, empty, live, alone, passing, after_type, after_declared, after_section, after, after_actual, next, ends_formula, ends_dots, is_word_module, is_word_semicolon, follow, programs}
-use Rattle.smv_model_reader.specs.ProgramRead as s
+use Rattle.smv_model_reader.specs.ProgramGrammar.{the_becomes, the_semicolon, the_close, Sym, is_single, empty, live, alone, passing, after_type, after_declared, after_section, after, after_actual, next, ends_formula, ends_dots, is_word_module, is_word_semicolon, follow, programs}
+use Rattle.smv_model_reader.specs.ProgramGrammar as s
 use Rattle.smv_expression_reader.proofs.Exact.{completes}
 use Rattle.smv_expression_reader.proofs.Marks.{among, Marked, marked, section_no_role, begins_section, section_mark}
 use Rattle.smv_expression_reader.proofs.ReadLaws.{ends_role, whole_stops}

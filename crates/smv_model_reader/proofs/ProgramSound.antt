@@ -10,11 +10,11 @@ use Rattle.smv_language.specs.Texts.{is_among}
 use Rattle.smv_language.specs.Spells.{minus, SpellsInt, plain_int, minus_int, SpellsDotted, one_name, more_names}
 use Rattle.smv_language.specs.SpellsProgram.{SpellsMany, one_more, SpellsBracketed, brackets, SpellsName, SpellsExpr, SpellsMember, a_symbol, SpellsType, is_boolean, is_range, is_members, SpellsDeclared, is_type, is_instance, is_empty_instance, SpellsDecl, declares, defines, SpellsTarget, always, first, assigns, SpellsFormula, open_ended, ended, HasNoSection, SpellsSection, a_var, an_ivar, a_frozen, a_define, some_constants, an_assign, an_init, an_invar, a_trans, a_section, skipped, SpellsFormals, some_formals, empty_formals, a_module}
 use Rattle.smv_language.specs.SpellsProgram as g
-use Rattle.smv_expression_reader.specs.Recognise.{role_of, State, stuck, is_whole, start}
-use Rattle.smv_expression_reader.specs.Recognise as machine
+use Rattle.smv_expression_reader.specs.Recogniser.{role_of, State, stuck, is_whole, start}
+use Rattle.smv_expression_reader.specs.Recogniser as machine
 use Rattle.smv_expression_reader.specs.Marks.{Mark, w_module, w_var, w_ivar, w_frozen, w_define, w_constants, w_assign, w_init, w_invar, w_trans, w_skipped, w_boolean, w_first, w_after, a_name, a_number, s_open, s_close, s_open_brace, s_close_brace, s_comma, s_semicolon, s_dot, s_minus, mark_of, is_section}
-use Rattle.smv_model_reader.specs.ProgramRead.{Single, the_name, the_number, the_colon, the_becomes, the_semicolon, the_open, the_close, the_dots, Sym, Tail, tail_end, tail_more, is_single, IsName, IsMember, IsFormals, IsActuals, spelled, expr, live, alone, passing, after_type, after_declared, after_section, after, after_actual, next, programs}
-use Rattle.smv_model_reader.specs.ProgramRead as s
+use Rattle.smv_model_reader.specs.ProgramGrammar.{Single, the_name, the_number, the_colon, the_becomes, the_semicolon, the_open, the_close, the_dots, Sym, Tail, tail_end, tail_more, is_single, IsName, IsMember, IsFormals, IsActuals, spelled, expr, live, alone, passing, after_type, after_declared, after_section, after, after_actual, next, programs}
+use Rattle.smv_model_reader.specs.ProgramGrammar as s
 use Rattle.smv_expression_reader.proofs.Accepted.{run_stuck}
 use Rattle.smv_expression_reader.proofs.Rest.{accepted_spelled}
 use Rattle.smv_expression_reader.proofs.Marks.{Marked, marked}

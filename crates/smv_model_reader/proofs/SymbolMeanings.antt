@@ -3,10 +3,10 @@ use Rattle.std.proofs.Common.{◌≡◌, ℕ, true, false, List, [], ◌∷◌, 
 use Rattle.smv_lexer.specs.declared.token.TokenKind.TheVariants as k
 use Rattle.smv_language.specs.Lexemes.{Lexeme, word, num, sign, is_reserved}
 use Rattle.smv_language.specs.SpellsProgram.{SpellsCommas, last_one, one_comma}
-use Rattle.smv_expression_reader.specs.Predict.{Means}
+use Rattle.smv_expression_reader.specs.PredictiveReader.{Means}
 use Rattle.smv_expression_reader.specs.Marks.{Mark, a_name, a_number, s_becomes, s_dots, s_open, s_close, s_semicolon, s_colon, mark_of}
-use Rattle.smv_model_reader.specs.ProgramRead.{Single, the_name, the_number, the_colon, the_becomes, the_semicolon, the_open, the_close, the_dots, Sym, Tail, tail_end, tail_more, is_single, spelled, expr, programs}
-use Rattle.smv_model_reader.specs.ProgramRead as s
+use Rattle.smv_model_reader.specs.ProgramGrammar.{Single, the_name, the_number, the_colon, the_becomes, the_semicolon, the_open, the_close, the_dots, Sym, Tail, tail_end, tail_more, is_single, spelled, expr, programs}
+use Rattle.smv_model_reader.specs.ProgramGrammar as s
 use Rattle.smv_expression_reader.proofs.Marks.{Marked, marked, mark_of_name}
 use Rattle.smv_expression_reader.proofs.Meanings.{Leads}
 use Rattle.smv_expression_reader.proofs.Accepted.{spelled_accepted}

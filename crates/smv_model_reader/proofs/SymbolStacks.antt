@@ -1,7 +1,7 @@
 -- A vector of symbols as a stack.
 use Rattle.std.proofs.Common.{◌≡◌, List, [], ◌∷◌, ◌++◌, refl}
 use Rattle.smv_model_reader.specs.declared.symbols.Symbol.{Symbol}
-use Rattle.smv_model_reader.specs.ProgramRead as read
+use Rattle.smv_model_reader.specs.ProgramGrammar as read
 use Rattle.smv_model_reader.specs.Symbols.{symbol_view, symbols_onto, symbols_of}
 
 onto : (s : List read.Sym) (xs : List Symbol) (x : Symbol) → symbols_onto s (xs ++ x ∷ []) ≡ symbol_view x ∷ symbols_onto s xs

@@ -1,4 +1,4 @@
-pub mod ProgramRead
-pub mod Within
+pub mod ProgramGrammar
+pub mod ProgramDepths
 pub mod Symbols
 pub mod ProgramParts

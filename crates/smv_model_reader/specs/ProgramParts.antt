@@ -4,10 +4,15 @@ use Rattle.smv_language.specs.declared.program.Member.{Member}
 use Rattle.smv_language.specs.declared.program.Member.TheVariants as member
 use Rattle.smv_language.specs.declared.program.Moment.{Moment}
 use Rattle.smv_language.specs.declared.program.Moment.TheVariants.{Always, First, After}
-use Rattle.smv_language.specs.ProgramTree.{Text, Path, Formula, DeclaredTree, boolean, range, members, instance, DeclTree, DefineTree, AssignmentTree, SectionTree, var, ivar, frozen, define, constants, assign, init, invar, trans, ModuleTree, ProgramTree}
+use Rattle.smv_language.specs.ProgramTree.{Text, Path, Formula, DeclaredTree, boolean, range, members, instance, DeclTree, DefineTree}
+use Rattle.smv_language.specs.ProgramTree.{AssignmentTree, SectionTree, var, ivar, frozen, define, constants, assign, init, invar, trans}
+use Rattle.smv_language.specs.ProgramTree.{ModuleTree, ProgramTree}
 use Rattle.smv_language.specs.Lexemes.{Lexeme}
-use Rattle.smv_expression_reader.specs.Marks.{Mark, w_module, w_var, w_ivar, w_frozen, w_define, w_constants, w_assign, w_init, w_invar, w_trans, w_skipped, w_boolean, w_first, w_after, a_name, s_becomes, s_dots, s_open, s_close, s_open_brace, s_close_brace, s_comma, s_semicolon, s_colon, s_dot, is_section}
-use Rattle.smv_expression_reader.specs.Reads.{Read, got, int_at, none, and_then, mark_at, rest_of, has_next, expect_at, name_at, expr_at, next_expr, each_at, some_at, past_semicolon}
+use Rattle.smv_expression_reader.specs.Marks.{Mark, w_module, w_var, w_ivar, w_frozen, w_define, w_constants, w_assign, w_init, w_invar}
+use Rattle.smv_expression_reader.specs.Marks.{w_trans, w_skipped, w_boolean, w_first, w_after, a_name, s_becomes, s_dots, s_open, s_close}
+use Rattle.smv_expression_reader.specs.Marks.{s_open_brace, s_close_brace, s_comma, s_semicolon, s_colon, s_dot, is_section}
+use Rattle.smv_expression_reader.specs.SecondPass.{Read, got, int_at, none, and_then, mark_at, rest_of, has_next, expect_at, name_at}
+use Rattle.smv_expression_reader.specs.SecondPass.{expr_at, next_expr, each_at, some_at, past_semicolon}
 
 -- a name behind a dot or a comma
 abbrev pub next_name : List Lexeme → Read Text
@@ -23,7 +28,8 @@ names_at ts = some_at (has_next s_comma) name_at next_name ts
 
 -- a symbol or a number
 abbrev pub member_at : List Lexeme → Read Member
-member_at ts = if has_next a_name ts then and_then (name_at ts) (λ x r. got (member.Symbol x) r) else and_then (int_at ts) (λ n r. got (member.Number n) r)
+member_at ts = if has_next a_name ts then and_then (name_at ts) (λ x r. got (member.Symbol x) r) else and_then (int_at ts)
+    (λ n r. got (member.Number n) r)
 
 -- a member behind a comma
 abbrev pub next_member : List Lexeme → Read Member
@@ -43,7 +49,8 @@ range_at ts = and_then (int_at ts) (λ lo r. and_then (expect_at s_dots r) (λ _
 
 -- the type of a variable
 abbrev pub type_at : List Lexeme → Read DeclaredTree
-type_at ts = if has_next w_boolean ts then got boolean (rest_of ts) else (if has_next s_open_brace ts then braced_at (rest_of ts) else range_at ts)
+type_at ts = if has_next w_boolean ts then got boolean (rest_of ts) else
+    (if has_next s_open_brace ts then braced_at (rest_of ts) else range_at ts)
 
 -- expressions with commas between
 abbrev pub commas_at : List Lexeme → Read (List Formula)
@@ -55,7 +62,9 @@ closed_at inner ts = and_then (inner ts) (λ a r. and_then (expect_at s_close r)
 
 -- none, or some in parentheses
 abbrev pub bracketed_at : {A : Type 0} → (List Lexeme → Read (List A)) → List Lexeme → Read (List A)
-bracketed_at inner ts = if has_next s_open ts then (if has_next s_close (rest_of ts) then got [] (rest_of (rest_of ts)) else closed_at inner (rest_of ts)) else got [] ts
+bracketed_at inner ts =
+    if has_next s_open ts then (if has_next s_close (rest_of ts) then got [] (rest_of (rest_of ts)) else closed_at inner (rest_of ts)) else
+    got [] ts
 
 -- a module with its actuals
 abbrev pub instance_at : List Lexeme → Read DeclaredTree
@@ -68,7 +77,9 @@ declared_at ts = if has_next a_name ts then instance_at ts else type_at ts
 -- a name and what it is declared as, which a reader reads
 abbrev pub decl_at : (List Lexeme → Read DeclaredTree) → List Lexeme → Read DeclTree
 decl_at what ts =
-    and_then (name_at ts) (λ x r. and_then (expect_at s_colon r) (λ _ s. and_then (what s) (λ d q. and_then (expect_at s_semicolon q) (λ _ z. got (record { name = x; what = d }) z))))
+    and_then (name_at ts)
+    (λ x r. and_then (expect_at s_colon r)
+    (λ _ s. and_then (what s) (λ d q. and_then (expect_at s_semicolon q) (λ _ z. got (record { name = x; what = d }) z))))
 
 -- declarations, as long as a name stands next
 abbrev pub decls_at : (List Lexeme → Read DeclaredTree) → List Lexeme → Read (List DeclTree)
@@ -80,7 +91,10 @@ value_at ts = and_then (expr_at ts) (λ e r. and_then (expect_at s_semicolon r) 
 
 -- a name and its value
 abbrev pub define_at : List Lexeme → Read DefineTree
-define_at ts = and_then (name_at ts) (λ x r. and_then (expect_at s_becomes r) (λ _ s. and_then (value_at s) (λ e q. got (record { name = x; value = e }) q)))
+define_at ts = and_then (name_at ts) (λ x r. and_then (expect_at s_becomes r) (λ _ s. and_then (value_at s) (λ e q. got (record {
+  name = x;
+  value = e;
+}) q)))
 
 -- defines, as long as a name stands next
 abbrev pub defines_at : List Lexeme → Read (List DefineTree)
@@ -107,7 +121,12 @@ target_at After ts = opened_at ts
 -- a target and its value
 abbrev pub assignment_at : List Lexeme → Read AssignmentTree
 assignment_at ts =
-    and_then (target_at (moment_at ts) (past_moment ts)) (λ d r. and_then (expect_at s_becomes r) (λ _ s. and_then (value_at s) (λ e q. got (record { when = moment_at ts; target = d; value = e }) q)))
+    and_then (target_at (moment_at ts) (past_moment ts))
+    (λ d r. and_then (expect_at s_becomes r) (λ _ s. and_then (value_at s) (λ e q. got (record {
+      when = moment_at ts;
+      target = d;
+      value = e;
+    }) q)))
 
 -- whether an assignment begins here
 abbrev pub begins_assignment : List Lexeme → Bool
@@ -161,12 +180,18 @@ abbrev pub sections_at : ℕ → List Lexeme → Read (List SectionTree)
 sections_at zero ts = got [] ts
 sections_at (suc n) ts =
     if has_next w_skipped ts then sections_at n (past_skipped (rest_of ts)) else
-    (if is_kept (mark_at ts) then and_then (section_at (mark_at ts) (rest_of ts)) (λ a r. and_then (sections_at n r) (λ more s. got (a ∷ more) s)) else got [] ts)
+    (if is_kept (mark_at ts) then and_then (section_at (mark_at ts) (rest_of ts)) (λ a r. and_then (sections_at n r) (λ more s. got (a
+    ∷ more) s)) else got [] ts)
 
 -- what follows the word of a module
 abbrev pub module_at : List Lexeme → Read ModuleTree
 module_at ts =
-    and_then (name_at ts) (λ x r. and_then (bracketed_at names_at r) (λ fs s. and_then (sections_at (length s) s) (λ ss q. got (record { name = x; formals = fs; sections = ss }) q)))
+    and_then (name_at ts)
+    (λ x r. and_then (bracketed_at names_at r) (λ fs s. and_then (sections_at (length s) s) (λ ss q. got (record {
+      name = x;
+      formals = fs;
+      sections = ss;
+    }) q)))
 
 -- a module behind its word
 abbrev pub next_module : List Lexeme → Read ModuleTree

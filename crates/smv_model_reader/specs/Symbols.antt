@@ -7,11 +7,11 @@ use Rattle.smv_model_reader.specs.declared.symbols.Symbol.{Symbol}
 use Rattle.smv_model_reader.specs.declared.symbols.Symbol.TheVariants as s
 use Rattle.smv_model_reader.specs.declared.expected.Position.{Position}
 use Rattle.smv_model_reader.specs.declared.expected.Position.TheVariants as p
-use Rattle.smv_expression_reader.specs.Recognise.{Frame, is_stuck}
+use Rattle.smv_expression_reader.specs.Recogniser.{Frame, is_stuck}
 use Rattle.smv_expression_reader.specs.Views.{state_with}
-use Rattle.smv_expression_reader.specs.Predict.{taken}
+use Rattle.smv_expression_reader.specs.PredictiveReader.{taken}
 use Rattle.smv_expression_reader.specs.Marks.{Mark}
-use Rattle.smv_model_reader.specs.ProgramRead as read
+use Rattle.smv_model_reader.specs.ProgramGrammar as read
 
 -- each symbol of the code, by its name in the grammar
 abbrev pub symbol_view : Symbol → read.Sym

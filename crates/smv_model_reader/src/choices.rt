@@ -1,13 +1,13 @@
-// What comes of a part of a program with a token, which the token's mark alone decides.
-//
-// Each function answers whether the part goes on with the mark, and then puts what is still expected of it before
-// the other parts. One function stands for one part, as one case of `after` in `specs/ProgramRead.antt`.
+//! What comes of a part of a program with a token, which the token's mark alone decides.
+//!
+//! Each function answers whether the part goes on with the mark, and then puts what is still expected of it before
+//! the other parts. One function stands for one part, as one case of `after` in `specs/ProgramGrammar.antt`.
 ghost use Rattle.std.specs.Prelude.{◌≡◌, IfOk};
-ghost use Rattle.smv_model_reader.specs.ProgramRead as read;
+ghost use Rattle.smv_model_reader.specs.ProgramGrammar as read;
 ghost use Rattle.smv_expression_reader.specs.MarkView.{mark_view};
 ghost use Rattle.smv_model_reader.specs.Symbols.{symbol_view, choice, Chosen};
 
-use crate::symbols::{Symbol, Symbols};
+use crate::symbols::{ExpectedSymbols, Symbol};
 use base_values::OutOfMemory;
 use smv_expression_reader::mark::Mark;
 
@@ -86,7 +86,7 @@ fn is_dots(mark: Mark) -> bool
 }
 
 /// Modules: one with its name, formals and sections, and more modules.
-fn after_modules(symbols: &mut Symbols, mark: Mark) -> Result<bool, OutOfMemory>
+fn after_modules(symbols: &mut ExpectedSymbols, mark: Mark) -> Result<bool, OutOfMemory>
     ensures { IfOk result (λ on. Chosen on (read.after read.modules (mark_view mark)) symbols.old symbols.new) }
 {
     match mark {
@@ -101,7 +101,7 @@ fn after_modules(symbols: &mut Symbols, mark: Mark) -> Result<bool, OutOfMemory>
 }
 
 /// The formals of a module, where a parenthesis opens them.
-fn after_formals(symbols: &mut Symbols, mark: Mark) -> Result<bool, OutOfMemory>
+fn after_formals(symbols: &mut ExpectedSymbols, mark: Mark) -> Result<bool, OutOfMemory>
     ensures { IfOk result (λ on. Chosen on (read.after read.formals (mark_view mark)) symbols.old symbols.new) }
 {
     match mark {
@@ -111,7 +111,7 @@ fn after_formals(symbols: &mut Symbols, mark: Mark) -> Result<bool, OutOfMemory>
 }
 
 /// The first formal, or the parenthesis that closes none.
-fn after_first_formal(symbols: &mut Symbols, mark: Mark) -> Result<bool, OutOfMemory>
+fn after_first_formal(symbols: &mut ExpectedSymbols, mark: Mark) -> Result<bool, OutOfMemory>
     ensures { IfOk result (λ on. Chosen on (read.after read.first_formal (mark_view mark)) symbols.old symbols.new) }
 {
     match mark {
@@ -122,7 +122,7 @@ fn after_first_formal(symbols: &mut Symbols, mark: Mark) -> Result<bool, OutOfMe
 }
 
 /// Behind a formal: a comma and one more, or the parenthesis that closes them.
-fn after_more_formals(symbols: &mut Symbols, mark: Mark) -> Result<bool, OutOfMemory>
+fn after_more_formals(symbols: &mut ExpectedSymbols, mark: Mark) -> Result<bool, OutOfMemory>
     ensures { IfOk result (λ on. Chosen on (read.after read.more_formals (mark_view mark)) symbols.old symbols.new) }
 {
     match mark {
@@ -133,7 +133,7 @@ fn after_more_formals(symbols: &mut Symbols, mark: Mark) -> Result<bool, OutOfMe
 }
 
 /// A section by its word, and more sections.
-fn after_section(symbols: &mut Symbols, mark: Mark) -> Result<bool, OutOfMemory>
+fn after_section(symbols: &mut ExpectedSymbols, mark: Mark) -> Result<bool, OutOfMemory>
     ensures { IfOk result (λ on. Chosen on (read.after_section (mark_view mark)) symbols.old symbols.new) }
 {
     match mark {
@@ -152,7 +152,7 @@ fn after_section(symbols: &mut Symbols, mark: Mark) -> Result<bool, OutOfMemory>
 }
 
 /// A declaration of a variable or an instance, and more of them.
-fn after_decls(symbols: &mut Symbols, mark: Mark) -> Result<bool, OutOfMemory>
+fn after_decls(symbols: &mut ExpectedSymbols, mark: Mark) -> Result<bool, OutOfMemory>
     ensures { IfOk result (λ on. Chosen on (read.after read.decls (mark_view mark)) symbols.old symbols.new) }
 {
     match mark {
@@ -167,7 +167,7 @@ fn after_decls(symbols: &mut Symbols, mark: Mark) -> Result<bool, OutOfMemory>
 }
 
 /// A declaration of a variable, and more of them.
-fn after_type_decls(symbols: &mut Symbols, mark: Mark) -> Result<bool, OutOfMemory>
+fn after_type_decls(symbols: &mut ExpectedSymbols, mark: Mark) -> Result<bool, OutOfMemory>
     ensures { IfOk result (λ on. Chosen on (read.after read.type_decls (mark_view mark)) symbols.old symbols.new) }
 {
     match mark {
@@ -182,7 +182,7 @@ fn after_type_decls(symbols: &mut Symbols, mark: Mark) -> Result<bool, OutOfMemo
 }
 
 /// A type: `boolean`, a range, or members in braces.
-fn after_type(symbols: &mut Symbols, mark: Mark) -> Result<bool, OutOfMemory>
+fn after_type(symbols: &mut ExpectedSymbols, mark: Mark) -> Result<bool, OutOfMemory>
     ensures { IfOk result (λ on. Chosen on (read.after_type (mark_view mark)) symbols.old symbols.new) }
 {
     match mark {
@@ -195,7 +195,7 @@ fn after_type(symbols: &mut Symbols, mark: Mark) -> Result<bool, OutOfMemory>
 }
 
 /// A module with its actuals, or a type.
-fn after_declared(symbols: &mut Symbols, mark: Mark) -> Result<bool, OutOfMemory>
+fn after_declared(symbols: &mut ExpectedSymbols, mark: Mark) -> Result<bool, OutOfMemory>
     ensures { IfOk result (λ on. Chosen on (read.after_declared (mark_view mark)) symbols.old symbols.new) }
 {
     match mark {
@@ -205,7 +205,7 @@ fn after_declared(symbols: &mut Symbols, mark: Mark) -> Result<bool, OutOfMemory
 }
 
 /// The actuals of an instance, where a parenthesis opens them.
-fn after_actuals(symbols: &mut Symbols, mark: Mark) -> Result<bool, OutOfMemory>
+fn after_actuals(symbols: &mut ExpectedSymbols, mark: Mark) -> Result<bool, OutOfMemory>
     ensures { IfOk result (λ on. Chosen on (read.after read.actuals (mark_view mark)) symbols.old symbols.new) }
 {
     match mark {
@@ -215,7 +215,7 @@ fn after_actuals(symbols: &mut Symbols, mark: Mark) -> Result<bool, OutOfMemory>
 }
 
 /// Behind an actual: a comma and one more, or the parenthesis that closes them.
-fn after_more_actuals(symbols: &mut Symbols, mark: Mark) -> Result<bool, OutOfMemory>
+fn after_more_actuals(symbols: &mut ExpectedSymbols, mark: Mark) -> Result<bool, OutOfMemory>
     ensures { IfOk result (λ on. Chosen on (read.after read.more_actuals (mark_view mark)) symbols.old symbols.new) }
 {
     match mark {
@@ -226,7 +226,7 @@ fn after_more_actuals(symbols: &mut Symbols, mark: Mark) -> Result<bool, OutOfMe
 }
 
 /// A number, with a minus or without.
-fn after_int(symbols: &mut Symbols, mark: Mark) -> Result<bool, OutOfMemory>
+fn after_int(symbols: &mut ExpectedSymbols, mark: Mark) -> Result<bool, OutOfMemory>
     ensures { IfOk result (λ on. Chosen on (read.after read.int (mark_view mark)) symbols.old symbols.new) }
 {
     match mark {
@@ -237,7 +237,7 @@ fn after_int(symbols: &mut Symbols, mark: Mark) -> Result<bool, OutOfMemory>
 }
 
 /// A member of a type: a symbol or a number.
-fn after_member(symbols: &mut Symbols, mark: Mark) -> Result<bool, OutOfMemory>
+fn after_member(symbols: &mut ExpectedSymbols, mark: Mark) -> Result<bool, OutOfMemory>
     ensures { IfOk result (λ on. Chosen on (read.after read.member (mark_view mark)) symbols.old symbols.new) }
 {
     match mark {
@@ -249,7 +249,7 @@ fn after_member(symbols: &mut Symbols, mark: Mark) -> Result<bool, OutOfMemory>
 }
 
 /// Behind a member: a comma and one more, or the brace that closes them.
-fn after_more_members(symbols: &mut Symbols, mark: Mark) -> Result<bool, OutOfMemory>
+fn after_more_members(symbols: &mut ExpectedSymbols, mark: Mark) -> Result<bool, OutOfMemory>
     ensures { IfOk result (λ on. Chosen on (read.after read.more_members (mark_view mark)) symbols.old symbols.new) }
 {
     match mark {
@@ -260,7 +260,7 @@ fn after_more_members(symbols: &mut Symbols, mark: Mark) -> Result<bool, OutOfMe
 }
 
 /// A define, and more of them.
-fn after_defines(symbols: &mut Symbols, mark: Mark) -> Result<bool, OutOfMemory>
+fn after_defines(symbols: &mut ExpectedSymbols, mark: Mark) -> Result<bool, OutOfMemory>
     ensures { IfOk result (λ on. Chosen on (read.after read.defines (mark_view mark)) symbols.old symbols.new) }
 {
     match mark {
@@ -275,7 +275,7 @@ fn after_defines(symbols: &mut Symbols, mark: Mark) -> Result<bool, OutOfMemory>
 }
 
 /// Behind a constant: a comma and one more, or the semicolon that ends them.
-fn after_more_constants(symbols: &mut Symbols, mark: Mark) -> Result<bool, OutOfMemory>
+fn after_more_constants(symbols: &mut ExpectedSymbols, mark: Mark) -> Result<bool, OutOfMemory>
     ensures { IfOk result (λ on. Chosen on (read.after read.more_constants (mark_view mark)) symbols.old symbols.new) }
 {
     match mark {
@@ -286,7 +286,7 @@ fn after_more_constants(symbols: &mut Symbols, mark: Mark) -> Result<bool, OutOf
 }
 
 /// An assignment, for all moments, the first or the next ones, and more of them.
-fn after_assigns(symbols: &mut Symbols, mark: Mark) -> Result<bool, OutOfMemory>
+fn after_assigns(symbols: &mut ExpectedSymbols, mark: Mark) -> Result<bool, OutOfMemory>
     ensures { IfOk result (λ on. Chosen on (read.after read.assigns (mark_view mark)) symbols.old symbols.new) }
 {
     match mark {
@@ -322,7 +322,7 @@ fn after_assigns(symbols: &mut Symbols, mark: Mark) -> Result<bool, OutOfMemory>
 }
 
 /// Behind a name: a dot and one more.
-fn after_more_dots(symbols: &mut Symbols, mark: Mark) -> Result<bool, OutOfMemory>
+fn after_more_dots(symbols: &mut ExpectedSymbols, mark: Mark) -> Result<bool, OutOfMemory>
     ensures { IfOk result (λ on. Chosen on (read.after read.more_dots (mark_view mark)) symbols.old symbols.new) }
 {
     match mark {
@@ -332,7 +332,7 @@ fn after_more_dots(symbols: &mut Symbols, mark: Mark) -> Result<bool, OutOfMemor
 }
 
 /// The semicolon of a formula, which may be left out.
-fn after_last_semicolon(symbols: &mut Symbols, mark: Mark) -> Result<bool, OutOfMemory>
+fn after_last_semicolon(symbols: &mut ExpectedSymbols, mark: Mark) -> Result<bool, OutOfMemory>
     ensures { IfOk result (λ on. Chosen on (read.after read.last_semicolon (mark_view mark)) symbols.old symbols.new) }
 {
     match mark {
@@ -344,7 +344,7 @@ fn after_last_semicolon(symbols: &mut Symbols, mark: Mark) -> Result<bool, OutOf
 /// Whether a part goes on with a token of this mark, and then what is still expected of it. An expression, the first
 /// actual and what is passed over hang on more than the mark.
 #[tactic(auto, using(crate::proofs::ProgramStops::alone_chosen))]
-pub fn after(symbols: &mut Symbols, symbol: Symbol, mark: Mark) -> Result<bool, OutOfMemory>
+pub fn after(symbols: &mut ExpectedSymbols, symbol: Symbol, mark: Mark) -> Result<bool, OutOfMemory>
     ensures { IfOk result (λ on. Chosen on (choice (symbol_view symbol) (mark_view mark)) symbols.old symbols.new) }
 {
     match symbol {

@@ -1,23 +1,23 @@
-// The recogniser of programs: a stack of what is still expected.
-//
-// Outside expressions one token decides what comes. So the stack holds what may still come, and beside it stands an
-// expression that has begun, in whatever state its own recogniser is.
+//! The recogniser of programs: a stack of what is still expected.
+//!
+//! Outside expressions one token decides what comes. So the stack holds what may still come, and beside it stands an
+//! expression that has begun, in whatever state its own recogniser is.
 ghost use Rattle.std.specs.Prelude.{◌≡◌, ◌∷◌, [], List, Some, false, IfOk, IfSome};
-ghost use Rattle.smv_expression_reader.specs.Recognise as machine;
-ghost use Rattle.smv_expression_reader.specs.Recognise.{role_of};
+ghost use Rattle.smv_expression_reader.specs.Recogniser as machine;
+ghost use Rattle.smv_expression_reader.specs.Recogniser.{role_of};
 ghost use Rattle.smv_expression_reader.specs.Views.{state_with};
-ghost use Rattle.smv_model_reader.specs.ProgramRead as read;
-ghost use Rattle.smv_expression_reader.specs.Predict.{step as one_step, all_empty};
+ghost use Rattle.smv_model_reader.specs.ProgramGrammar as read;
+ghost use Rattle.smv_expression_reader.specs.PredictiveReader.{step as one_step, all_empty};
 ghost use Rattle.smv_expression_reader.specs.Readings.{stepped, ReadsTo};
 ghost use Rattle.smv_model_reader.specs.Symbols.{symbol_view, position_view, after_view, between_view, Chosen, Taken, Fits};
 
 use crate::choices::after;
-use crate::symbols::{Symbol, Symbols, may_be_empty};
+use crate::symbols::{ExpectedSymbols, Symbol, may_be_empty};
 use base_values::OutOfMemory;
-use smv_expression_reader::frames::Frames;
+use smv_expression_reader::frames::OpenFrames;
 use smv_expression_reader::machine::{Mode, is_stuck, is_whole, step};
 use smv_expression_reader::mark::Mark;
-use smv_expression_reader::reading::Reading;
+use smv_expression_reader::reading::ReadExtent;
 use smv_expression_reader::token::TokenText;
 use std::alloc::Global;
 
@@ -33,12 +33,13 @@ pub enum Position {
 /// The first token of an expression.
 #[tactic(auto, using(crate::proofs::ProgramStops::live_taken, crate::proofs::ProgramStops::live_stuck))]
 fn begin_formula(
-    frames: &mut Frames,
-    symbols: &mut Symbols,
+    frames: &mut OpenFrames,
+    symbols: &mut ExpectedSymbols,
     token: &TokenText,
 ) -> Result<Option<Position>, OutOfMemory>
     requires { frames.old ≡ [] }
-    ensures next { IfOk result (λ position. Taken position (read.live (machine.step machine.start (role_of token.now)) []) symbols.old frames.new symbols.new) }
+    ensures next { IfOk result
+        (λ position. Taken position (read.live (machine.step machine.start (role_of token.now)) []) symbols.old frames.new symbols.new) }
     ensures fits { IfOk result (λ position. IfSome position (λ p. Fits p frames.new)) }
 {
     let mode = step(Mode::Wants, frames, token.role())?;
@@ -53,8 +54,8 @@ fn begin_formula(
 /// The first token of the actuals, other than what closes them.
 #[tactic(auto, using(crate::proofs::ProgramStops::live_taken, crate::proofs::ProgramStops::live_stuck))]
 fn begin_actuals(
-    frames: &mut Frames,
-    symbols: &mut Symbols,
+    frames: &mut OpenFrames,
+    symbols: &mut ExpectedSymbols,
     token: &TokenText,
 ) -> Result<Option<Position>, OutOfMemory>
     requires { frames.old ≡ [] }
@@ -74,8 +75,8 @@ fn begin_actuals(
 
 /// The first token in the parentheses of actuals.
 fn first_actual(
-    frames: &mut Frames,
-    symbols: &mut Symbols,
+    frames: &mut OpenFrames,
+    symbols: &mut ExpectedSymbols,
     token: &TokenText,
 ) -> Result<Option<Position>, OutOfMemory>
     requires { frames.old ≡ [] }
@@ -89,7 +90,7 @@ fn first_actual(
 }
 
 /// A token of what is passed over.
-fn pass_over(symbols: &mut Symbols, token: &TokenText) -> Result<bool, OutOfMemory>
+fn pass_over(symbols: &mut ExpectedSymbols, token: &TokenText) -> Result<bool, OutOfMemory>
     ensures { IfOk result (λ on. Chosen on (read.next read.skip token.now) symbols.old symbols.new) }
 {
     if token.is_section() {
@@ -109,8 +110,8 @@ fn between(on: bool) -> Option<Position>
 /// What comes of a part with a token, and nothing where the part does not go on with it.
 #[tactic(auto, using(crate::proofs::ProgramStops::chosen_taken))]
 fn take(
-    frames: &mut Frames,
-    symbols: &mut Symbols,
+    frames: &mut OpenFrames,
+    symbols: &mut ExpectedSymbols,
     symbol: Symbol,
     token: &TokenText,
 ) -> Result<Option<Position>, OutOfMemory>
@@ -128,12 +129,13 @@ fn take(
 
 /// One more token between expressions, and nothing where no program goes on with it.
 fn symbols_step(
-    frames: &mut Frames,
-    symbols: &mut Symbols,
+    frames: &mut OpenFrames,
+    symbols: &mut ExpectedSymbols,
     token: &TokenText,
 ) -> Result<Option<Position>, OutOfMemory>
     requires { frames.old ≡ [] }
-    ensures next { IfOk result (λ position. after_view position frames.new symbols.new ≡ one_step read.Sym read.programs symbols.old token.now) }
+    ensures next { IfOk result (λ position. after_view position frames.new symbols.new
+        ≡ one_step read.Sym read.programs symbols.old token.now) }
     ensures fits { IfOk result (λ position. IfSome position (λ p. Fits p frames.new)) }
 {
     while let Some(symbol) = symbols.pop() {
@@ -152,8 +154,8 @@ fn symbols_step(
 /// One more token in an expression, or behind it.
 fn inside_step(
     mode: Mode,
-    frames: &mut Frames,
-    symbols: &mut Symbols,
+    frames: &mut OpenFrames,
+    symbols: &mut ExpectedSymbols,
     token: &TokenText,
 ) -> Result<Option<Position>, OutOfMemory>
     requires { machine.is_stuck (state_with mode frames.old) ≡ false }
@@ -176,8 +178,8 @@ fn inside_step(
 /// One more token, and nothing where no program goes on with it.
 fn program_step(
     position: Position,
-    frames: &mut Frames,
-    symbols: &mut Symbols,
+    frames: &mut OpenFrames,
+    symbols: &mut ExpectedSymbols,
     token: &TokenText,
 ) -> Result<Option<Position>, OutOfMemory>
     requires { Fits position frames.old }
@@ -192,7 +194,7 @@ fn program_step(
 }
 
 /// Whether all that is expected may be nothing. Nothing is expected any more after it.
-fn may_all_be_empty(symbols: &mut Symbols) -> bool
+fn may_all_be_empty(symbols: &mut ExpectedSymbols) -> bool
     ensures { result ≡ all_empty read.Sym read.programs symbols.old }
 {
     while let Some(symbol) = symbols.pop() {
@@ -205,7 +207,7 @@ fn may_all_be_empty(symbols: &mut Symbols) -> bool
 
 /// Whether the program may end here.
 #[tactic(auto, using(crate::proofs::ProgramStops::inside_ends))]
-fn may_end(position: Position, frames: &Frames, symbols: &mut Symbols) -> bool
+fn may_end(position: Position, frames: &OpenFrames, symbols: &mut ExpectedSymbols) -> bool
     ensures { (s : List read.Sym) → position_view position frames.now symbols.old ≡ Some s → result ≡ all_empty read.Sym read.programs s }
 {
     match position {
@@ -215,22 +217,22 @@ fn may_end(position: Position, frames: &Frames, symbols: &mut Symbols) -> bool
 }
 
 /// How far a program can be read.
-pub fn read_program(alloc: Global, tokens: &[TokenText]) -> Result<Reading, OutOfMemory>
+pub fn read_program(alloc: Global, tokens: &[TokenText]) -> Result<ReadExtent, OutOfMemory>
     ensures { IfOk result (λ reading. ReadsTo read.Sym read.programs read.modules tokens.now reading) }
 {
-    let mut frames = Frames::new(alloc);
-    let mut symbols = Symbols::new(alloc);
+    let mut frames = OpenFrames::new(alloc);
+    let mut symbols = ExpectedSymbols::new(alloc);
     symbols.push(Symbol::Modules)?;
     let mut position = Position::Between;
     for (i, token) in tokens.iter().enumerate() {
         match program_step(position, &mut frames, &mut symbols, token)? {
             Some(next) => position = next,
-            None => return Ok(Reading::Stopped(i)),
+            None => return Ok(ReadExtent::Stopped(i)),
         }
     }
     if may_end(position, &frames, &mut symbols) {
-        Ok(Reading::Whole)
+        Ok(ReadExtent::Whole)
     } else {
-        Ok(Reading::Unfinished)
+        Ok(ReadExtent::Unfinished)
     }
 }

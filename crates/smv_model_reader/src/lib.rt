@@ -11,8 +11,8 @@
 //! that is higher than `DEEPEST` or nested deeper. So `TooDeep` never hides another refusal, and both passes take time in
 //! proportion to the tokens.
 //!
-//! The layers above use the call alone. `specs/ProgramRead.antt` has the grammar as one in which a token decides what
-//! is still expected, `specs/ProgramParts.antt` what the second pass reads part by part, `specs/Within.antt` which
+//! The layers above use the call alone. `specs/ProgramGrammar.antt` has the grammar as one in which a token decides what
+//! is still expected, `specs/ProgramParts.antt` what the second pass reads part by part, `specs/ProgramDepths.antt` which
 //! expressions a program has, as they are spelled, and `proofs/` the laws by which the call answers what the grammar
 //! says.
 //!

@@ -1,11 +1,11 @@
-// The call `program`: tokens, then how far they can be read, then the program.
+//! The call `program`: tokens, then how far they can be read, then the program.
 ghost use Rattle.std.specs.Prelude.{◌≡◌, ◌<◌, ◌^◌, List, IfOk, IfErr, length};
 ghost use Rattle.smv_lexer.specs.declared.token.Token.{Token};
 ghost use Rattle.smv_lexer.specs.Tokens.{HasTokens};
 ghost use Rattle.smv_language.specs.ProgramTree.{ProgramTree, program_tree as tree_of_program};
 ghost use Rattle.smv_language.specs.Lexemes.{lexemes_of};
 ghost use Rattle.smv_language.specs.Bytes.{BytesSpellProgram};
-ghost use Rattle.smv_model_reader.specs.Within.{HasProgramDepths, IsProgramTooDeep};
+ghost use Rattle.smv_model_reader.specs.ProgramDepths.{HasProgramDepths, IsProgramTooDeep};
 ghost use Rattle.smv_model_reader.specs.Symbols.{IsProgram};
 ghost use Rattle.smv_expression_reader.specs.Stops.{FaultMeans};
 
@@ -15,7 +15,7 @@ use smv_expression_reader::ParseFault;
 use smv_expression_reader::cursor::Cursor;
 use smv_expression_reader::fault::BuildFault;
 use smv_expression_reader::reader::{split, stop_at};
-use smv_expression_reader::reading::Reading;
+use smv_expression_reader::reading::ReadExtent;
 use smv_expression_reader::token::{TokenText, token_texts};
 use smv_language::Program;
 use smv_lexer::TokenList;
@@ -35,9 +35,9 @@ fn check_program(
     ensures fault { IfErr result (λ fault. FaultMeans IsProgram (IsProgramTooDeep bytes.now) bytes.now fault) }
 {
     match read_program(alloc, texts)? {
-        Reading::Whole => Ok(()),
-        Reading::Unfinished => Err(ParseFault::End(bytes.len() as u32)),
-        Reading::Stopped(i) => Err(stop_at(tokens, texts, i)),
+        ReadExtent::Whole => Ok(()),
+        ReadExtent::Unfinished => Err(ParseFault::End(bytes.len() as u32)),
+        ReadExtent::Stopped(i) => Err(stop_at(tokens, texts, i)),
     }
 }
 

@@ -1,13 +1,14 @@
-// The tree of a program, from the tokens that spell it.
-//
-// Each function goes along with the function on lexemes of the same name in `specs/ProgramParts.antt`. Each round of a
-// loop here takes a token at least, so that no loop has more rounds than tokens are left.
+//! The tree of a program, from the tokens that spell it.
+//!
+//! Each function goes along with the function on lexemes of the same name in `specs/ProgramParts.antt`. Each round of a
+//! loop here takes a token at least, so that no loop has more rounds than tokens are left.
 ghost use Rattle.std.specs.Prelude.{◌≡◌, Err, IfOk, map, length};
-ghost use Rattle.smv_language.specs.Written.{tree_of};
-ghost use Rattle.smv_language.specs.ProgramTree.{declared_tree, decl_tree, define_tree, assignment_tree, section_tree, module_tree, program_tree as tree_of_program};
+ghost use Rattle.smv_language.specs.ExpressionTree.{tree_of};
+ghost use Rattle.smv_language.specs.ProgramTree.{declared_tree, decl_tree, define_tree, assignment_tree, section_tree, module_tree};
+ghost use Rattle.smv_language.specs.ProgramTree.{program_tree as tree_of_program};
 ghost use Rattle.smv_expression_reader.specs.declared.fault.BuildFault.TheVariants as stop;
 ghost use Rattle.smv_expression_reader.specs.MarkView.{mark_view};
-ghost use Rattle.smv_expression_reader.specs.Reads.{got, deep, none};
+ghost use Rattle.smv_expression_reader.specs.SecondPass.{got, deep, none};
 ghost use Rattle.smv_model_reader.specs.ProgramParts as part;
 
 use base_values::{Dotted, Items};

@@ -1,6 +1,6 @@
-// What is still expected of a program: `Symbols`, a stack of parts of the grammar, the next one on top.
+//! What is still expected of a program: `ExpectedSymbols`, a stack of parts of the grammar, the next one on top.
 ghost use Rattle.std.specs.Prelude.{◌≡◌, ◌∷◌, [], OnOk, IfOk, IfSome, None, Some, map};
-ghost use Rattle.smv_model_reader.specs.ProgramRead as read;
+ghost use Rattle.smv_model_reader.specs.ProgramGrammar as read;
 ghost use Rattle.smv_model_reader.specs.Symbols.{symbol_view, Chosen};
 
 use base_values::OutOfMemory;
@@ -64,13 +64,13 @@ pub fn may_be_empty(symbol: Symbol) -> bool
 
 /// All that is still expected, which contracts see as a list with what comes first at its head.
 #[derive(Drop)]
-pub struct Symbols {
+pub struct ExpectedSymbols {
     symbols: Vec<Symbol>,
 }
 
-impl Model for Symbols {
+impl Model for ExpectedSymbols {
     ghost use Rattle.std.specs.Prelude.{List};
-    ghost use Rattle.smv_model_reader.specs.ProgramRead as read;
+    ghost use Rattle.smv_model_reader.specs.ProgramGrammar as read;
     ghost use Rattle.smv_model_reader.specs.Symbols.{symbols_of};
 
     ghost Value = { List read.Sym };
@@ -78,13 +78,13 @@ impl Model for Symbols {
     ghost view = { λ stack. symbols_of stack.symbols.items };
 }
 
-impl Symbols {
+impl ExpectedSymbols {
     /// Nothing is expected.
     #[tactic(auto, using(crate::proofs::SymbolStacks::no_symbols))]
-    pub fn new(alloc: Global) -> Symbols
+    pub fn new(alloc: Global) -> ExpectedSymbols
         ensures { result ≡ [] }
     {
-        Symbols {
+        ExpectedSymbols {
             symbols: Vec::new(alloc),
         }
     }

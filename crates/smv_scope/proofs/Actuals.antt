@@ -5,7 +5,7 @@ use Rattle.std.proofs.lemmas.List.{length-map}
 use Rattle.smv_language.specs.declared.expr.Expr.{Expr}
 use Rattle.smv_language.specs.ProgramTree.{Text, Path, Formula, instance, ModuleTree, ProgramTree}
 use Rattle.smv_language.specs.Texts.{same_text}
-use Rattle.smv_language.specs.Written.{tree_of}
+use Rattle.smv_language.specs.ExpressionTree.{tree_of}
 use Rattle.smv_language.specs.Scope.{Place, an_instance, undeclared, actual_key, find_module, kind_in, kind_at, module_at, plain_name}
 use Rattle.smv_language.specs.Trace.{Each, IsInstance}
 use Rattle.smv_flat_laws.specs.Items.{a_declaration, NumberedModule, items_of, modules_from, modules_of, numbered_items}
@@ -18,9 +18,9 @@ use Rattle.smv_flat_laws.proofs.Listed.{ListedItem, listed_item, root_listed, ac
 use Rattle.smv_flat_laws.proofs.Lists.{each_more}
 use Rattle.smv_flat_laws.proofs.Places.{In}
 use Rattle.smv_scope.specs.SceneTree.{IsCalled, program_of}
-use Rattle.smv_scope.specs.FoundAt.{formal_at}
-use Rattle.smv_scope.specs.Known.{rows, formal_of, IsHead, IsOpen, IsActualTold}
-use Rattle.smv_scope.specs.Waiting.{IsFormal, IsReady}
+use Rattle.smv_scope.specs.TableLookUps.{formal_at}
+use Rattle.smv_scope.specs.KnownFormals.{rows, formal_of, IsHead, IsOpen, IsActualTold}
+use Rattle.smv_scope.specs.WaitingLookUps.{IsFormal, IsReady}
 use Rattle.smv_scope.specs.declared.walk.Spot.{Spot}
 use Rattle.smv_scope.specs.declared.names.Formal.{Formal}
 use Rattle.smv_scope.specs.declared.names.Scene.{Scene}

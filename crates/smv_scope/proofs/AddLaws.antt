@@ -9,7 +9,7 @@ use Rattle.smv_flat_laws.specs.Model as model
 use Rattle.smv_flat_laws.specs.Model.{Adds, AddsAll, same_key, is_key_among}
 use Rattle.smv_scope.specs.NeedsTree.{keys_of, IsKeyAt, AreMeant}
 use Rattle.smv_scope.specs.Links.{Graph, Has}
-use Rattle.smv_scope.specs.Laying.{upto, upto_from, Lays, stands, comes, LaysAll, no_more, one_more}
+use Rattle.smv_scope.specs.DefinitionOrder.{upto, upto_from, Lays, stands, comes, LaysAll, no_more, one_more}
 use Rattle.smv_scope.proofs.LinkLaws.{has_either}
 use Rattle.smv_scope.proofs.KeyLaws.{key_at, key_is}
 use Rattle.smv_scope.proofs.RootLaws.{keys_once}

@@ -9,10 +9,10 @@ use Rattle.smv_language.specs.Scope.{find_module}
 use Rattle.smv_language.specs.Flat.{FlatInstance}
 use Rattle.smv_flat_laws.specs.Items.{instances_of}
 use Rattle.smv_scope.specs.SceneTree.{formals_of, program_of}
-use Rattle.smv_scope.specs.FoundAt.{formal_or, formal_at}
+use Rattle.smv_scope.specs.TableLookUps.{formal_or, formal_at}
 use Rattle.smv_scope.specs.Steps.{is_open, row_count_in, row_count}
-use Rattle.smv_scope.specs.Known.{rows, row_or, formal_of, IsOpen, IsSized, IsSameButFormals}
-use Rattle.smv_scope.specs.Waiting.{IsReady, AreSettled, IsRowAnswered}
+use Rattle.smv_scope.specs.KnownFormals.{rows, row_or, formal_of, IsOpen, IsSized, IsSameButFormals}
+use Rattle.smv_scope.specs.WaitingLookUps.{IsReady, AreSettled, IsRowAnswered}
 use Rattle.smv_scope.specs.declared.names.Formal.{Formal}
 use Rattle.smv_scope.specs.declared.names.Scene.{Scene}
 use Rattle.smv_scope.proofs.SceneItems.{get_map}

@@ -7,13 +7,13 @@ use Rattle.smv_language.specs.declared.expr.Expr.{Expr}
 use Rattle.smv_language.specs.declared.expr.Expr.TheVariants.{Case, SetOf}
 use Rattle.smv_language.specs.declared.expr.Op.TheVariants as op
 use Rattle.smv_language.specs.Tree.{Tree, binary}
-use Rattle.smv_language.specs.Written.{tree_of, trees_of, branches_of}
+use Rattle.smv_language.specs.ExpressionTree.{tree_of, trees_of, branches_of}
 use Rattle.smv_language.proofs.WrittenLaws.{tree_of_case, tree_of_set}
 use Rattle.smv_language.specs.declared.model.Flat.{Flat}
 use Rattle.smv_language.specs.declared.model.Formula.{Formula}
 use Rattle.smv_language.specs.declared.model.Variable.{Variable}
 use Rattle.smv_scope.specs.declared.bounds.Bounds.{Bounds}
-use Rattle.smv_scope.specs.Closed.{is_within, tree_all, trees_all, branches_all, is_closed, is_branch_closed, are_closed, are_earlier, AreVariables, is_variable, is_instance}
+use Rattle.smv_scope.specs.ClosedModels.{is_within, tree_all, trees_all, branches_all, is_closed, is_branch_closed, are_closed, are_earlier, AreVariables, is_variable, is_instance}
 use Rattle.std.proofs.lemmas.Bool.{and_from as both_true}
 use Rattle.smv_language.proofs.BoolLaws.{left_true, right_true}
 

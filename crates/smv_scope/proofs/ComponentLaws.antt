@@ -7,9 +7,9 @@ use Rattle.std.specs.Prelude.{slice_get, ◌↔◌}
 use Rattle.std.specs.List.{list_any}
 use Rattle.smv_language.specs.Trace.{Each}
 use Rattle.smv_flat_laws.proofs.Lists.{get_within}
-use Rattle.smv_scope.specs.declared.circles.Member.{Member}
+use Rattle.smv_scope.specs.declared.circles.CircleMember.{CircleMember}
 use Rattle.smv_scope.specs.Links.{Graph, Has, Reaches, start, further, IsWithin, IsCircle}
-use Rattle.smv_scope.specs.Left.{open_work}
+use Rattle.smv_scope.specs.WorkLeft.{open_work}
 use Rattle.smv_scope.specs.Components.{Leads, IsEnded, IsFinished, component_at, joined, member_of, members, with_own, owns, Joined, join_by, IsIn, AreComponents, is_same, is_back, Covers, Follows, Waits, IsJoining, IsJoined, is_none, left_to_join}
 use Rattle.smv_scope.proofs.LayLaws.{same_or}
 use Rattle.smv_scope.proofs.LeftLaws.{work_taken, work_not_more, unlinked}
@@ -91,12 +91,12 @@ covers_more g r f a (c ∷ order) ended to (inr h) (lead, inr covers) = (lead, i
 covers_more g r f a (c ∷ order) ended to (inr h) (lead, inl e) =
     (lead, inr (covers_below g r f a order ended.2 (subst (λ i. Has order i → ⊥) e ended.0) (subst (Leads g r) e lead) to h))
 
-waits_left : (ms ns : List Member) (k : ℕ) → Waits ms k → Waits (ms ++ ns) k
+waits_left : (ms ns : List CircleMember) (k : ℕ) → Waits ms k → Waits (ms ++ ns) k
 waits_left [] ns k h = absurd h
 waits_left (m ∷ ms) ns k (inl e) = inl e
 waits_left (m ∷ ms) ns k (inr h) = inr (waits_left ms ns k h)
 
-waits_right : (ms ns : List Member) (k : ℕ) → Waits ns k → Waits (ms ++ ns) k
+waits_right : (ms ns : List CircleMember) (k : ℕ) → Waits ns k → Waits (ms ++ ns) k
 waits_right [] ns k h = h
 waits_right (m ∷ ms) ns k h = inr (waits_right ms ns k h)
 
@@ -105,20 +105,20 @@ waits_members n [] k h = absurd h
 waits_members n (j ∷ ks) k (inl e) = inl e
 waits_members n (j ∷ ks) k (inr h) = inr (waits_members n ks k h)
 
-each_both : (P : Member → Type 0) (ms ns : List Member) → Each P ms → Each P ns → Each P (ms ++ ns)
+each_both : (P : CircleMember → Type 0) (ms ns : List CircleMember) → Each P ms → Each P ns → Each P (ms ++ ns)
 each_both P [] ns h more = more
 each_both P (m ∷ ms) ns h more = (h.0, each_both P ms ns h.1 more)
 
-each_on : (P Q : Member → Type 0) → ((m : Member) → P m → Q m) → (ms : List Member) → Each P ms → Each Q ms
+each_on : (P Q : CircleMember → Type 0) → ((m : CircleMember) → P m → Q m) → (ms : List CircleMember) → Each P ms → Each Q ms
 each_on P Q on [] h = tt
 each_on P Q on (m ∷ ms) h = (on m h.0, each_on P Q on ms h.1)
 
-each_member : (P : Member → Type 0) (n : ℕ) (ks : List ℕ) → ((k : ℕ) → Has ks k → P (member_of n k)) → Each P (members n ks)
+each_member : (P : CircleMember → Type 0) (n : ℕ) (ks : List ℕ) → ((k : ℕ) → Has ks k → P (member_of n k)) → Each P (members n ks)
 each_member P n [] h = tt
 each_member P n (k ∷ ks) h = (h k (inl refl), each_member P n ks (λ j i. h j (inr i)))
 
 -- A number was taken that is in no component yet: all that is said of the search but what it is linked to.
-record IsTaken (g : Graph) (count : ℕ) (cs : List (Option ℕ)) (found : List Member) (order : List ℕ) (now k : ℕ) : Type 0 where
+record IsTaken (g : Graph) (count : ℕ) (cs : List (Option ℕ)) (found : List CircleMember) (order : List ℕ) (now k : ℕ) : Type 0 where
   size : length cs ≡ count
   ended : IsEnded g order
   within : (j : ℕ) → Has order j → j < count
@@ -135,7 +135,7 @@ record IsTaken (g : Graph) (count : ℕ) (cs : List (Option ℕ)) (found : List 
 
 module _ (g : Graph) (count : ℕ) (within : IsWithin g count) (back : Graph) (turned : (a b : ℕ) → b < count → Has (back b) a ↔ Has (g a) b) where
   -- it is put into the component
-  taken : (cs : List (Option ℕ)) (found : List Member) (order : List ℕ) (now k : ℕ) → IsTaken g count cs found order now k →
+  taken : (cs : List (Option ℕ)) (found : List CircleMember) (order : List ℕ) (now k : ℕ) → IsTaken g count cs found order now k →
       IsJoining g count (set cs k (Some now)) (members now (back k) ++ found) order now
   taken cs found order now k t =
       record {
@@ -176,7 +176,7 @@ module _ (g : Graph) (count : ℕ) (within : IsWithin g count) (back : Graph) (t
       back_on r j (inl i) = inl (in_after j i)
       back_on r j (inr h) = inr h
 
-      follows_on : (m : Member) → Follows g cs order m → Follows g after order m
+      follows_on : (m : CircleMember) → Follows g cs order m → Follows g after order m
       follows_on m f = record { root = f.root; is = set_keeps cs k now f.root m.component t.new f.is; leads = f.leads; back = back_on f.root m.definition f.back }
 
       lowest : (j n : ℕ) → ((k ≡ j) × (now ≡ n)) ⊎ (component_at cs j ≡ Some n) → now ≤ n
@@ -210,7 +210,7 @@ module _ (g : Graph) (count : ℕ) (within : IsWithin g count) (back : Graph) (t
           le = let same : now ≡ m = e.1 in omega (arith, same)
 
   -- the next number that was found is in a component already
-  found_known : (cs : List (Option ℕ)) (m : Member) (found : List Member) (order : List ℕ) (now n : ℕ) → component_at cs m.definition ≡ Some n → IsJoining g count cs (m ∷ found) order now → IsJoining g count cs found order now
+  found_known : (cs : List (Option ℕ)) (m : CircleMember) (found : List CircleMember) (order : List ℕ) (now n : ℕ) → component_at cs m.definition ≡ Some n → IsJoining g count cs (m ∷ found) order now → IsJoining g count cs found order now
   found_known cs m found order now n is j =
       record {
         size = j.size;
@@ -233,7 +233,7 @@ module _ (g : Graph) (count : ℕ) (within : IsWithin g count) (back : Graph) (t
       by_side a i (inr (le, inr h)) = inr (le, h)
 
   -- the next number that was found is in none yet
-  found_new : (cs : List (Option ℕ)) (m : Member) (found : List Member) (order : List ℕ) (now : ℕ) → component_at cs m.definition ≡ None → IsJoining g count cs (m ∷ found) order now → IsTaken g count cs found order now m.definition
+  found_new : (cs : List (Option ℕ)) (m : CircleMember) (found : List CircleMember) (order : List ℕ) (now : ℕ) → component_at cs m.definition ≡ None → IsJoining g count cs (m ∷ found) order now → IsTaken g count cs found order now m.definition
   found_new cs m found order now new j =
       record {
         size = j.size;
@@ -323,28 +323,28 @@ module _ (g : Graph) (count : ℕ) (within : IsWithin g count) (back : Graph) (t
       old_falls a m (inr (le, n)) = absurd n
 
   -- what waits first is looked at
-  pub join_next : (cs : List (Option ℕ)) (m : Member) (w : List Member) → IsJoined g count (record { of = cs; waiting = m ∷ w }) → IsJoined g count (join_by back (record { of = cs; waiting = w }) m)
+  pub join_next : (cs : List (Option ℕ)) (m : CircleMember) (w : List CircleMember) → IsJoined g count (record { of = cs; waiting = m ∷ w }) → IsJoined g count (join_by back (record { of = cs; waiting = w }) m)
   join_next cs m w j = by_found j.found j.order j.is j.joining
     where
       After : Type 0
       After = IsJoined g count (join_by back (record { of = cs; waiting = w }) m)
 
-      head_is : (x : Member) (xs : List Member) → m ∷ w ≡ x ∷ xs → x ≡ m
+      head_is : (x : CircleMember) (xs : List CircleMember) → m ∷ w ≡ x ∷ xs → x ≡ m
       head_is x xs e = cc
 
-      tail_is : (x : Member) (xs : List Member) → m ∷ w ≡ x ∷ xs → xs ≡ w
+      tail_is : (x : CircleMember) (xs : List CircleMember) → m ∷ w ≡ x ∷ xs → xs ≡ w
       tail_is x xs e = cc
 
-      heads : (x : Member) (xs : List Member) → m ∷ w ≡ x ∷ xs → (x ≡ m) × (xs ≡ w)
+      heads : (x : CircleMember) (xs : List CircleMember) → m ∷ w ≡ x ∷ xs → (x ≡ m) × (xs ≡ w)
       heads x xs e = (head_is x xs e, tail_is x xs e)
 
       no_heads : m ∷ w ≡ [] → ⊥
       no_heads e = cc
 
-      same : (found : List Member) (order : List ℕ) (now n : ℕ) → component_at cs m.definition ≡ Some n → found ++ owns order ≡ w → IsJoining g count cs found order now → After
+      same : (found : List CircleMember) (order : List ℕ) (now n : ℕ) → component_at cs m.definition ≡ Some n → found ++ owns order ≡ w → IsJoining g count cs found order now → After
       same found order now n e is h = rw e (record { found = found; order = order; now = now; is = sym is; joining = h })
 
-      more : (found : List Member) (order : List ℕ) → component_at cs m.definition ≡ None → found ++ owns order ≡ w → IsTaken g count cs found order m.component m.definition → After
+      more : (found : List CircleMember) (order : List ℕ) → component_at cs m.definition ≡ None → found ++ owns order ≡ w → IsTaken g count cs found order m.component m.definition → After
       more found order e is t =
           rw e
           (record {
@@ -355,7 +355,7 @@ module _ (g : Graph) (count : ℕ) (within : IsWithin g count) (back : Graph) (t
             joining = taken cs found order m.component m.definition t;
           })
 
-      by_value_found : (found : List Member) (order : List ℕ) (now : ℕ) → found ++ owns order ≡ w → IsJoining g count cs (m ∷ found) order now → IsIn cs m.definition ⊎ (component_at cs m.definition ≡ None) → After
+      by_value_found : (found : List CircleMember) (order : List ℕ) (now : ℕ) → found ++ owns order ≡ w → IsJoining g count cs (m ∷ found) order now → IsIn cs m.definition ⊎ (component_at cs m.definition ≡ None) → After
       by_value_found found order now is h (inl (n, e)) = same found order now n e is (found_known cs m found order now n e h)
       by_value_found found order now is h (inr e) = more found order e is (subst (λ n. IsTaken g count cs found order n m.definition) (sym h.each.0.1) (found_new cs m found order now e h))
 
@@ -363,13 +363,13 @@ module _ (g : Graph) (count : ℕ) (within : IsWithin g count) (back : Graph) (t
       by_value_first order now is h e (inl (n, f)) = same [] order now n f is (first_known cs m.definition order now n f h)
       by_value_first order now is h e (inr f) = more [] order f is (subst (λ n. IsTaken g count cs [] order n m.definition) (sym e) (first_new cs m.definition order now f h))
 
-      by_found : (found : List Member) (order : List ℕ) → m ∷ w ≡ found ++ owns order → IsJoining g count cs found order j.now → After
+      by_found : (found : List CircleMember) (order : List ℕ) → m ∷ w ≡ found ++ owns order → IsJoining g count cs found order j.now → After
       by_found (x ∷ found) order e h =
           let same_head : (x ≡ m) × (found ++ owns order ≡ w) = heads x (found ++ owns order) e in
           by_value_found found order j.now same_head.1 (subst (λ y. IsJoining g count cs (y ∷ found) order j.now) same_head.0 h) (in_or cs m.definition)
       by_found [] (c ∷ order) e h =
           let same_head : (member_of (length order) c ≡ m) × (owns order ≡ w) = heads (member_of (length order) c) (owns order) e in
-          by_value_first order j.now same_head.1 (subst (λ i. IsJoining g count cs [] (i ∷ order) j.now) (ap (λ (y : Member). y.definition) same_head.0) h) (sym (ap (λ (y : Member). y.component) same_head.0)) (in_or cs m.definition)
+          by_value_first order j.now same_head.1 (subst (λ i. IsJoining g count cs [] (i ∷ order) j.now) (ap (λ (y : CircleMember). y.definition) same_head.0) h) (sym (ap (λ (y : CircleMember). y.component) same_head.0)) (in_or cs m.definition)
       by_found [] [] e h = absurd (no_heads e)
 
 -- each waits for one of its own, the last one first
@@ -418,10 +418,10 @@ join_last g count cs j = by_found j.found j.order j.is j.joining
     by_fall a n m e (inl (i, f, le)) = subst (λ x. m ≤ x) (some_same i n (sym f ∙ e)) le
     by_fall a n m e (inr (le, w)) = absurd w
 
-    filled : (x : Member) (xs : List Member) → [] ≡ x ∷ xs → ⊥
+    filled : (x : CircleMember) (xs : List CircleMember) → [] ≡ x ∷ xs → ⊥
     filled x xs e = cc
 
-    by_found : (found : List Member) (order : List ℕ) → [] ≡ found ++ owns order → IsJoining g count cs found order j.now → AreComponents g count cs
+    by_found : (found : List CircleMember) (order : List ℕ) → [] ≡ found ++ owns order → IsJoining g count cs found order j.now → AreComponents g count cs
     by_found [] [] e h = record { all = λ k i. in_one k (h.rest k i); joined = h.joined; falls = λ a b n m to e f. by_fall a n m e (h.falls a b m to f) }
     by_found [] (c ∷ order) e h = absurd (filled (member_of (length order) c) (owns order) e)
     by_found (x ∷ found) order e h = absurd (filled x (found ++ owns order) e)
@@ -531,12 +531,12 @@ links_taken back count within cs k n size new = by_place (cases_lt k (length cs)
         omega (arith, same, none)
 
 -- what waits first is looked at: less is left
-pub join_less : (back : Graph) (count : ℕ) → IsWithin back count → (now new : Joined) (m : Member) (w : List Member) → length now.of ≡ count → now.waiting ≡ m ∷ w →
+pub join_less : (back : Graph) (count : ℕ) → IsWithin back count → (now new : Joined) (m : CircleMember) (w : List CircleMember) → length now.of ≡ count → now.waiting ≡ m ∷ w →
     new ≡ join_by back (record { of = now.of; waiting = w }) m → left_to_join back new < left_to_join back now
 join_less back count within now new m w size waits turn = subst (λ (s : Joined). left_to_join back s < left_to_join back now) (sym turn) (by_value (component_at now.of m.definition) refl)
   where
     with_first : length now.waiting ≡ suc (length w)
-    with_first = ap (λ (ms : List Member). length ms) waits
+    with_first = ap (λ (ms : List CircleMember). length ms) waits
 
     with_links : length (members m.component (back m.definition) ++ w) ≡ length (back m.definition) + length w
     with_links = length-append (members m.component (back m.definition)) w ∙ ap (λ n. n + length w) (length-map (back m.definition) (member_of m.component))

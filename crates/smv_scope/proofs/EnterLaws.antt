@@ -12,7 +12,7 @@ use Rattle.smv_flat_laws.proofs.Pigeons.{no_more_names}
 use Rattle.smv_scope.specs.declared.items.Numbered.{Numbered}
 use Rattle.smv_language.specs.declared.model.Variable.{Variable}
 use Rattle.smv_scope.specs.declared.modules.Modules.{Modules}
-use Rattle.smv_scope.specs.declared.modules.Names.{Names}
+use Rattle.smv_scope.specs.declared.modules.ModuleNames.{ModuleNames}
 use Rattle.smv_scope.specs.declared.walk.Meaning.{Meaning as Found}
 use Rattle.smv_scope.specs.declared.walk.Spot.{Spot}
 use Rattle.smv_scope.specs.declared.walk.Walk.{Walk}
@@ -20,7 +20,7 @@ use Rattle.smv_scope.specs.ItemTree.{numbered_tree}
 use Rattle.smv_language.specs.ModelTree.{place_of, variable_tree}
 use Rattle.smv_scope.specs.SceneTree.{AreModules, HasNames, number_and_item}
 use Rattle.smv_language.specs.BorrowedTexts.{texts}
-use Rattle.smv_scope.specs.Walking.{Call, calls_in, variables_in, walk_from, program_in, name_in, name_at, call_of, calls_of, variables_of_walk, on_path_of, place_of_spot, place_at, visits_here, visits_within, visits_told, told_from, IsOwnIn, IsCaller, IsSpotOf, IsDeclaredIn, HasWalked, HasGone, HasEntered, IsPath, IsStanding, IsEntry, own_of, with_own}
+use Rattle.smv_scope.specs.InstanceWalk.{Call, calls_in, variables_in, walk_from, program_in, name_in, name_at, call_of, calls_of, variables_of_walk, on_path_of, place_of_spot, place_at, visits_here, visits_within, visits_told, told_from, IsOwnIn, IsCaller, IsSpotOf, IsDeclaredIn, HasWalked, HasGone, HasEntered, IsPath, IsStanding, IsEntry, own_of, with_own}
 use Rattle.smv_scope.proofs.PathLaws.{path_more}
 use Rattle.smv_scope.proofs.WalkLaws.{both_of_map, caller_stays}
 use Rattle.smv_language.proofs.ListLaws.{take_own}
@@ -59,7 +59,7 @@ walk_opens p on at name less =
     let deep : length p - length on ≡ suc (length p - length (name ∷ on)) = omega (arith, less) in
     ap (λ n. walk n p on at name) deep
 
-module _ (ms : Modules) (known : AreModules ms) (w0 : Walk) (spot : Spot) (entry : IsEntry ms w0 spot) (names : Names) (listed : slice_get ms.list.items spot.«module» ≡ Some names) where
+module _ (ms : Modules) (known : AreModules ms) (w0 : Walk) (spot : Spot) (entry : IsEntry ms w0 spot) (names : ModuleNames) (listed : slice_get ms.list.items spot.«module» ≡ Some names) where
   abbrev name : Text
   name = name_at ms spot.«module»
 
@@ -106,7 +106,7 @@ module _ (ms : Modules) (known : AreModules ms) (w0 : Walk) (spot : Spot) (entry
 
     items_same : map numbered_tree names.items.items ≡ map number_and_item (items_named (program_in ms) name)
     items_same =
-        subst (λ (n : Names). map numbered_tree n.items.items ≡ map number_and_item (items_named (program_in ms) name)) same_names
+        subst (λ (n : ModuleNames). map numbered_tree n.items.items ≡ map number_and_item (items_named (program_in ms) name)) same_names
         (entry.is.has.items ∙ sym (ap (map number_and_item) entry.is.items))
 
     -- the items' visits are those inside the instance
@@ -176,7 +176,7 @@ module _ (ms : Modules) (known : AreModules ms) (w0 : Walk) (spot : Spot) (entry
       }
 
 -- The same, by the number that the instance got and the items that the code went through.
-module _ (ms : Modules) (known : AreModules ms) (w0 : Walk) (spot : Spot) (entry : IsEntry ms w0 spot) (names : Names) (listed : slice_get ms.list.items spot.«module» ≡ Some names)
+module _ (ms : Modules) (known : AreModules ms) (w0 : Walk) (spot : Spot) (entry : IsEntry ms w0 spot) (names : ModuleNames) (listed : slice_get ms.list.items spot.«module» ≡ Some names)
     (w1 : Walk) (key : Bor (List ℕ)) (spots : w1.spots.items ≡ w0.spots.items ++ spot ∷ []) (inside : w1.inside.items ≡ w0.inside.items ++ key ∷ []) (key_is : key.now ≡ name_at ms spot.«module»)
     (variables : w1.variables ≡ w0.variables) (number : ℕ) (count : number ≡ length w0.spots.items) (items : List Numbered) (items_are : items ≡ names.items.items) where
   pub stands_there : IsStanding ms w1 number

@@ -1,12 +1,12 @@
 -- The walk ends each number after what it is linked to, or while what it is linked to leads to it.
 use Rattle.std.proofs.Common.{◌≡◌, ℕ, zero, suc, ◌<◌, arith, Bool, false, List, [], ◌∷◌, ◌++◌, length, set, replicate, reverse, refl, ap, ◌∙◌, sym, subst, ◌⊎◌, inl, inr}
 use Rattle.std.proofs.lemmas.List.{reverse-append}
-use Rattle.smv_scope.specs.declared.needs.Mark.{Mark}
-use Rattle.smv_scope.specs.declared.needs.Mark.TheVariants.{Unmet, Begun, Ended}
+use Rattle.smv_scope.specs.declared.needs.WalkMark.{WalkMark}
+use Rattle.smv_scope.specs.declared.needs.WalkMark.TheVariants.{Unmet, Begun, Ended}
 use Rattle.smv_scope.specs.declared.needs.Task.{Task}
 use Rattle.smv_scope.specs.declared.needs.Task.TheVariants.{Visit, End}
 use Rattle.smv_scope.specs.Links.{Graph, Has}
-use Rattle.smv_scope.specs.Laying.{upto, Lay, mark_at, visits, visit_by, lay_by, HasEnd, IsLaying}
+use Rattle.smv_scope.specs.DefinitionOrder.{upto, Lay, mark_at, visits, visit_by, lay_by, HasEnd, IsLaying}
 use Rattle.smv_scope.specs.Components.{Leads, IsEnded, IsFinished, IsMet, Awaits, EndsOnce, IsFinishing}
 use Rattle.smv_scope.proofs.LinkLaws.{has_left, has_right, has_either}
 use Rattle.smv_scope.proofs.LayLaws.{ends_lead, mark_same, mark_other, same_or}
@@ -35,17 +35,17 @@ reversed_has (x ∷ xs) k h = by_side (reversed_has xs k) (has_either (reverse x
     by_side more (inr (inr n)) = absurd n
 
 -- what is met stays so
-met_after : (ms : List Mark) (k j : ℕ) (m : Mark) → k < length ms → (m ≡ Unmet → ⊥) → IsMet ms j → IsMet (set ms k m) j
+met_after : (ms : List WalkMark) (k j : ℕ) (m : WalkMark) → k < length ms → (m ≡ Unmet → ⊥) → IsMet ms j → IsMet (set ms k m) j
 met_after ms k j m within met h e = by_place (same_or k j)
   where
     by_place : (k ≡ j) ⊎ (k ≡ j → ⊥) → ⊥
     by_place (inl same) = met (sym (mark_same ms k m within) ∙ subst (λ i. mark_at (set ms k m) i ≡ Unmet) (sym same) e)
     by_place (inr other) = h (sym (mark_other ms k j m other) ∙ e)
 
-met_now : (ms : List Mark) (k : ℕ) (m : Mark) → k < length ms → (m ≡ Unmet → ⊥) → IsMet (set ms k m) k
+met_now : (ms : List WalkMark) (k : ℕ) (m : WalkMark) → k < length ms → (m ≡ Unmet → ⊥) → IsMet (set ms k m) k
 met_now ms k m within met e = met (sym (mark_same ms k m within) ∙ e)
 
-awaits_on : (g : Graph) (count : ℕ) (ms ms' : List Mark) (before before' : List ℕ) (ts : List Task) → ((b : ℕ) → IsMet ms b → IsMet ms' b) →
+awaits_on : (g : Graph) (count : ℕ) (ms ms' : List WalkMark) (before before' : List ℕ) (ts : List Task) → ((b : ℕ) → IsMet ms b → IsMet ms' b) →
     ((b : ℕ) → Has before b → IsMet ms' b ⊎ Has before' b) → Awaits g count ms before ts → Awaits g count ms' before' ts
 awaits_on g count ms ms' before before' [] met on h = λ b inside. by_side b (h b inside)
   where
@@ -67,7 +67,7 @@ awaits_on g count ms ms' before before' (End k ∷ ts) met on h = (λ b to. by_s
     by_side b (inl m) = inl (met b m)
     by_side b (inr a) = on b a
 
-awaits_visits : (g : Graph) (count : ℕ) (ms : List Mark) (before ks : List ℕ) (ts : List Task) →
+awaits_visits : (g : Graph) (count : ℕ) (ms : List WalkMark) (before ks : List ℕ) (ts : List Task) →
     ((all : List ℕ) → ((b : ℕ) → Has before b ⊎ Has ks b → Has all b) → Awaits g count ms all ts) → Awaits g count ms before (visits ks ++ ts)
 awaits_visits g count ms before [] ts h = h before (λ b. by_side b)
   where
@@ -104,7 +104,7 @@ finishing_first g count =
       ended = tt;
     }
 
-module _ (g : Graph) (count : ℕ) (ms : List Mark) (order : List ℕ) (ts : List Task) (circle : Bool) where
+module _ (g : Graph) (count : ℕ) (ms : List WalkMark) (order : List ℕ) (ts : List Task) (circle : Bool) where
   abbrev before : Task → Lay
   before t = record { marks = ms; order = order; tasks = t ∷ ts; circle = circle }
 
@@ -150,7 +150,7 @@ module _ (g : Graph) (count : ℕ) (ms : List Mark) (order : List ℕ) (ts : Lis
       leads b (inl e) = subst (λ i. Leads g i k) e (leads_self g k)
       leads b (inr h) = reaches_leads g b k (ends_lead g b k ts h l.hangs.0 l.hangs.1)
 
-      by_mark : (b : ℕ) (m : Mark) → mark_at ms b ≡ m → IsMet ms b → Has (reverse order) b ⊎ Leads g b k
+      by_mark : (b : ℕ) (m : WalkMark) → mark_at ms b ≡ m → IsMet ms b → Has (reverse order) b ⊎ Leads g b k
       by_mark b Unmet e h = absurd (h e)
       by_mark b Begun e h = inr (leads b (l.begun b e))
       by_mark b Ended e h = inl (has_reversed order b (l.ended b e))
@@ -216,18 +216,18 @@ module _ (g : Graph) (count : ℕ) (ms : List Mark) (order : List ℕ) (ts : Lis
       same_state : IsFinishing g count popped → IsFinishing g count (visit_by g popped k Begun)
       same_state h = record { awaits = h.awaits; opened = h.opened; once = h.once; closed = h.closed; ended = h.ended }
 
-      by_mark : (m : Mark) → mark_at ms k ≡ m → IsFinishing g count (visit_by g popped k (mark_at ms k))
+      by_mark : (m : WalkMark) → mark_at ms k ≡ m → IsFinishing g count (visit_by g popped k (mark_at ms k))
       by_mark Ended e = rw e (visit_met k (λ u. ended_unmet (sym e ∙ u)) f)
       by_mark Begun e = rw e (same_state (visit_met k (λ u. unmet_begun (sym u ∙ e)) f))
       by_mark Unmet e = rw e (visit_unmet k e l f)
 
-mark_within : (ms : List Mark) (k : ℕ) → mark_at ms k ≡ Ended → k < length ms
+mark_within : (ms : List WalkMark) (k : ℕ) → mark_at ms k ≡ Ended → k < length ms
 mark_within [] k e = cc
 mark_within (m ∷ ms) zero e = omega arith
 mark_within (m ∷ ms) (suc k) e = let more : k < length ms = mark_within ms k e in omega (arith, more)
 
 -- nothing is left to be done
-pub finished : (g : Graph) (count : ℕ) (ms : List Mark) (order : List ℕ) (circle : Bool) → IsLaying g count (record { marks = ms; order = order; tasks = []; circle = circle }) →
+pub finished : (g : Graph) (count : ℕ) (ms : List WalkMark) (order : List ℕ) (circle : Bool) → IsLaying g count (record { marks = ms; order = order; tasks = []; circle = circle }) →
     IsFinishing g count (record { marks = ms; order = order; tasks = []; circle = circle }) → IsFinished g count order
 finished g count ms order circle l f =
     record {
@@ -240,7 +240,7 @@ finished g count ms order circle l f =
     none_before b (inl m) = m
     none_before b (inr n) = absurd n
 
-    by_mark : (k : ℕ) (m : Mark) → mark_at ms k ≡ m → IsMet ms k → mark_at ms k ≡ Ended
+    by_mark : (k : ℕ) (m : WalkMark) → mark_at ms k ≡ m → IsMet ms k → mark_at ms k ≡ Ended
     by_mark k Unmet e met = absurd (met e)
     by_mark k Begun e met = absurd (l.begun k e)
     by_mark k Ended e met = e

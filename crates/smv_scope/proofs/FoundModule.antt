@@ -8,9 +8,9 @@ use Rattle.smv_language.specs.Scope.{find_module}
 use Rattle.smv_language.specs.Texts.{same_text, first_with}
 use Rattle.smv_flat_laws.specs.Items.{items_of, NumberedModule, modules_from, modules_of, numbered_items, items_found}
 use Rattle.smv_flat_laws.proofs.Variables.{both_at}
-use Rattle.smv_scope.specs.declared.modules.Names.{Names}
+use Rattle.smv_scope.specs.declared.modules.ModuleNames.{ModuleNames}
 use Rattle.smv_scope.specs.declared.modules.Modules.{Modules}
-use Rattle.smv_scope.specs.Reading.{IsModuleAt}
+use Rattle.smv_scope.specs.ModuleFaults.{IsModuleAt}
 use Rattle.smv_scope.specs.SceneTree.{AreModules, HasNames, module_entries, module_from}
 use Rattle.smv_scope.proofs.Tables.{looked_up}
 use Rattle.smv_language.specs.BorrowedTexts.{same_borrowed}
@@ -72,19 +72,19 @@ module _ (ms : Modules) (known : AreModules ms) (k : Bor (List ℕ)) where
   facts o place e some = entry_facts 0 place 1 [] (program_tree ms.program.now) k.now (entry_same o e ∙ some)
 
   -- a place is never empty
-  pub listed : (o : Option ℕ) (place : ℕ) → o ≡ get_by (same_borrowed k) ms.places → o ≡ Some place → (names : Names) × (slice_get ms.list.items place ≡ Some names)
+  pub listed : (o : Option ℕ) (place : ℕ) → o ≡ get_by (same_borrowed k) ms.places → o ≡ Some place → (names : ModuleNames) × (slice_get ms.list.items place ≡ Some names)
   listed o place e some =
       let f : EntryFacts 0 place 1 [] (program_tree ms.program.now) k.now = facts o place e some in
       let at : f.steps ≡ place = omega (arith, f.away) in
-      let both : (names : Names) × (slice_get ms.list.items f.steps ≡ Some names) × HasNames f.tree names =
+      let both : (names : ModuleNames) × (slice_get ms.list.items f.steps ≡ Some names) × HasNames f.tree names =
       both_at HasNames (modules_of (program_tree ms.program.now)) ms.list.items f.steps f.tree known.list f.is in
       (both.0, sym (ap (λ i. slice_get ms.list.items i) at) ∙ both.1)
 
-  pub found : (o : Option ℕ) (place : ℕ) (names : Names) → o ≡ get_by (same_borrowed k) ms.places → o ≡ Some place → slice_get ms.list.items place ≡ Some names → IsModuleAt ms k.now place names
+  pub found : (o : Option ℕ) (place : ℕ) (names : ModuleNames) → o ≡ get_by (same_borrowed k) ms.places → o ≡ Some place → slice_get ms.list.items place ≡ Some names → IsModuleAt ms k.now place names
   found o place names e some there =
       let f : EntryFacts 0 place 1 [] (program_tree ms.program.now) k.now = facts o place e some in
       let at : f.steps ≡ place = omega (arith, f.away) in
-      let both : (names : Names) × (slice_get ms.list.items f.steps ≡ Some names) × HasNames f.tree names =
+      let both : (names : ModuleNames) × (slice_get ms.list.items f.steps ≡ Some names) × HasNames f.tree names =
       both_at HasNames (modules_of (program_tree ms.program.now)) ms.list.items f.steps f.tree known.list f.is in
       let some_names : Some both.0 ≡ Some names = sym both.1 ∙ ap (λ i. slice_get ms.list.items i) at ∙ there in
       let same : both.0 ≡ names = cc in
@@ -93,7 +93,7 @@ module _ (ms : Modules) (known : AreModules ms) (k : Bor (List ℕ)) where
         is = ap (λ i. slice_get (modules_of (program_tree ms.program.now)) i) (sym at) ∙ f.is;
         named = f.found;
         items = f.items;
-        has = subst (λ (n : Names). HasNames f.tree n) same both.2;
+        has = subst (λ (n : ModuleNames). HasNames f.tree n) same both.2;
         listed = there;
       }
 
@@ -102,12 +102,12 @@ place_entry : (k : ℕ) (p : ProgramTree) (x : Text) → first_with (module_entr
 place_entry k [] x = refl
 place_entry k (m ∷ p) x = ap (λ o. if same_text m.name x then Some k else o) (place_entry (suc k) p x)
 
-pub main_at : (ms : Modules) → AreModules ms → (names : Names) × IsModuleAt ms (codes "main") ms.main names
+pub main_at : (ms : Modules) → AreModules ms → (names : ModuleNames) × IsModuleAt ms (codes "main") ms.main names
 main_at ms known =
     let f : EntryFacts 0 ms.main 1 [] (program_tree ms.program.now) (codes "main") =
     entry_facts 0 ms.main 1 [] (program_tree ms.program.now) (codes "main") (place_entry 0 (program_tree ms.program.now) (codes "main") ∙ known.main) in
     let at : f.steps ≡ ms.main = omega (arith, f.away) in
-    let both : (names : Names) × (slice_get ms.list.items f.steps ≡ Some names) × HasNames f.tree names =
+    let both : (names : ModuleNames) × (slice_get ms.list.items f.steps ≡ Some names) × HasNames f.tree names =
     both_at HasNames (modules_of (program_tree ms.program.now)) ms.list.items f.steps f.tree known.list f.is in (
       both.0,
       record {

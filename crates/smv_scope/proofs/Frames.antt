@@ -7,7 +7,7 @@ use Rattle.std.proofs.lemmas.Bool.{ltb-true, ltb-false}
 use Rattle.std.proofs.lemmas.List.{append-nil, take_all}
 use Rattle.smv_language.specs.declared.expr.Expr.{Expr}
 use Rattle.smv_language.specs.ProgramTree.{Text, Path, Formula, instance, ProgramTree}
-use Rattle.smv_language.specs.Written.{tree_of}
+use Rattle.smv_language.specs.ExpressionTree.{tree_of}
 use Rattle.smv_language.specs.Scope.{Place, Kind, a_formal, a_variable, a_define, an_instance, undeclared, Meaning, a_variable_at, an_expression_at, an_instance_at, a_symbol, Means, formal_from, kind_after_formals, kind_at, module_at, plain_name, actual_of_kind, nth_formula}
 use Rattle.smv_language.specs.Flat.{FlatInstance}
 use Rattle.smv_flat_laws.specs.Items.{items_of, instances_of}
@@ -15,18 +15,18 @@ use Rattle.smv_flat_laws.specs.Looks.{Look, at_actual, plain_of, step_kind, step
 use Rattle.smv_flat_laws.proofs.EndLaws.{steps_more}
 use Rattle.smv_flat_laws.proofs.KindLaws.{kind_in_items}
 use Rattle.smv_scope.specs.SceneTree.{item_from, local_after, Denotes, IsFound, IsCalled, program_of}
-use Rattle.smv_scope.specs.FoundAt.{formal_or, formal_in, formal_at, told, symbol_at, own_at, by_local, part_at, local_at, found_inside}
+use Rattle.smv_scope.specs.TableLookUps.{formal_or, formal_in, formal_at, told, symbol_at, own_at, by_local, part_at, local_at, found_inside}
 use Rattle.smv_scope.specs.Steps.{step_by_local, known_by, known_at, is_open, gone_inside}
-use Rattle.smv_scope.specs.Known.{rows, row_or, formal_of, IsHead, IsOpen, ShutAt, Shut, IsTold}
-use Rattle.smv_scope.specs.Waiting.{IsFormal, IsFrame, IsReady, IsAnswer, GoesOn, Waits, IsProgress}
+use Rattle.smv_scope.specs.KnownFormals.{rows, row_or, formal_of, IsHead, IsOpen, ShutAt, Shut, IsTold}
+use Rattle.smv_scope.specs.WaitingLookUps.{IsFormal, IsFrame, IsReady, IsAnswer, GoesOn, Waits, IsProgress}
 use Rattle.smv_scope.specs.declared.walk.Meaning.{Meaning as Found}
 use Rattle.smv_scope.specs.declared.walk.Meaning.TheVariants as found
 use Rattle.smv_scope.specs.declared.walk.Spot.{Spot}
 use Rattle.smv_scope.specs.declared.names.Formal.{Formal}
 use Rattle.smv_scope.specs.declared.names.Formal.TheVariants as known
 use Rattle.smv_scope.specs.declared.names.Scene.{Scene}
-use Rattle.smv_scope.specs.declared.formals.Frame.{Frame}
-use Rattle.smv_scope.specs.declared.formals.Part.TheVariants as part
+use Rattle.smv_scope.specs.declared.formals.LookUpFrame.{LookUpFrame}
+use Rattle.smv_scope.specs.declared.formals.PartMeaning.TheVariants as part
 use Rattle.smv_scope.proofs.LookSplit.{never, Reach, reach}
 use Rattle.smv_scope.proofs.LookFound.{found_parts}
 use Rattle.smv_scope.proofs.LookAfter.{found_after, shut_same, shut_more, shut_own, beyond_from, no_instance}
@@ -154,7 +154,7 @@ module _ (s : Scene) (ready : IsReady s) (spot : ℕ) (at : FlatInstance) (st : 
       by_both None None eo ei =
           let h : part.Known (symbol_at s x) ≡ part.Waits i = ap (λ q. known_by s spot (step_by_local s spot true x q)) (sym (locals_are None None eo ei)) ∙ is in cc
 
-module _ (s : Scene) (ready : IsReady s) (f : Frame) (is : IsFrame (program_of s) (rows s) f) where
+module _ (s : Scene) (ready : IsReady s) (f : LookUpFrame) (is : IsFrame (program_of s) (rows s) f) where
   st : Stand s ready.set f.here is.here
   st = stand s ready.set f.here is.here is.is_here
 
@@ -286,7 +286,7 @@ actual_there [] k e h = never e h
 actual_there (x ∷ es) zero e h = h
 actual_there (x ∷ es) (suc k) e h = actual_there es k e h
 
-pub frame_made : (s : Scene) → IsReady s → (f : Frame) → IsFormal (program_of s) f.spot f.formal → (own : Spot) → slice_get s.spots.items f.spot ≡ Some own → f.here ≡ own.caller →
+pub frame_made : (s : Scene) → IsReady s → (f : LookUpFrame) → IsFormal (program_of s) f.spot f.formal → (own : Spot) → slice_get s.spots.items f.spot ≡ Some own → f.here ≡ own.caller →
     (e : Expr Path) → slice_get own.actuals.now f.formal ≡ Some e → plain_name (tree_of e) ≡ Some f.rest.now → 0 < length f.rest.now → IsFrame (program_of s) (rows s) f
 frame_made s ready f formal own is here e there plain some = by_place head.instance.place head.place called
   where

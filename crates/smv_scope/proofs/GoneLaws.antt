@@ -11,8 +11,8 @@ use Rattle.smv_scope.specs.declared.walk.Meaning.{Meaning as Found}
 use Rattle.smv_scope.specs.declared.walk.Walk.{Walk}
 use Rattle.smv_scope.specs.ItemTree.{numbered_tree}
 use Rattle.smv_language.specs.ModelTree.{variable_tree}
-use Rattle.smv_scope.specs.Reading.{told_first, IsTold}
-use Rattle.smv_scope.specs.Walking.{Call, calls_in, calls_declared, variables_in, visits_told, program_in, call_of, calls_of, variables_of_walk, on_path_of, place_at, walk_from, visits_at, visits_here, told_from, IsOwnIn, HasWalked, HasMet, HasGone, IsStanding}
+use Rattle.smv_scope.specs.ModuleFaults.{told_first, IsTold}
+use Rattle.smv_scope.specs.InstanceWalk.{Call, calls_in, calls_declared, variables_in, visits_told, program_in, call_of, calls_of, variables_of_walk, on_path_of, place_at, walk_from, visits_at, visits_here, told_from, IsOwnIn, HasWalked, HasMet, HasGone, IsStanding}
 use Rattle.smv_scope.proofs.ReadingLaws.{told_as, told_here, none_first}
 use Rattle.smv_scope.proofs.WalkLaws.{flat_join, walked_none, own_stays, calls_grow, variables_grow, spots_count, variables_count, path_stays, place_stays, walked_then, told_join}
 use Rattle.smv_scope.proofs.SceneItems.{both_more}

@@ -14,7 +14,7 @@ use Rattle.smv_flat_laws.proofs.KindLaws.{kind_in_items, sections_kind, ItemFact
 use Rattle.smv_flat_laws.proofs.Places.{facts_named, are_instances}
 use Rattle.smv_flat_laws.proofs.Sections.{AreInstances}
 use Rattle.smv_flat_laws.proofs.Walkable.{main_is_there}
-use Rattle.smv_scope.specs.Known.{IsHead}
+use Rattle.smv_scope.specs.KnownFormals.{IsHead}
 use Rattle.smv_scope.proofs.LookSplit.{never}
 use Rattle.smv_scope.proofs.Heads.{among_there}
 use Rattle.smv_flat_laws.proofs.Meant.{formals_once}

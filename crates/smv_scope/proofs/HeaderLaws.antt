@@ -4,7 +4,7 @@ use Rattle.smv_language.specs.ProgramTree.{Text, ModuleTree, ProgramTree}
 use Rattle.smv_language.specs.Texts.{same_text, is_among}
 use Rattle.smv_language.proofs.ValueLaws.{same_text_refl}
 use Rattle.smv_flat_laws.specs.Rules.{main_has_parameters, double_module, has_formals, is_module_among}
-use Rattle.smv_scope.specs.Reading.{told_if, told_first, header_told, texts_of}
+use Rattle.smv_scope.specs.ModuleFaults.{told_if, told_first, header_told, texts_of}
 use Rattle.smv_scope.specs.SceneTree.{module_entries}
 use Rattle.smv_language.proofs.OneTree.{same_text_equal}
 

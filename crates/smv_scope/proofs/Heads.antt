@@ -8,7 +8,7 @@ use Rattle.smv_language.proofs.ValueLaws.{same_text_refl}
 use Rattle.smv_language.specs.Flat.{FlatInstance}
 use Rattle.smv_flat_laws.specs.Items.{instances_of}
 use Rattle.smv_flat_laws.specs.Rules.{has_twice, IsWalkable}
-use Rattle.smv_scope.specs.Known.{IsHead}
+use Rattle.smv_scope.specs.KnownFormals.{IsHead}
 use Rattle.smv_scope.proofs.LookSplit.{never}
 use Rattle.smv_flat_laws.proofs.KeysApart.{one_number}
 use Rattle.smv_flat_laws.proofs.Meant.{formals_once}

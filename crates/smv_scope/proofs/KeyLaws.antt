@@ -21,7 +21,7 @@ use Rattle.smv_language.specs.ModelTree.{role_of}
 use Rattle.smv_scope.specs.SceneTree.{Denotes, IsFound}
 use Rattle.smv_scope.specs.NeedsTree.{keys_of, IsKeyAt}
 use Rattle.smv_scope.specs.Links.{Has}
-use Rattle.smv_scope.specs.Naming.{needed, is_input_role, is_input}
+use Rattle.smv_scope.specs.DefinitionNeeds.{needed, is_input_role, is_input}
 use Rattle.smv_language.proofs.ListLaws.{get_map}
 
 -- the key of a number

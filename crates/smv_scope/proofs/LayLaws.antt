@@ -3,12 +3,12 @@ use Rattle.std.proofs.Common.{◌≡◌, ℕ, zero, suc, ◌+◌, ◌<◌, arith
 use Rattle.std.proofs.lemmas.List.{length-replicate, length-set}
 use Rattle.smv_language.specs.Trace.{Each}
 use Rattle.smv_flat_laws.proofs.Conditions.{each_join}
-use Rattle.smv_scope.specs.declared.needs.Mark.{Mark}
-use Rattle.smv_scope.specs.declared.needs.Mark.TheVariants.{Unmet, Begun, Ended}
+use Rattle.smv_scope.specs.declared.needs.WalkMark.{WalkMark}
+use Rattle.smv_scope.specs.declared.needs.WalkMark.TheVariants.{Unmet, Begun, Ended}
 use Rattle.smv_scope.specs.declared.needs.Task.{Task}
 use Rattle.smv_scope.specs.declared.needs.Task.TheVariants.{Visit, End}
 use Rattle.smv_scope.specs.Links.{Graph, Has, Reaches, start, further}
-use Rattle.smv_scope.specs.Laying.{upto, upto_from, IsInto, Lays, stands, comes, LaysAll, no_more, one_more, Lay, mark_at, visits, visit_by, lay_by, Ends, number_of, HasEnd, IsFor, Hangs, IsLaying}
+use Rattle.smv_scope.specs.DefinitionOrder.{upto, upto_from, IsInto, Lays, stands, comes, LaysAll, no_more, one_more, Lay, mark_at, visits, visit_by, lay_by, Ends, number_of, HasEnd, IsFor, Hangs, IsLaying}
 use Rattle.smv_scope.proofs.LinkLaws.{has_left, has_right, has_either}
 
 -- visits in front of other tasks
@@ -105,12 +105,12 @@ laying_first g count =
     all_of after (between, all, e) = subst (LaysAll g [] (upto count)) (sym e) all
 
 -- marks after one is set
-pub mark_same : (ms : List Mark) (k : ℕ) (m : Mark) → k < length ms → mark_at (set ms k m) k ≡ m
+pub mark_same : (ms : List WalkMark) (k : ℕ) (m : WalkMark) → k < length ms → mark_at (set ms k m) k ≡ m
 mark_same [] k m within = absurd (omega arith)
 mark_same (x ∷ ms) zero m within = refl
 mark_same (x ∷ ms) (suc k) m within = mark_same ms k m (omega arith)
 
-pub mark_other : (ms : List Mark) (k j : ℕ) (m : Mark) → (k ≡ j → ⊥) → mark_at (set ms k m) j ≡ mark_at ms j
+pub mark_other : (ms : List WalkMark) (k j : ℕ) (m : WalkMark) → (k ≡ j → ⊥) → mark_at (set ms k m) j ≡ mark_at ms j
 mark_other [] k j m other = refl
 mark_other (x ∷ ms) zero zero m other = absurd (other refl)
 mark_other (x ∷ ms) zero (suc j) m other = refl
@@ -136,7 +136,7 @@ same_or (suc k) (suc j) = by_side (same_or k j)
     by_side (inl e) = inl (ap suc e)
     by_side (inr n) = inr (λ e. n (one_back e))
 
-module _ (g : Graph) (count : ℕ) (into : IsInto g count) (ms : List Mark) (order : List ℕ) (ts : List Task) (circle : Bool) where
+module _ (g : Graph) (count : ℕ) (into : IsInto g count) (ms : List WalkMark) (order : List ℕ) (ts : List Task) (circle : Bool) where
   abbrev before : Task → Lay
   before t = record { marks = ms; order = order; tasks = t ∷ ts; circle = circle }
 
@@ -253,7 +253,7 @@ module _ (g : Graph) (count : ℕ) (into : IsInto g count) (ms : List Mark) (ord
   laying_by (End k) h = end_task k h
   laying_by (Visit k) h = by_mark (mark_at ms k) refl
     where
-      by_mark : (m : Mark) → mark_at ms k ≡ m → IsLaying g count (visit_by g popped k (mark_at ms k))
+      by_mark : (m : WalkMark) → mark_at ms k ≡ m → IsLaying g count (visit_by g popped k (mark_at ms k))
       by_mark Ended e = rw e (visit_ended k e h)
       by_mark Begun e = rw e (visit_begun k e h)
       by_mark Unmet e = rw e (visit_unmet k e h)

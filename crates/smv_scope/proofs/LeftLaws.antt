@@ -5,13 +5,13 @@ use Rattle.std.proofs.lemmas.List.{length-append, length-map}
 use Rattle.std.specs.Prelude.{slice_get}
 use Rattle.smv_language.specs.Trace.{Each}
 use Rattle.smv_flat_laws.proofs.Lists.{get_within}
-use Rattle.smv_scope.specs.declared.needs.Mark.{Mark}
-use Rattle.smv_scope.specs.declared.needs.Mark.TheVariants.{Unmet, Begun, Ended}
+use Rattle.smv_scope.specs.declared.needs.WalkMark.{WalkMark}
+use Rattle.smv_scope.specs.declared.needs.WalkMark.TheVariants.{Unmet, Begun, Ended}
 use Rattle.smv_scope.specs.declared.needs.Task.{Task}
 use Rattle.smv_scope.specs.declared.needs.Task.TheVariants.{Visit, End}
 use Rattle.smv_scope.specs.Links.{Has, Graph, IsWithin, Spread, is_marked, told_mark, spread_by}
-use Rattle.smv_scope.specs.Laying.{Lay, mark_or, mark_at, visits, visit_by, lay_by, number_of, IsLaying}
-use Rattle.smv_scope.specs.Left.{open_work, left_to_spread, is_unmet, left_to_lay}
+use Rattle.smv_scope.specs.DefinitionOrder.{Lay, mark_or, mark_at, visits, visit_by, lay_by, number_of, IsLaying}
+use Rattle.smv_scope.specs.WorkLeft.{open_work, left_to_spread, is_unmet, left_to_lay}
 use Rattle.std.proofs.lemmas.Option.{same_Some as some_same}
 use Rattle.smv_language.specs.Values.{opposite}
 
@@ -77,11 +77,11 @@ spread_less g count within now new w k size waits turn = subst (λ (s : Spread).
     by_mark false m = let taken = links_taken g count within now.reached k size m in rw m (omega (arith, with_last, with_links, taken))
 
 -- a number that is not met yet is begun
-visits_taken : (g : Graph) (ms : List Mark) (k : ℕ) → k < length ms → mark_at ms k ≡ Unmet →
+visits_taken : (g : Graph) (ms : List WalkMark) (k : ℕ) → k < length ms → mark_at ms k ≡ Unmet →
     open_work is_unmet (λ i. suc (length (g i))) ms ≡ suc (length (g k)) + open_work is_unmet (λ i. suc (length (g i))) (set ms k Begun)
 visits_taken g ms k inside unmet = by_value (get_within ms k inside)
   where
-    by_value : (m : Mark) × (slice_get ms k ≡ Some m) → open_work is_unmet (λ i. suc (length (g i))) ms ≡ suc (length (g k)) + open_work is_unmet (λ i. suc (length (g i))) (set ms k Begun)
+    by_value : (m : WalkMark) × (slice_get ms k ≡ Some m) → open_work is_unmet (λ i. suc (length (g i))) ms ≡ suc (length (g k)) + open_work is_unmet (λ i. suc (length (g i))) (set ms k Begun)
     by_value (m, e) = work_taken is_unmet (λ i. suc (length (g i))) ms k m Begun e (ap is_unmet (sym (ap mark_or e) ∙ unmet)) refl
 
 abbrev popped : Lay → List Task → Lay
@@ -95,7 +95,7 @@ laying_less g count now new t ts h first turn = subst (λ (s : Lay). left_to_lay
     with_first : length now.tasks ≡ suc (length ts)
     with_first = ap (λ (us : List Task). length us) first
 
-    by_mark : (k : ℕ) → k < count → (m : Mark) → mark_at now.marks k ≡ m → left_to_lay g (visit_by g (popped now ts) k (mark_at now.marks k)) < left_to_lay g now
+    by_mark : (k : ℕ) → k < count → (m : WalkMark) → mark_at now.marks k ≡ m → left_to_lay g (visit_by g (popped now ts) k (mark_at now.marks k)) < left_to_lay g now
     by_mark k inside Ended e = rw e (omega (arith, with_first))
     by_mark k inside Begun e = rw e (omega (arith, with_first))
     by_mark k inside Unmet e =

@@ -8,7 +8,7 @@ use Rattle.smv_flat_laws.proofs.LookLaws.{after_means, after_longer, meets_loop_
 use Rattle.smv_flat_laws.proofs.EndLaws.{steps_more}
 use Rattle.smv_flat_laws.proofs.Resolving.{means_on, same_meaning}
 use Rattle.smv_scope.specs.SceneTree.{Denotes, IsFound}
-use Rattle.smv_scope.specs.Known.{IsOpenAt, ShutAt, Shut, ShutBeyond}
+use Rattle.smv_scope.specs.KnownFormals.{IsOpenAt, ShutAt, Shut, ShutBeyond}
 use Rattle.smv_scope.specs.declared.walk.Meaning.{Meaning as Found}
 use Rattle.smv_scope.specs.declared.walk.Meaning.TheVariants as found
 use Rattle.smv_scope.specs.declared.names.Formal.{Formal}

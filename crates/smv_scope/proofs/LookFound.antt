@@ -11,7 +11,7 @@ use Rattle.smv_flat_laws.proofs.EndLaws.{steps_more}
 use Rattle.smv_flat_laws.proofs.Resolving.{same_meaning}
 use Rattle.smv_flat_laws.proofs.Through.{Through, through, through_back}
 use Rattle.smv_scope.specs.SceneTree.{Denotes, IsFound}
-use Rattle.smv_scope.specs.FoundAt.{found_inside}
+use Rattle.smv_scope.specs.TableLookUps.{found_inside}
 use Rattle.smv_scope.specs.declared.walk.Meaning.{Meaning as Found}
 use Rattle.smv_scope.specs.declared.walk.Meaning.TheVariants as found
 use Rattle.smv_scope.proofs.LookSplit.{never, HasPart, with_more, named_look, Split, within, beyond, split, Reach, reach}

@@ -5,7 +5,7 @@ use Rattle.indexmap.specs.IndexMap.{IndexMap, get, insert_entry}
 use Rattle.indexmap.proofs.CallerLemmas.{insert_entry-new}
 use Rattle.smv_language.specs.ProgramTree.{Text}
 use Rattle.smv_language.specs.Texts.{same_text, is_among, first_with}
-use Rattle.smv_scope.specs.Reading.{texts_of}
+use Rattle.smv_scope.specs.ModuleFaults.{texts_of}
 use Rattle.smv_scope.specs.SceneTree.{named}
 use Rattle.smv_scope.proofs.Tables.{looked_up}
 use Rattle.smv_language.specs.BorrowedTexts.{same_borrowed}

@@ -9,7 +9,7 @@ use Rattle.smv_language.specs.declared.program.Declared.{Declared}
 use Rattle.smv_language.specs.declared.program.Declared.TheVariants as declared
 use Rattle.smv_language.specs.Scope.{Place, Role}
 use Rattle.smv_language.specs.Texts.{is_among}
-use Rattle.smv_language.specs.Written.{tree_of}
+use Rattle.smv_language.specs.ExpressionTree.{tree_of}
 use Rattle.smv_language.specs.Flat.{FlatVariable}
 use Rattle.smv_flat_laws.specs.Items.{Item as ItemOf, a_declaration, Visit}
 use Rattle.smv_flat_laws.proofs.Lists.{get_within}
@@ -18,15 +18,15 @@ use Rattle.smv_scope.specs.declared.items.Item.TheVariants as code
 use Rattle.smv_language.specs.declared.model.Variable.{Variable}
 use Rattle.smv_language.specs.declared.model.Role.{Role as RoleWord}
 use Rattle.smv_scope.specs.declared.modules.Modules.{Modules}
-use Rattle.smv_scope.specs.declared.modules.Names.{Names}
+use Rattle.smv_scope.specs.declared.modules.ModuleNames.{ModuleNames}
 use Rattle.smv_scope.specs.declared.walk.Meaning.TheVariants as found
 use Rattle.smv_scope.specs.declared.walk.Spot.{Spot}
 use Rattle.smv_scope.specs.declared.walk.Walk.{Walk}
-use Rattle.smv_scope.specs.Closed.{is_instance}
+use Rattle.smv_scope.specs.ClosedModels.{is_instance}
 use Rattle.smv_scope.specs.ItemTree.{item_tree}
 use Rattle.smv_language.specs.ModelTree.{role_of, place_of, variable_tree}
-use Rattle.smv_scope.specs.Reading.{told_first, IsModuleAt}
-use Rattle.smv_scope.specs.Walking.{Call, calls_in, variables_in, instance_told, visits_told, walk_from, program_in, name_in, name_at, IsCaller, IsEntry, IsModuleOf, IsStanding, call_of, calls_of, variables_of_walk, on_path_of, place_of_spot, place_at, visits_at, visits_within, told_from, IsVariableIn, IsOwnIn, IsSpotOf, IsDeclaredIn, HasWalked, HasMet, HasEntered}
+use Rattle.smv_scope.specs.ModuleFaults.{told_first, IsModuleAt}
+use Rattle.smv_scope.specs.InstanceWalk.{Call, calls_in, variables_in, instance_told, visits_told, walk_from, program_in, name_in, name_at, IsCaller, IsEntry, IsModuleOf, IsStanding, call_of, calls_of, variables_of_walk, on_path_of, place_of_spot, place_at, visits_at, visits_within, told_from, IsVariableIn, IsOwnIn, IsSpotOf, IsDeclaredIn, HasWalked, HasMet, HasEntered}
 use Rattle.smv_scope.proofs.EnterLaws.{get_here}
 use Rattle.smv_scope.proofs.WalkLaws.{walked_none}
 use Rattle.smv_language.proofs.ListLaws.{get_map}
@@ -179,7 +179,7 @@ module _ (ms : Modules) (w : Walk) (spot n : ℕ) where
   told_other i other = ap (told_from ms w) (nothing_at i other)
 
 -- The instance that a declaration hands to the walk.
-pub module_named : (ms : Modules) (x : Text) (k : ℕ) (names : Names) → IsModuleAt ms x k names → name_at ms k ≡ x
+pub module_named : (ms : Modules) (x : Text) (k : ℕ) (names : ModuleNames) → IsModuleAt ms x k names → name_at ms k ≡ x
 module_named ms x k names is = ap name_in is.listed ∙ ap (λ (t : ModuleTree). t.name) is.has.tree ∙ found_named (program_in ms) x is.tree.tree is.named
 
 module _ (ms : Modules) (w0 : Walk) (x m : Text) (inner : Spot) (standing : IsStanding ms w0 inner.caller) (at_module : IsModuleOf ms w0 m inner.«module») (placed : place_of inner.path ≡ x ∷ place_at w0 inner.caller) where

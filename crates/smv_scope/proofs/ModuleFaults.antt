@@ -13,7 +13,7 @@ use Rattle.smv_flat_laws.proofs.FaultLaws.{IsLowest, IsFirstOf, Outcome, first_b
 use Rattle.smv_scope.specs.declared.fault.FlatFault.{FlatFault}
 use Rattle.smv_scope.specs.Faults.{rule_of, IsFaultOf}
 use Rattle.smv_scope.specs.ItemTree.{counted_from}
-use Rattle.smv_scope.specs.Reading.{Told, told_if, told_first, IsTold, formals_told, items_told, header_told, module_told, modules_told}
+use Rattle.smv_scope.specs.ModuleFaults.{Told, told_if, told_first, IsTold, formals_told, items_told, header_told, module_told, modules_told}
 use Rattle.smv_scope.specs.SceneTree.{module_from}
 use Rattle.smv_scope.proofs.MainLaws.{nowhere}
 use Rattle.smv_language.proofs.OneTree.{same_text_equal}

@@ -6,7 +6,7 @@ use Rattle.smv_scope.specs.declared.fault.FlatFault.{FlatFault}
 use Rattle.smv_scope.specs.declared.items.Numbered.{Numbered}
 use Rattle.smv_scope.specs.declared.modules.Local.{Local}
 use Rattle.smv_scope.specs.ItemTree.{numbered_tree, counted_from}
-use Rattle.smv_scope.specs.Reading.{IsTold, texts_of, formals_told, items_told, names_told, item_of_numbered}
+use Rattle.smv_scope.specs.ModuleFaults.{IsTold, texts_of, formals_told, items_told, names_told, item_of_numbered}
 use Rattle.smv_scope.specs.SceneTree.{formal_entries, item_entries, local_entries}
 use Rattle.smv_scope.proofs.ReadingLaws.{told_as, told_later, none_first}
 

@@ -5,7 +5,7 @@ use Rattle.std.specs.Borrow.{Bor}
 use Rattle.std.specs.declared.alloc.Global.{Global}
 use Rattle.smv_language.specs.declared.expr.Expr.{Expr}
 use Rattle.smv_language.specs.ProgramTree.{Text, Path, Formula, ProgramTree, program_tree}
-use Rattle.smv_language.specs.Written.{tree_of}
+use Rattle.smv_language.specs.ExpressionTree.{tree_of}
 use Rattle.smv_language.specs.Scope.{Place, a_formal, actual_key, Meaning, an_expression_at, plain_name, through_plain, through_actual, by_kind, kind_at, module_at, actual_of_kind, means_in, Means}
 use Rattle.smv_language.specs.Trace.{Each, EachBoth}
 use Rattle.smv_language.specs.Flat.{FlatInstance}
@@ -15,9 +15,9 @@ use Rattle.smv_flat_laws.specs.Rules.{IsWalkable, expression_of, expression_in}
 use Rattle.smv_flat_laws.specs.Model.{Root, root_of_actual, roots_of}
 use Rattle.smv_flat_laws.proofs.LookLaws.{comes_back_nothing}
 use Rattle.smv_scope.specs.SceneTree.{AreModules, Denotes, IsKnown, IsDefined, program_of}
-use Rattle.smv_scope.specs.Known.{rows, rows_with, formal_of, IsHead, IsOpen, IsTold, ShutAt, ShutBeyond, AreTold, IsActualTold, IsSameButFormals}
-use Rattle.smv_scope.specs.Laid.{IsLaidSpot, IsLaid, IsLeft, IsNaming, IsSameProgram, IsActualAt, NamesActual}
-use Rattle.smv_scope.specs.Waiting.{AreSettled}
+use Rattle.smv_scope.specs.KnownFormals.{rows, rows_with, formal_of, IsHead, IsOpen, IsTold, ShutAt, ShutBeyond, AreTold, IsActualTold, IsSameButFormals}
+use Rattle.smv_scope.specs.NumberedScenes.{IsLaidSpot, IsLaid, IsLeft, IsNaming, IsSameProgram, IsActualAt, NamesActual}
+use Rattle.smv_scope.specs.WaitingLookUps.{AreSettled}
 use Rattle.smv_scope.specs.declared.modules.Modules.{Modules}
 use Rattle.smv_scope.specs.declared.walk.Meaning.{Meaning as Found}
 use Rattle.smv_scope.specs.declared.walk.Meaning.TheVariants as found

@@ -9,7 +9,7 @@ use Rattle.smv_language.specs.declared.expr.Expr.{Expr}
 use Rattle.smv_language.specs.declared.program.Decl.{Decl}
 use Rattle.smv_language.specs.declared.program.Define.{Define}
 use Rattle.smv_language.specs.ProgramTree.{Text, Path, Formula, instance, DeclTree, DefineTree, ProgramTree}
-use Rattle.smv_language.specs.Written.{tree_of}
+use Rattle.smv_language.specs.ExpressionTree.{tree_of}
 use Rattle.smv_language.specs.Scope.{Place, Role, kind_declared, a_define, define_key, actual_key, an_instance_at, plain_name, kind_at, module_at, actual_of_kind}
 use Rattle.smv_language.specs.Flat.{FlatInstance}
 use Rattle.smv_flat_laws.specs.Items.{Item as ItemOf, a_declaration, a_definition, an_assignment, some_constants, an_init, an_invar, a_trans, NumberedItem, items_named, instances_of}
@@ -19,10 +19,10 @@ use Rattle.smv_flat_laws.proofs.Variables.{both_at, both_at_second}
 use Rattle.smv_scope.specs.ItemTree.{item_tree, numbered_tree}
 use Rattle.smv_language.specs.BorrowedTexts.{texts}
 use Rattle.smv_scope.specs.SceneTree.{AreModules, IsPlaced, IsSet, Denotes, IsOwn, IsWalked, IsSpotWalked, IsSpot, IsDefined, meaning_of_declared, number_and_item, program_of}
-use Rattle.smv_scope.specs.FoundAt.{own_at, own_in, found_or}
+use Rattle.smv_scope.specs.TableLookUps.{own_at, own_in, found_or}
 use Rattle.smv_scope.specs.Steps.{numbered_at, count_in}
-use Rattle.smv_scope.specs.Known.{rows_of, rows, AreTold}
-use Rattle.smv_scope.specs.Laid.{IsLaidSpot, IsLaid, IsNaming, IsSameProgram, IsActualAt, NamesActual, IsItemAt, NamesDeclared, AreActualsAt, NamesActuals, NamesItem, roots_at, NamesItems, with_own_in, with_own, IsSpotBy, IsNamedTo}
+use Rattle.smv_scope.specs.KnownFormals.{rows_of, rows, AreTold}
+use Rattle.smv_scope.specs.NumberedScenes.{IsLaidSpot, IsLaid, IsNaming, IsSameProgram, IsActualAt, NamesActual, IsItemAt, NamesDeclared, AreActualsAt, NamesActuals, NamesItem, roots_at, NamesItems, with_own_in, with_own, IsSpotBy, IsNamedTo}
 use Rattle.smv_language.specs.declared.model.Role.{Role as Role'}
 use Rattle.smv_scope.specs.declared.items.Item.{Item}
 use Rattle.smv_scope.specs.declared.items.Item.TheVariants as code

@@ -3,10 +3,10 @@ use Rattle.std.proofs.Common.{◌≡◌, ℕ, ◌≤◌, Bool, false, ◌||◌, 
 use Rattle.std.proofs.lemmas.List.{append-nil, drop_all}
 use Rattle.smv_language.specs.ProgramTree.{Path, Formula}
 use Rattle.smv_language.specs.Trace.{Each}
-use Rattle.smv_flat_laws.specs.Resolved.{leaves_in}
+use Rattle.smv_flat_laws.specs.NameResolution.{leaves_in}
 use Rattle.smv_scope.specs.declared.names.Scene.{Scene}
-use Rattle.smv_scope.specs.Flagged.{flagged}
-use Rattle.smv_scope.specs.Naming.{needs_in, reads_in, first_names, IsFoundAt}
+use Rattle.smv_scope.specs.NextFlags.{flagged}
+use Rattle.smv_scope.specs.DefinitionNeeds.{needs_in, reads_in, first_names, IsFoundAt}
 use Rattle.smv_scope.proofs.UsesLaws.{flagged_leaves, or_false}
 
 -- where no name is left, what is named so far is what the expression names

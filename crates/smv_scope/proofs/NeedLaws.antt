@@ -5,10 +5,10 @@ use Rattle.std.specs.Prelude.{slice_get}
 use Rattle.smv_language.specs.ProgramTree.{Path, Formula, ProgramTree}
 use Rattle.smv_language.specs.Scope.{Place, Key, Meaning, a_variable_at, an_expression_at, an_instance_at, a_symbol, Means}
 use Rattle.smv_language.specs.Trace.{Each, AtSome}
-use Rattle.smv_language.specs.Written.{tree_of}
+use Rattle.smv_language.specs.ExpressionTree.{tree_of}
 use Rattle.smv_language.specs.Flat.{FlatInstance}
 use Rattle.smv_flat_laws.specs.Items.{instances_of}
-use Rattle.smv_flat_laws.specs.Resolved.{leaves_in}
+use Rattle.smv_flat_laws.specs.NameResolution.{leaves_in}
 use Rattle.smv_flat_laws.specs.Rules.{Needs, Leads, NeedsItself, MeansInput, IsWalkable, expression_of}
 use Rattle.smv_flat_laws.specs.Model.{Root, roots_of, AreNamed}
 use Rattle.smv_flat_laws.proofs.Conditions.{each_at}
@@ -18,10 +18,10 @@ use Rattle.smv_scope.specs.declared.walk.Meaning.TheVariants as found
 use Rattle.smv_scope.specs.declared.names.Defined.{Defined}
 use Rattle.smv_scope.specs.declared.names.Scene.{Scene}
 use Rattle.smv_scope.specs.SceneTree.{Denotes, IsFound, IsDefined, IsScene, program_of}
-use Rattle.smv_scope.specs.FoundAt.{found_at}
+use Rattle.smv_scope.specs.TableLookUps.{found_at}
 use Rattle.smv_scope.specs.NeedsTree.{KeyReadsInput, keys_of, IsKeyAt, IsMeant}
 use Rattle.smv_scope.specs.Links.{Graph, Has, Reaches, start, further}
-use Rattle.smv_scope.specs.Naming.{needed, is_input, needs_in, reads_in, names_of, needs_of, reads_of, number_if, inputs_from, IsFoundAt, AreFoundIn}
+use Rattle.smv_scope.specs.DefinitionNeeds.{needed, is_input, needs_in, reads_in, names_of, needs_of, reads_of, number_if, inputs_from, IsFoundAt, AreFoundIn}
 use Rattle.smv_scope.proofs.LinkLaws.{has_left, has_right, has_either}
 use Rattle.smv_scope.proofs.KeyLaws.{key_at, needed_key, needed_from, named_one, input_is, input_from}
 use Rattle.smv_scope.proofs.RootLaws.{keys_once}

@@ -3,7 +3,7 @@ use Rattle.std.proofs.Common.{◌≡◌, ℕ, zero, suc, ◌+◌, ◌<◌, arith
 use Rattle.std.proofs.lemmas.List.{append-nil, append_assoc, length-set}
 use Rattle.std.specs.Prelude.{slice_get}
 use Rattle.smv_scope.specs.Links.{Graph, Has, Reaches, start, further}
-use Rattle.smv_scope.specs.Laying.{upto, upto_from, Lays, stands, comes, LaysAll, no_more, one_more, placed_from, Once}
+use Rattle.smv_scope.specs.DefinitionOrder.{upto, upto_from, Lays, stands, comes, LaysAll, no_more, one_more, placed_from, Once}
 use Rattle.smv_scope.proofs.LinkLaws.{has_left, has_right, has_either}
 use Rattle.smv_scope.proofs.LayLaws.{upto_within}
 

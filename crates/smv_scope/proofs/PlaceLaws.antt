@@ -9,7 +9,7 @@ use Rattle.smv_scope.specs.declared.walk.Meaning.{Meaning as Found}
 use Rattle.smv_scope.specs.declared.walk.Spot.{Spot}
 use Rattle.smv_scope.specs.declared.walk.Walk.{Walk}
 use Rattle.smv_language.specs.ModelTree.{place_of}
-use Rattle.smv_scope.specs.Walking.{place_of_spot, place_at, own_of, with_own}
+use Rattle.smv_scope.specs.InstanceWalk.{place_of_spot, place_at, own_of, with_own}
 
 place_found : (w : Walk) (k : ℕ) (spot : Spot) → k < length w.spots.items → spot ≡ get_or w.spots.items k spot → place_at w k ≡ place_of spot.path
 place_found w k spot within e = ap place_of_spot (slice_get-get_or w.spots.items k spot within ∙ sym (ap Some e))

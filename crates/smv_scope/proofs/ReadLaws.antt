@@ -7,10 +7,10 @@ use Rattle.smv_language.specs.Trace.{Each, EachBoth}
 use Rattle.smv_flat_laws.specs.Items.{Item as ItemOf, items_of, NumberedModule, modules_from, modules_of, numbered_from}
 use Rattle.smv_flat_laws.specs.Rules.{the_program, module_sites, IsKept}
 use Rattle.smv_scope.specs.declared.fault.FlatFault.{FlatFault}
-use Rattle.smv_scope.specs.declared.modules.Names.{Names}
+use Rattle.smv_scope.specs.declared.modules.ModuleNames.{ModuleNames}
 use Rattle.smv_scope.specs.declared.modules.Modules.{Modules}
 use Rattle.smv_scope.specs.ItemTree.{numbered_tree, counted_from}
-use Rattle.smv_scope.specs.Reading.{Told, told_first, IsTold, module_told, modules_told, next_header, tree_of_names, trees_read, AreRead, IsReadAfter}
+use Rattle.smv_scope.specs.ModuleFaults.{Told, told_first, IsTold, module_told, modules_told, next_header, tree_of_names, trees_read, AreRead, IsReadAfter}
 use Rattle.smv_scope.specs.SceneTree.{HasNames, named, number_and_item, local_entries, module_entries, module_from, AreModules}
 use Rattle.smv_scope.proofs.ReadingLaws.{told_as, told_here, none_first}
 use Rattle.smv_scope.proofs.ModuleFaults.{modules_kept}
@@ -38,7 +38,7 @@ more_entries k (j ∷ q) m =
     let same : suc k + length q ≡ k + length (j ∷ q) = omega arith in
     ap (λ es. (j.name, k) ∷ es) (more_entries (suc k) q m ∙ ap (λ n. module_entries (suc k) q ++ (m.name, n) ∷ []) same)
 
-module _ (old new : Modules) (last last' : ℕ) (m : ModuleTree) (names : Names) (read : AreRead old last)
+module _ (old new : Modules) (last last' : ℕ) (m : ModuleTree) (names : ModuleNames) (read : AreRead old last)
     (listed : new.list.items ≡ old.list.items ++ names ∷ []) (tree : tree_of_names names ≡ m)
     (items : map numbered_tree names.items.items ≡ counted_from (suc (suc last)) (items_of m)) (locals : named names.locals.entries ≡ local_entries m)
     (placed : named new.places.entries ≡ named old.places.entries ++ (m.name, length old.list.items) ∷ []) (counted : last' ≡ suc last + length (items_of m)) where
@@ -54,7 +54,7 @@ module _ (old new : Modules) (last last' : ℕ) (m : ModuleTree) (names : Names)
 
   more_list : EachBoth HasNames (modules_of (trees_read new)) new.list.items
   more_list =
-      subst (λ (ns : List Names). EachBoth HasNames (modules_of (trees_read new)) ns) (sym listed)
+      subst (λ (ns : List ModuleNames). EachBoth HasNames (modules_of (trees_read new)) ns) (sym listed)
       (subst (λ (ms : List NumberedModule). EachBoth HasNames ms (old.list.items ++ names ∷ [])) (sym (ap modules_of added ∙ more_modules 1 [] (trees_read old) m))
       (both_push HasNames (modules_of (trees_read old)) old.list.items (record { number = next_header 1 (trees_read old); before = trees_read old; tree = m }) names read.list has))
 

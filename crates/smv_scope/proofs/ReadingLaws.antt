@@ -12,7 +12,7 @@ use Rattle.smv_scope.specs.declared.modules.Local.{Local}
 use Rattle.smv_scope.specs.declared.modules.Local.TheVariants as local
 use Rattle.smv_scope.specs.Faults.{rule_of}
 use Rattle.smv_scope.specs.ItemTree.{numbered_tree}
-use Rattle.smv_scope.specs.Reading.{Told, told_if, told_first, IsTold, texts_of, formals_told, items_told, item_of_numbered}
+use Rattle.smv_scope.specs.ModuleFaults.{Told, told_if, told_first, IsTold, texts_of, formals_told, items_told, item_of_numbered}
 use Rattle.smv_scope.specs.SceneTree.{formal_entries, entries_of_item, item_entries}
 
 pub told_as : (o o' : Told) (f : FlatFault) → o ≡ o' → IsTold o f → IsTold o' f

@@ -3,7 +3,7 @@ use Rattle.std.proofs.Common.{◌≡◌, ℕ, ◌≤◌, List, length, Some, Vec
 use Rattle.std.specs.Prelude.{slice_get, slice_set, option_map}
 use Rattle.std.specs.declared.alloc.Global.{Global}
 use Rattle.std.proofs.lemmas.List.{map-set, set_past}
-use Rattle.smv_scope.specs.Known.{rows_of, row_or, rows_with}
+use Rattle.smv_scope.specs.KnownFormals.{rows_of, row_or, rows_with}
 use Rattle.smv_scope.specs.declared.names.Formal.{Formal}
 use Rattle.smv_scope.proofs.SceneItems.{get_map}
 

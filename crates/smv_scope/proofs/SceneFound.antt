@@ -19,11 +19,11 @@ use Rattle.smv_flat_laws.proofs.Variables.{both_at}
 use Rattle.smv_flat_laws.proofs.Walkable.{main_is_there}
 use Rattle.smv_language.specs.BorrowedTexts.{texts}
 use Rattle.smv_scope.specs.SceneTree.{gives_name, item_from, local_after, local_of, HasNames, Denotes, IsFound, meaning_of_declared, meaning_of_item, IsOwnMeaning, IsOwn, IsSpot, IsKnown, formals_of, AreKnown, program_of, IsSet, IsScene}
-use Rattle.smv_scope.specs.FoundAt.{place_from, names_of_spot, local_in, local_at, found_or, own_in, own_at, formal_or, formal_in, formal_at, told, symbol_or, symbol_at, by_local, part_at, found_inside}
-use Rattle.smv_scope.specs.FoundAt as tables
+use Rattle.smv_scope.specs.TableLookUps.{place_from, names_of_spot, local_in, local_at, found_or, own_in, own_at, formal_or, formal_in, formal_at, told, symbol_or, symbol_at, by_local, part_at, found_inside}
+use Rattle.smv_scope.specs.TableLookUps as tables
 use Rattle.smv_scope.specs.declared.modules.Local.{Local}
 use Rattle.smv_scope.specs.declared.modules.Local.TheVariants as local
-use Rattle.smv_scope.specs.declared.modules.Names.{Names}
+use Rattle.smv_scope.specs.declared.modules.ModuleNames.{ModuleNames}
 use Rattle.smv_scope.specs.declared.walk.Meaning.{Meaning as Found}
 use Rattle.smv_scope.specs.declared.walk.Meaning.TheVariants as found
 use Rattle.smv_scope.specs.declared.walk.Spot.{Spot}
@@ -143,7 +143,7 @@ module _ (s : Scene) (set : IsSet s) where
       here : (own : Spot) × (slice_get s.spots.items spot ≡ Some own) × IsSpot (program_of s) at own
       here = both_at (IsSpot (program_of s)) (instances_of (program_of s)) s.spots.items spot at set.spots e
 
-      names : (n : Names) × (slice_get s.modules.list.items here.0.«module» ≡ Some n) × HasNames here.2.placed.tree n
+      names : (n : ModuleNames) × (slice_get s.modules.list.items here.0.«module» ≡ Some n) × HasNames here.2.placed.tree n
       names = both_at HasNames (modules_of (program_of s)) s.modules.list.items here.0.«module» here.2.placed.tree set.modules.list here.2.placed.is
 
       real : (m : ModuleTree) × IsInstance (program_of s) at.place m × (find_module (program_of s) at.module_name ≡ Some m)

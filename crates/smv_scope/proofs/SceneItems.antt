@@ -6,10 +6,10 @@ use Rattle.smv_flat_laws.specs.Items.{items_named, modules_of, numbered_items, i
 use Rattle.smv_flat_laws.proofs.Variables.{both_at}
 use Rattle.smv_scope.specs.ItemTree.{numbered_tree}
 use Rattle.smv_scope.specs.SceneTree.{HasNames, IsOwn, IsSpot, number_and_item, items_of_instance, items_at, program_of, IsSet}
-use Rattle.smv_scope.specs.FoundAt.{names_of_spot}
+use Rattle.smv_scope.specs.TableLookUps.{names_of_spot}
 use Rattle.smv_scope.specs.Steps.{numbered_in, numbered_at, count_in}
-use Rattle.smv_scope.specs.Laid.{IsLaidSpot, IsLaid}
-use Rattle.smv_scope.specs.declared.modules.Names.{Names}
+use Rattle.smv_scope.specs.NumberedScenes.{IsLaidSpot, IsLaid}
+use Rattle.smv_scope.specs.declared.modules.ModuleNames.{ModuleNames}
 use Rattle.smv_scope.specs.declared.walk.Spot.{Spot}
 use Rattle.smv_scope.specs.declared.names.Scene.{Scene}
 use Rattle.smv_flat_laws.proofs.BothLaws.{both_long}
@@ -52,9 +52,9 @@ module _ (s : Scene) (laid : IsLaid s) (spot : ℕ) where
 
   -- the module's names
   pub names_laid : (at : FlatInstance) → (own : Spot) → slice_get s.spots.items spot ≡ Some own → (fits : IsLaidSpot (program_of s) at own) →
-      (names : Names) × (names_of_spot s (slice_get s.spots.items spot) ≡ Some names) × HasNames fits.placed.tree names
+      (names : ModuleNames) × (names_of_spot s (slice_get s.spots.items spot) ≡ Some names) × HasNames fits.placed.tree names
   names_laid at own is fits =
-      let n : (names : Names) × (slice_get s.modules.list.items own.«module» ≡ Some names) × HasNames fits.placed.tree names =
+      let n : (names : ModuleNames) × (slice_get s.modules.list.items own.«module» ≡ Some names) × HasNames fits.placed.tree names =
       both_at HasNames (modules_of (program_of s)) s.modules.list.items own.«module» fits.placed.tree laid.modules.list fits.placed.is in
       (n.0, ap (names_of_spot s) is ∙ n.1, n.2)
 
@@ -62,7 +62,7 @@ module _ (s : Scene) (laid : IsLaid s) (spot : ℕ) where
       option_map numbered_tree (numbered_at s spot place) ≡ option_map number_and_item (slice_get (items_named (program_of s) at.module_name) place)
   item_listed at e place =
       let own : (own : Spot) × (slice_get s.spots.items spot ≡ Some own) × IsLaidSpot (program_of s) at own = laid_at at e in
-      let names : (names : Names) × (names_of_spot s (slice_get s.spots.items spot) ≡ Some names) × HasNames own.2.placed.tree names = names_laid at own.0 own.1 own.2 in
+      let names : (names : ModuleNames) × (names_of_spot s (slice_get s.spots.items spot) ≡ Some names) × HasNames own.2.placed.tree names = names_laid at own.0 own.1 own.2 in
       ap (λ o. option_map numbered_tree (numbered_in o place)) names.1
       ∙ sym (get_map numbered_tree names.0.items.items place)
       ∙ ap (λ xs. slice_get xs place) names.2.items

@@ -17,8 +17,8 @@ use Rattle.smv_scope.specs.declared.needs.Needs.{Needs}
 use Rattle.smv_scope.specs.SceneTree.{IsDefined, IsScene, program_of}
 use Rattle.smv_scope.specs.NeedsTree.{keys_of, IsKeyAt, HasCircle, HasInput, AreMeant, IsOrder, AreNeeds}
 use Rattle.smv_scope.specs.Links.{Graph, Has, Reaches, graph_of, links_at, AreReached, IsCircle, AreCircles, AreTurned}
-use Rattle.smv_scope.specs.Laying.{upto, IsInto, IsLaid, placed_from}
-use Rattle.smv_scope.specs.Naming.{needs_of, inputs_from, IsNamed}
+use Rattle.smv_scope.specs.DefinitionOrder.{upto, IsInto, IsLaid, placed_from}
+use Rattle.smv_scope.specs.DefinitionNeeds.{needs_of, inputs_from, IsNamed}
 use Rattle.smv_scope.proofs.LinkLaws.{graph_rows}
 use Rattle.smv_scope.proofs.ReachLaws.{graph_within}
 use Rattle.smv_scope.proofs.OrderLaws.{Grows, grown, has_at, at_has, in_upto, upto_below, placed_size, placed_is}

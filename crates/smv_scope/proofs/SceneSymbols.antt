@@ -8,7 +8,7 @@ use Rattle.smv_scope.specs.ItemTree.{numbered_tree}
 use Rattle.smv_scope.specs.Symbols.{symbols_of_numbered, symbols_in}
 use Rattle.smv_scope.specs.SceneTree.{HasNames, AreModules, number_and_item}
 use Rattle.smv_scope.specs.declared.items.Numbered.{Numbered}
-use Rattle.smv_scope.specs.declared.modules.Names.{Names}
+use Rattle.smv_scope.specs.declared.modules.ModuleNames.{ModuleNames}
 use Rattle.smv_scope.specs.declared.modules.Modules.{Modules}
 use Rattle.smv_language.specs.Trace.{EachBoth}
 
@@ -24,13 +24,13 @@ item_symbols : (n : ℕ) (before is : List Item) → symbols_of_pairs (map numbe
 item_symbols n before [] = refl
 item_symbols n before (i ∷ is) = ap (λ xs. symbols_of_item i ++ xs) (item_symbols (suc n) (before ++ i ∷ []) is)
 
-names_symbols : (m : NumberedModule) (names : Names) → HasNames m names → symbols_in names ≡ flat_map symbols_of_item (items_of m.tree)
+names_symbols : (m : NumberedModule) (names : ModuleNames) → HasNames m names → symbols_in names ≡ flat_map symbols_of_item (items_of m.tree)
 names_symbols m names has = numbered_symbols names.items.items ∙ ap symbols_of_pairs has.items ∙ item_symbols (suc m.number) [] (items_of m.tree)
 
 abbrev symbols_of_module : ModuleTree → List Text
 symbols_of_module m = flat_map symbols_of_item (items_of m)
 
-list_symbols : (ms : List NumberedModule) (list : List Names) → EachBoth HasNames ms list → flat_map symbols_in list ≡ flat_map (λ (m : NumberedModule). symbols_of_module m.tree) ms
+list_symbols : (ms : List NumberedModule) (list : List ModuleNames) → EachBoth HasNames ms list → flat_map symbols_in list ≡ flat_map (λ (m : NumberedModule). symbols_of_module m.tree) ms
 list_symbols [] [] has = refl
 list_symbols [] (n ∷ ns) has = absurd has
 list_symbols (m ∷ ms) [] has = absurd has

@@ -12,12 +12,12 @@ use Rattle.smv_flat_laws.specs.Rules.{IsWalkable}
 use Rattle.smv_flat_laws.proofs.LookLaws.{after_longer}
 use Rattle.smv_flat_laws.proofs.EndLaws.{steps_more, goes_on}
 use Rattle.smv_scope.specs.SceneTree.{IsKnown, formals_of}
-use Rattle.smv_scope.specs.FoundAt.{formal_or}
-use Rattle.smv_scope.specs.Known.{row_or, formal_of, IsHead, IsOpen, IsOpenAt, ShutAt, Shut, IsTold, IsSized, AreTold}
-use Rattle.smv_scope.specs.Waiting.{IsFrame, WaitsFor, LastWaits, IsStack, circled}
+use Rattle.smv_scope.specs.TableLookUps.{formal_or}
+use Rattle.smv_scope.specs.KnownFormals.{row_or, formal_of, IsHead, IsOpen, IsOpenAt, ShutAt, Shut, IsTold, IsSized, AreTold}
+use Rattle.smv_scope.specs.WaitingLookUps.{IsFrame, WaitsFor, LastWaits, IsStack, circled}
 use Rattle.smv_scope.specs.declared.names.Formal.{Formal}
 use Rattle.smv_scope.specs.declared.names.Formal.TheVariants as known
-use Rattle.smv_scope.specs.declared.formals.Frame.{Frame}
+use Rattle.smv_scope.specs.declared.formals.LookUpFrame.{LookUpFrame}
 use Rattle.smv_scope.proofs.LookSplit.{HasPart, with_more, named_look}
 use Rattle.smv_scope.proofs.LookFound.{same_part}
 use Rattle.smv_scope.proofs.Heads.{head_place, head_numbers}
@@ -27,7 +27,7 @@ use Rattle.std.proofs.lemmas.Option.{same_Some as of_some, slice_get_within as g
 use Rattle.smv_language.specs.Trace.{EachBoth}
 
 module _ (p : ProgramTree) (rs rs' : List (List Formal)) (less : IsNoMoreOpen p rs rs') where
-  pub frame_on : (f : Frame) → IsFrame p rs f → IsFrame p rs' f
+  pub frame_on : (f : LookUpFrame) → IsFrame p rs f → IsFrame p rs' f
   frame_on f is = record {
     at = is.at;
     name = is.name;
@@ -42,34 +42,34 @@ module _ (p : ProgramTree) (rs rs' : List (List Formal)) (less : IsNoMoreOpen p 
     shut = λ n lt. shut_on p rs rs' less (look_after (suc n) p is.at (is.name ∷ [])) (is.shut n lt);
   }
 
-  pub stack_on : (fs : List Frame) → IsStack p rs fs → IsStack p rs' fs
+  pub stack_on : (fs : List LookUpFrame) → IsStack p rs fs → IsStack p rs' fs
   stack_on [] h = tt
   stack_on (f ∷ []) h = frame_on f h
   stack_on (f ∷ (g ∷ fs)) h = (frame_on f h.0, h.1, stack_on (g ∷ fs) h.2)
 
 module _ (p : ProgramTree) (rs : List (List Formal)) where
-  pub stack_pop : (xs : List Frame) (f : Frame) → IsStack p rs (xs ++ f ∷ []) → IsStack p rs xs × IsFrame p rs f × LastWaits p xs f.spot f.formal
+  pub stack_pop : (xs : List LookUpFrame) (f : LookUpFrame) → IsStack p rs (xs ++ f ∷ []) → IsStack p rs xs × IsFrame p rs f × LastWaits p xs f.spot f.formal
   stack_pop [] f h = (tt, h, tt)
   stack_pop (g ∷ []) f h = (h.0, h.2, h.1)
   stack_pop (g ∷ (g' ∷ xs)) f h =
       let r : IsStack p rs (g' ∷ xs) × IsFrame p rs f × LastWaits p (g' ∷ xs) f.spot f.formal = stack_pop (g' ∷ xs) f h.2 in ((h.0, h.1, r.0), r.1, r.2)
 
-  pub stack_push : (xs : List Frame) (f : Frame) → IsStack p rs xs → LastWaits p xs f.spot f.formal → IsFrame p rs f → IsStack p rs (xs ++ f ∷ [])
+  pub stack_push : (xs : List LookUpFrame) (f : LookUpFrame) → IsStack p rs xs → LastWaits p xs f.spot f.formal → IsFrame p rs f → IsStack p rs (xs ++ f ∷ [])
   stack_push [] f h w is = is
   stack_push (g ∷ []) f h w is = (h, w, is)
   stack_push (g ∷ (g' ∷ xs)) f h w is = (h.0, h.1, stack_push (g' ∷ xs) f h.2 w is)
 
-  pub last_waits : (xs : List Frame) (f : Frame) (k i : ℕ) → WaitsFor p f k i → LastWaits p (xs ++ f ∷ []) k i
+  pub last_waits : (xs : List LookUpFrame) (f : LookUpFrame) (k i : ℕ) → WaitsFor p f k i → LastWaits p (xs ++ f ∷ []) k i
   last_waits [] f k i w = w
   last_waits (g ∷ []) f k i w = w
   last_waits (g ∷ (g' ∷ xs)) f k i w = last_waits (g' ∷ xs) f k i w
 
-  stack_end : (before : List Frame) (f : Frame) (fs : List Frame) → IsStack p rs (before ++ f ∷ fs) → IsStack p rs (f ∷ fs)
+  stack_end : (before : List LookUpFrame) (f : LookUpFrame) (fs : List LookUpFrame) → IsStack p rs (before ++ f ∷ fs) → IsStack p rs (f ∷ fs)
   stack_end [] f fs h = h
   stack_end (b ∷ []) f fs h = h.2
   stack_end (b ∷ (b' ∷ before)) f fs h = stack_end (b' ∷ before) f fs h.2
 
-  last_end : (before : List Frame) (f : Frame) (fs : List Frame) (k i : ℕ) → LastWaits p (before ++ f ∷ fs) k i → LastWaits p (f ∷ fs) k i
+  last_end : (before : List LookUpFrame) (f : LookUpFrame) (fs : List LookUpFrame) (k i : ℕ) → LastWaits p (before ++ f ∷ fs) k i → LastWaits p (f ∷ fs) k i
   last_end [] f fs k i h = h
   last_end (b ∷ []) f fs k i h = h
   last_end (b ∷ (b' ∷ before)) f fs k i h = last_end (b' ∷ before) f fs k i h
@@ -92,13 +92,13 @@ Linked p rs [] z = Unit {0}
 Linked p rs (h ∷ []) z = Link p rs h z
 Linked p rs (h ∷ (k ∷ hs)) z = Link p rs h k × Linked p rs (k ∷ hs) z
 
-abbrev HeadOf : ProgramTree → Frame → Head → Type 0
+abbrev HeadOf : ProgramTree → LookUpFrame → Head → Type 0
 HeadOf p f h = IsHead p f.spot f.formal h.0 h.1
 
 part_is : (x y : Text) (xs ys : Path) → x ∷ xs ≡ y ∷ ys → x ≡ y
 part_is x y xs ys e = cc
 
-frame_link : (p : ProgramTree) (rs : List (List Formal)) (f : Frame) (is : IsFrame p rs f) (k i : ℕ) (z : Head) → WaitsFor p f k i → IsHead p k i z.0 z.1 → Link p rs (is.at, is.name) z
+frame_link : (p : ProgramTree) (rs : List (List Formal)) (f : LookUpFrame) (is : IsFrame p rs f) (k i : ℕ) (z : Head) → WaitsFor p f k i → IsHead p k i z.0 z.1 → Link p rs (is.at, is.name) z
 frame_link p rs f is k i z w head = record {
   steps = is.steps;
   rest = is.more;
@@ -118,18 +118,18 @@ frame_link p rs f is k i z w head = record {
     part : is.part ≡ z.1
     part = part_is is.part w.part is.more w.more (sym is.rest ∙ w.rest) ∙ same.1
 
-first_frame : (p : ProgramTree) (rs : List (List Formal)) (f : Frame) (fs : List Frame) → IsStack p rs (f ∷ fs) → IsFrame p rs f
+first_frame : (p : ProgramTree) (rs : List (List Formal)) (f : LookUpFrame) (fs : List LookUpFrame) → IsStack p rs (f ∷ fs) → IsFrame p rs f
 first_frame p rs f [] h = h
 first_frame p rs f (g ∷ fs) h = h.0
 
-record LinkedFrom (p : ProgramTree) (rs : List (List Formal)) (f : Frame) (fs : List Frame) (z : Head) : Type 0 where
+record LinkedFrom (p : ProgramTree) (rs : List (List Formal)) (f : LookUpFrame) (fs : List LookUpFrame) (z : Head) : Type 0 where
   pub first : Head
   pub heads : List Head
   pub first_is : HeadOf p f first
   pub are : EachBoth (HeadOf p) fs heads
   pub linked : Linked p rs (first ∷ heads) z
 
-linked_from : (p : ProgramTree) (rs : List (List Formal)) (f : Frame) (fs : List Frame) (k i : ℕ) (z : Head) → IsStack p rs (f ∷ fs) → LastWaits p (f ∷ fs) k i → IsHead p k i z.0 z.1 → LinkedFrom p rs f fs z
+linked_from : (p : ProgramTree) (rs : List (List Formal)) (f : LookUpFrame) (fs : List LookUpFrame) (k i : ℕ) (z : Head) → IsStack p rs (f ∷ fs) → LastWaits p (f ∷ fs) k i → IsHead p k i z.0 z.1 → LinkedFrom p rs f fs z
 linked_from p rs f [] k i z h w head = record { first = (h.at, h.name); heads = []; first_is = h.head; are = tt; linked = frame_link p rs f h k i z w head }
 linked_from p rs f (g ∷ fs) k i z h w head =
     let r : LinkedFrom p rs g fs z = linked_from p rs g fs k i z h.2 w head in
@@ -252,26 +252,26 @@ module _ (p : ProgramTree) (rs : List (List Formal)) where
             (sym (steps_more (n - link.steps) (suc link.steps) p h.0 (h.1 ∷ []) (look_at k link.rest) link.after) ∙ ap (λ q. look_after q p h.0 (h.1 ∷ [])) count ∙ e) is
 
 -- The formals of a circle are answered.
-member_head : (p : ProgramTree) (fs : List Frame) (hs : List Head) → EachBoth (HeadOf p) fs hs → (f : Frame) → Member f fs → (h : Head) × Member h hs × HeadOf p f h
+member_head : (p : ProgramTree) (fs : List LookUpFrame) (hs : List Head) → EachBoth (HeadOf p) fs hs → (f : LookUpFrame) → Member f fs → (h : Head) × Member h hs × HeadOf p f h
 member_head p [] hs are f m = absurd m
 member_head p (g ∷ fs) [] are f m = absurd are
-member_head p (g ∷ fs) (h ∷ hs) are f (inl e) = (h, inl refl, subst (λ (w : Frame). HeadOf p w h) (sym e) are.0)
+member_head p (g ∷ fs) (h ∷ hs) are f (inl e) = (h, inl refl, subst (λ (w : LookUpFrame). HeadOf p w h) (sym e) are.0)
 member_head p (g ∷ fs) (h ∷ hs) are f (inr m) =
     let r : (h : Head) × Member h hs × HeadOf p f h = member_head p fs hs are.1 f m in (r.0, inr r.1, r.2)
 
-member_frame : (p : ProgramTree) (fs : List Frame) (hs : List Head) → EachBoth (HeadOf p) fs hs → (h : Head) → Member h hs → (f : Frame) × Member f fs × HeadOf p f h
+member_frame : (p : ProgramTree) (fs : List LookUpFrame) (hs : List Head) → EachBoth (HeadOf p) fs hs → (h : Head) → Member h hs → (f : LookUpFrame) × Member f fs × HeadOf p f h
 member_frame p [] [] are h m = absurd m
 member_frame p [] (x ∷ hs) are h m = absurd are
 member_frame p (g ∷ fs) [] are h m = absurd m
 member_frame p (g ∷ fs) (x ∷ hs) are h (inl e) = (g, inl refl, subst (HeadOf p g) (sym e) are.0)
 member_frame p (g ∷ fs) (x ∷ hs) are h (inr m) =
-    let r : (f : Frame) × Member f fs × HeadOf p f h = member_frame p fs hs are.1 h m in (r.0, inr r.1, r.2)
+    let r : (f : LookUpFrame) × Member f fs × HeadOf p f h = member_frame p fs hs are.1 h m in (r.0, inr r.1, r.2)
 
 module _ (p : ProgramTree) (rs : List (List Formal)) where
-  abbrev pub IsMarked : List Frame → ℕ → ℕ → Type 0
-  IsMarked fs k i = (f : Frame) × Member f fs × (k ≡ f.spot) × (i ≡ f.formal) × (formal_of (circled rs fs) k i ≡ known.Circle)
+  abbrev pub IsMarked : List LookUpFrame → ℕ → ℕ → Type 0
+  IsMarked fs k i = (f : LookUpFrame) × Member f fs × (k ≡ f.spot) × (i ≡ f.formal) × (formal_of (circled rs fs) k i ≡ known.Circle)
 
-  pub marked : (fs : List Frame) (k i : ℕ) → (formal_of (circled rs fs) k i ≡ formal_of rs k i) ⊎ IsMarked fs k i
+  pub marked : (fs : List LookUpFrame) (k i : ℕ) → (formal_of (circled rs fs) k i ≡ formal_of rs k i) ⊎ IsMarked fs k i
   marked [] k i = inl refl
   marked (f ∷ fs) k i = by_change (changed (circled rs fs) f.spot f.formal known.Circle k i) (marked fs k i)
     where
@@ -280,7 +280,7 @@ module _ (p : ProgramTree) (rs : List (List Formal)) where
       by_change (inl e) (inr d) = inr (d.0, inr d.1, d.2, d.3, e ∙ d.4)
       by_change (inr e) d = inr (f, inl refl, e.0, e.1, e.2)
 
-  pub circled_less : (fs : List Frame) → IsNoMoreOpen p rs (circled rs fs)
+  pub circled_less : (fs : List LookUpFrame) → IsNoMoreOpen p rs (circled rs fs)
   circled_less fs at x is = by_mark (marked fs is.0 is.1)
     where
       by_mark : (formal_of (circled rs fs) is.0 is.1 ≡ formal_of rs is.0 is.1) ⊎ IsMarked fs is.0 is.1 → IsOpenAt p rs at x
@@ -288,16 +288,16 @@ module _ (p : ProgramTree) (rs : List (List Formal)) where
       by_mark (inr m) = absurd (subst IsOpen m.4 is.3)
 
   module _ (told : AreTold p rs) where
-    circled_sized : (fs : List Frame) (spot : ℕ) (at : FlatInstance) → slice_get (instances_of p) spot ≡ Some at → IsSized p (circled rs fs) spot at
+    circled_sized : (fs : List LookUpFrame) (spot : ℕ) (at : FlatInstance) → slice_get (instances_of p) spot ≡ Some at → IsSized p (circled rs fs) spot at
     circled_sized [] spot at e = told.sized spot at e
     circled_sized (f ∷ fs) spot at e = still_sized p (circled rs fs) f.spot f.formal known.Circle spot at (circled_sized fs spot at e)
 
-    circled_many : (fs : List Frame) → length (circled rs fs) ≡ length rs
+    circled_many : (fs : List LookUpFrame) → length (circled rs fs) ≡ length rs
     circled_many [] = refl
     circled_many (f ∷ fs) = length-set (circled rs fs) f.spot _ ∙ circled_many fs
 
     -- a formal that is told stays told
-    pub own_circle : (fs : List Frame) (f : Frame) (at : Place) (x : Text) → IsHead p f.spot f.formal at x → formal_of (circled rs (f ∷ fs)) f.spot f.formal ≡ known.Circle
+    pub own_circle : (fs : List LookUpFrame) (f : LookUpFrame) (at : Place) (x : Text) → IsHead p f.spot f.formal at x → formal_of (circled rs (f ∷ fs)) f.spot f.formal ≡ known.Circle
     own_circle fs f at x head =
         ap (λ o. formal_or (slice_get (row_or o) f.formal)) (set_own (circled rs fs) f.spot _ (get_less (circled rs fs) f.spot sized.row sized.is))
         ∙ ap formal_or (set_own (row_or (slice_get (circled rs fs) f.spot)) f.formal known.Circle within)
@@ -314,16 +314,16 @@ module _ (p : ProgramTree) (rs : List (List Formal)) where
         within : f.formal < length (row_or (slice_get (circled rs fs) f.spot))
         within = omega (arith, same, below)
 
-    all_circle : (fs : List Frame) (f : Frame) (at : Place) (x : Text) → Member f fs → IsHead p f.spot f.formal at x → formal_of (circled rs fs) f.spot f.formal ≡ known.Circle
+    all_circle : (fs : List LookUpFrame) (f : LookUpFrame) (at : Place) (x : Text) → Member f fs → IsHead p f.spot f.formal at x → formal_of (circled rs fs) f.spot f.formal ≡ known.Circle
     all_circle [] f at x m head = absurd m
-    all_circle (g ∷ fs) f at x (inl e) head = subst (λ (w : Frame). formal_of (circled rs (w ∷ fs)) f.spot f.formal ≡ known.Circle) e (own_circle fs f at x head)
+    all_circle (g ∷ fs) f at x (inl e) head = subst (λ (w : LookUpFrame). formal_of (circled rs (w ∷ fs)) f.spot f.formal ≡ known.Circle) e (own_circle fs f at x head)
     all_circle (g ∷ fs) f at x (inr m) head = by_change (changed (circled rs fs) g.spot g.formal known.Circle f.spot f.formal) (all_circle fs f at x m head)
       where
         by_change : IsChanged (circled rs fs) g.spot g.formal known.Circle f.spot f.formal → formal_of (circled rs fs) f.spot f.formal ≡ known.Circle → formal_of (circled rs (g ∷ fs)) f.spot f.formal ≡ known.Circle
         by_change (inl e) d = e ∙ d
         by_change (inr e) d = e.2
 
-    pub circle_told : IsWalkable p → (first : Frame) (fs before : List Frame) → IsStack p rs (before ++ first ∷ fs) → LastWaits p (before ++ first ∷ fs) first.spot first.formal → AreTold p (circled rs (first ∷ fs))
+    pub circle_told : IsWalkable p → (first : LookUpFrame) (fs before : List LookUpFrame) → IsStack p rs (before ++ first ∷ fs) → LastWaits p (before ++ first ∷ fs) first.spot first.formal → AreTold p (circled rs (first ∷ fs))
     circle_told walkable first fs before stack last = record {
       many = circled_many (first ∷ fs) ∙ told.many;
       sized = circled_sized (first ∷ fs);
@@ -362,7 +362,7 @@ module _ (p : ProgramTree) (rs : List (List Formal)) where
 
         closed_all : (h : Head) → Member h (from.first ∷ from.heads) → IsOpenAt p (circled rs (first ∷ fs)) h.0 h.1 → ⊥
         closed_all h m is =
-            let f : (f : Frame) × Member f (first ∷ fs) × HeadOf p f h = member_frame p (first ∷ fs) (from.first ∷ from.heads) are h m in
+            let f : (f : LookUpFrame) × Member f (first ∷ fs) × HeadOf p f h = member_frame p (first ∷ fs) (from.first ∷ from.heads) are h m in
             let same : (is.0 ≡ f.0.spot) × (is.1 ≡ f.0.formal) = head_numbers p walkable is.0 is.1 f.0.spot f.0.formal h.0 h.1 is.2 f.2 in
             subst IsOpen (all_circle (first ∷ fs) f.0 h.0 h.1 f.1 f.2)
             (subst IsOpen (ap (λ n. formal_of (circled rs (first ∷ fs)) n is.1) same.0 ∙ ap (formal_of (circled rs (first ∷ fs)) f.0.spot) same.1) is.3)

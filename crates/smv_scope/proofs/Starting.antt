@@ -8,9 +8,9 @@ use Rattle.smv_flat_laws.specs.Rules.{IsWalkable}
 use Rattle.smv_flat_laws.specs.Model.{symbols_of}
 use Rattle.smv_language.specs.BorrowedTexts.{texts}
 use Rattle.smv_scope.specs.SceneTree.{AreModules, IsWalked, IsSpotWalked, program_of}
-use Rattle.smv_scope.specs.Known.{rows, AreTold, IsActualTold, IsSameButFormals}
-use Rattle.smv_scope.specs.Laid.{IsLaidSpot, IsLaid, IsNamedTo}
-use Rattle.smv_scope.specs.Waiting.{IsReady}
+use Rattle.smv_scope.specs.KnownFormals.{rows, AreTold, IsActualTold, IsSameButFormals}
+use Rattle.smv_scope.specs.NumberedScenes.{IsLaidSpot, IsLaid, IsNamedTo}
+use Rattle.smv_scope.specs.WaitingLookUps.{IsReady}
 use Rattle.smv_scope.specs.declared.walk.Spot.{Spot}
 use Rattle.smv_scope.specs.declared.names.Defined.{Defined}
 use Rattle.smv_scope.specs.declared.names.Scene.{Scene}

@@ -1,7 +1,7 @@
 -- What a step finds is what the part means.
 use Rattle.std.proofs.Common.{◌≡◌, ℕ, Bool, Option, Some, None, refl}
 use Rattle.smv_language.specs.ProgramTree.{Text}
-use Rattle.smv_scope.specs.FoundAt.{local_at, by_local, part_at}
+use Rattle.smv_scope.specs.TableLookUps.{local_at, by_local, part_at}
 use Rattle.smv_scope.specs.Steps.{step_by_local, step_at, found_by}
 use Rattle.smv_scope.specs.declared.modules.Local.{Local}
 use Rattle.smv_scope.specs.declared.modules.Local.TheVariants as local

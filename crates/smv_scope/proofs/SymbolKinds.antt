@@ -8,7 +8,7 @@ use Rattle.smv_language.specs.Texts.{same_text, is_among}
 use Rattle.smv_language.specs.Scope.{Role, state, input, frozen_role, is_symbol_of_members, is_symbol_of_type, is_symbol_of_decls, is_symbol_of_sections, is_symbol}
 use Rattle.smv_flat_laws.specs.Items.{Item, a_declaration, a_definition, an_assignment, items_of_section, items_of}
 use Rattle.smv_flat_laws.specs.Model.{symbols_of_members, symbols_of_type, symbols_of_item, first_appearances, symbols_of}
-use Rattle.smv_scope.specs.FoundAt.{place_from}
+use Rattle.smv_scope.specs.TableLookUps.{place_from}
 use Rattle.smv_scope.proofs.LookSplit.{never}
 use Rattle.smv_language.proofs.OneTree.{same_text_equal}
 use Rattle.std.proofs.lemmas.Option.{same_Some as of_some}

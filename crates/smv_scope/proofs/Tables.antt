@@ -8,7 +8,7 @@ use Rattle.std.proofs.lemmas.Iterator.Adapters.{position_from-zero}
 use Rattle.std.specs.Map.{lookup}
 use Rattle.smv_language.specs.BorrowedTexts.{texts}
 use Rattle.smv_scope.specs.SceneTree.{named}
-use Rattle.smv_scope.specs.FoundAt.{place_from}
+use Rattle.smv_scope.specs.TableLookUps.{place_from}
 use Rattle.smv_language.proofs.BorrowedTexts.{same_bytes}
 use Rattle.smv_language.specs.Texts.{first_with}
 

@@ -8,8 +8,8 @@ use Rattle.smv_language.specs.Flat.{FlatInstance}
 use Rattle.smv_flat_laws.specs.Looks.{Look, look_after}
 use Rattle.smv_flat_laws.specs.Rules.{IsWalkable}
 use Rattle.smv_scope.specs.SceneTree.{IsKnown, formals_of}
-use Rattle.smv_scope.specs.FoundAt.{formal_or}
-use Rattle.smv_scope.specs.Known.{row_or, rows_with, formal_of, IsHead, IsOpen, IsOpenAt, ShutAt, Shut, ShutBeyond, IsTold, IsSized, AreTold}
+use Rattle.smv_scope.specs.TableLookUps.{formal_or}
+use Rattle.smv_scope.specs.KnownFormals.{row_or, rows_with, formal_of, IsHead, IsOpen, IsOpenAt, ShutAt, Shut, ShutBeyond, IsTold, IsSized, AreTold}
 use Rattle.smv_scope.specs.declared.walk.Meaning.{Meaning as Found}
 use Rattle.smv_scope.specs.declared.names.Formal.{Formal}
 use Rattle.smv_scope.specs.declared.names.Formal.TheVariants as known

@@ -13,17 +13,17 @@ use Rattle.smv_flat_laws.specs.Model.{roots_of, symbols_of}
 use Rattle.smv_flat_laws.specs.Looks.{ComesBack}
 use Rattle.smv_language.specs.BorrowedTexts.{texts}
 use Rattle.smv_scope.specs.SceneTree.{AreModules, IsSpot, IsDefined, IsKnown, formals_of, AreKnown, program_of, IsSet, IsScene}
-use Rattle.smv_scope.specs.FoundAt.{formal_or, formal_at}
+use Rattle.smv_scope.specs.TableLookUps.{formal_or, formal_at}
 use Rattle.smv_scope.specs.Steps.{is_open, row_count_in, row_count}
-use Rattle.smv_scope.specs.Known.{rows, row_or, rows_with, formal_of, IsHead, IsOpen, IsTold, IsSized, AreTold, IsActualTold, IsSameButFormals}
-use Rattle.smv_scope.specs.Waiting.{IsFormal, IsFrame, LastWaits, IsStack, IsReady, has_frame, IsWaiting, IsAnswer, GoesOn, Waits, circled, IsCircled, AreSettled, IsRowAnswered, IsTurn}
+use Rattle.smv_scope.specs.KnownFormals.{rows, row_or, rows_with, formal_of, IsHead, IsOpen, IsTold, IsSized, AreTold, IsActualTold, IsSameButFormals}
+use Rattle.smv_scope.specs.WaitingLookUps.{IsFormal, IsFrame, LastWaits, IsStack, IsReady, has_frame, IsWaiting, IsAnswer, GoesOn, Waits, circled, IsCircled, AreSettled, IsRowAnswered, IsTurn}
 use Rattle.smv_scope.specs.declared.walk.Meaning.{Meaning as Found}
 use Rattle.smv_scope.specs.declared.walk.Spot.{Spot}
 use Rattle.smv_scope.specs.declared.names.Formal.{Formal}
 use Rattle.smv_scope.specs.declared.names.Formal.TheVariants as known
 use Rattle.smv_scope.specs.declared.names.Defined.{Defined}
 use Rattle.smv_scope.specs.declared.names.Scene.{Scene}
-use Rattle.smv_scope.specs.declared.formals.Frame.{Frame}
+use Rattle.smv_scope.specs.declared.formals.LookUpFrame.{LookUpFrame}
 use Rattle.smv_scope.proofs.LookSplit.{never}
 use Rattle.smv_scope.proofs.SceneItems.{get_map}
 use Rattle.smv_scope.proofs.Told.{IsNoMoreOpen, no_more_open, IsChanged, changed, in_row, begun_one, answered_one}
@@ -59,40 +59,40 @@ set_same old new same set = record {
     keys = symbols_by old new.symbols same.symbols
 
 -- of the formals whose look-ups wait something is known
-abbrev pub AreFresh : List (List Formal) → List Frame → Type 0
+abbrev pub AreFresh : List (List Formal) → List LookUpFrame → Type 0
 AreFresh rs fs = (k i : ℕ) → formal_of rs k i ≡ known.Unknown → has_frame fs k i ≡ false
 
-fresh_with : (rs : List (List Formal)) (fs : List Frame) (k i : ℕ) (f : Formal) → AreFresh rs fs → (f ≡ known.Unknown → ⊥) → AreFresh (rows_with rs k i f) fs
+fresh_with : (rs : List (List Formal)) (fs : List LookUpFrame) (k i : ℕ) (f : Formal) → AreFresh rs fs → (f ≡ known.Unknown → ⊥) → AreFresh (rows_with rs k i f) fs
 fresh_with rs fs k i f fresh other k' i' unknown = by_change (changed rs k i f k' i')
   where
     by_change : IsChanged rs k i f k' i' → has_frame fs k' i' ≡ false
     by_change (inl e) = fresh k' i' (sym e ∙ unknown)
     by_change (inr e) = absurd (other (sym e.2 ∙ unknown))
 
-fresh_circled : (rs : List (List Formal)) (fs : List Frame) (gs : List Frame) → AreFresh rs fs → AreFresh (circled rs gs) fs
+fresh_circled : (rs : List (List Formal)) (fs : List LookUpFrame) (gs : List LookUpFrame) → AreFresh rs fs → AreFresh (circled rs gs) fs
 fresh_circled rs fs [] fresh = fresh
 fresh_circled rs fs (g ∷ gs) fresh = fresh_with (circled rs gs) fs g.spot g.formal known.Circle (fresh_circled rs fs gs fresh) (λ h. circle_known h)
   where
     circle_known : known.Circle ≡ known.Unknown → ⊥
     circle_known h = cc
 
-fresh_below : (rs : List (List Formal)) (fs : List Frame) (f : Frame) → AreFresh rs (fs ++ f ∷ []) → AreFresh rs fs
+fresh_below : (rs : List (List Formal)) (fs : List LookUpFrame) (f : LookUpFrame) → AreFresh rs (fs ++ f ∷ []) → AreFresh rs fs
 fresh_below rs fs f fresh k i unknown = not_true (has_frame fs k i) (λ h. not_both (has_frame (fs ++ f ∷ []) k i) (has_below fs f k i h) (fresh k i unknown))
 
-fresh_pushed : (rs : List (List Formal)) (fs : List Frame) (f : Frame) → AreFresh rs fs → (formal_of rs f.spot f.formal ≡ known.Unknown → ⊥) → AreFresh rs (fs ++ f ∷ [])
+fresh_pushed : (rs : List (List Formal)) (fs : List LookUpFrame) (f : LookUpFrame) → AreFresh rs fs → (formal_of rs f.spot f.formal ≡ known.Unknown → ⊥) → AreFresh rs (fs ++ f ∷ [])
 fresh_pushed rs fs f fresh other k i unknown = not_true (has_frame (fs ++ f ∷ []) k i) (λ h. by_split (has_split fs f k i h))
   where
     by_split : (has_frame fs k i ≡ true) ⊎ ((f.spot ≡ k) × (f.formal ≡ i)) → ⊥
     by_split (inl h) = not_both (has_frame fs k i) h (fresh k i unknown)
     by_split (inr e) = other (ap (λ n. formal_of rs n f.formal) e.0 ∙ ap (formal_of rs k) e.1 ∙ unknown)
 
-fresh_after : (rs : List (List Formal)) (fs : List Frame) (f g : Frame) → g.spot ≡ f.spot → g.formal ≡ f.formal → AreFresh rs (fs ++ f ∷ []) → AreFresh rs (fs ++ g ∷ [])
+fresh_after : (rs : List (List Formal)) (fs : List LookUpFrame) (f g : LookUpFrame) → g.spot ≡ f.spot → g.formal ≡ f.formal → AreFresh rs (fs ++ f ∷ []) → AreFresh rs (fs ++ g ∷ [])
 fresh_after rs fs f g spot formal fresh =
     fresh_pushed rs fs g (fresh_below rs fs f fresh)
     (λ unknown. not_both (has_frame (fs ++ f ∷ []) g.spot g.formal) (has_last fs f g.spot g.formal (sym spot) (sym formal)) (fresh g.spot g.formal unknown))
 
 pub waiting_made : (old new : Scene) → IsSameButFormals old new → IsReady old → (rs : List (List Formal)) → rows new ≡ rs → AreSettled (rows old) rs → AreTold (program_of old) rs →
-    (fs : List Frame) → IsStack (program_of old) rs fs → AreFresh rs fs → IsWaiting new fs
+    (fs : List LookUpFrame) → IsStack (program_of old) rs fs → AreFresh rs fs → IsWaiting new fs
 waiting_made old new same ready rs are settled told fs stack fresh = record {
   ready = record {
     set = set_same old new same ready.set;
@@ -124,7 +124,7 @@ not_open known.Circle e o = absurd o
 not_open (known.Means f) e o = absurd o
 
 -- a look-up begins
-pub begun : (old new : Scene) (fs fs' : List Frame) (f : Frame) (k i : ℕ) → IsWaiting old fs → LastWaits (program_of old) fs k i → IsFormal (program_of old) k i → IsOpen (formal_at old k i) → IsFrame (program_of old) (rows old) f → f.spot ≡ k → f.formal ≡ i →
+pub begun : (old new : Scene) (fs fs' : List LookUpFrame) (f : LookUpFrame) (k i : ℕ) → IsWaiting old fs → LastWaits (program_of old) fs k i → IsFormal (program_of old) k i → IsOpen (formal_at old k i) → IsFrame (program_of old) (rows old) f → f.spot ≡ k → f.formal ≡ i →
     IsSameButFormals old new → rows new ≡ rows_with (rows old) k i known.Begun → fs' ≡ fs ++ f ∷ [] → IsWaiting new fs'
 begun old new fs fs' f k i waiting last formal open' frame at_spot at_formal same made pushed =
     subst (IsWaiting new) (sym pushed)
@@ -146,16 +146,16 @@ begun old new fs fs' f k i waiting last formal open' frame at_spot at_formal sam
     less : IsNoMoreOpen (program_of old) (rows old) (rows_with (rows old) k i known.Begun)
     less = no_more_open (program_of old) (rows old) k i known.Begun (λ h. open_row)
 
-pub begun_turned : (old new : Scene) (fs fs' : List Frame) (f : Frame) (k i : ℕ) → IsOpen (formal_at old k i) → has_frame fs k i ≡ false → f.spot ≡ k → f.formal ≡ i → rows new ≡ rows_with (rows old) k i known.Begun →
+pub begun_turned : (old new : Scene) (fs fs' : List LookUpFrame) (f : LookUpFrame) (k i : ℕ) → IsOpen (formal_at old k i) → has_frame fs k i ≡ false → f.spot ≡ k → f.formal ≡ i → rows new ≡ rows_with (rows old) k i known.Begun →
     fs' ≡ fs ++ f ∷ [] → IsTurn (rows old) (rows new) fs fs'
 begun_turned old new fs fs' f k i open' fresh at_spot at_formal made pushed =
     subst (IsTurn (rows old) (rows new) fs) (sym pushed) (begun_turn (rows old) (rows new) fs f k i made (open_rows old k i open') fresh at_spot at_formal)
 
-pub begun_has : (fs fs' : List Frame) (f : Frame) (k i : ℕ) → f.spot ≡ k → f.formal ≡ i → fs' ≡ fs ++ f ∷ [] → has_frame fs' k i ≡ true
+pub begun_has : (fs fs' : List LookUpFrame) (f : LookUpFrame) (k i : ℕ) → f.spot ≡ k → f.formal ≡ i → fs' ≡ fs ++ f ∷ [] → has_frame fs' k i ≡ true
 begun_has fs fs' f k i at_spot at_formal pushed = ap (λ gs. has_frame gs k i) pushed ∙ has_last fs f k i at_spot at_formal
 
 -- a circle closes
-pub circle_closed : (old new : Scene) (fs : List Frame) (k i : ℕ) → IsWaiting old fs → LastWaits (program_of old) fs k i → IsSameButFormals old new → IsCircled (rows old) (rows new) fs k i → IsWaiting new fs
+pub circle_closed : (old new : Scene) (fs : List LookUpFrame) (k i : ℕ) → IsWaiting old fs → LastWaits (program_of old) fs k i → IsSameButFormals old new → IsCircled (rows old) (rows new) fs k i → IsWaiting new fs
 circle_closed old new fs k i waiting last same c =
     waiting_made old new same waiting.ready (circled (rows old) (c.first ∷ c.circle)) c.made (settled_circled (rows old) (c.first ∷ c.circle))
     (circle_told (program_of old) (rows old) waiting.ready.told waiting.ready.set.walkable c.first c.circle c.before
@@ -165,7 +165,7 @@ circle_closed old new fs k i waiting last same c =
     fs (stack_on (program_of old) (rows old) (circled (rows old) (c.first ∷ c.circle)) (circled_less (program_of old) (rows old) (c.first ∷ c.circle)) fs waiting.stack)
     (fresh_circled (rows old) fs (c.first ∷ c.circle) waiting.fresh)
 
-pub circle_turned : (old new : Scene) (fs : List Frame) (k i : ℕ) → IsWaiting old fs → IsFormal (program_of old) k i → IsOpen (formal_at old k i) → has_frame fs k i ≡ true → IsCircled (rows old) (rows new) fs k i →
+pub circle_turned : (old new : Scene) (fs : List LookUpFrame) (k i : ℕ) → IsWaiting old fs → IsFormal (program_of old) k i → IsOpen (formal_at old k i) → has_frame fs k i ≡ true → IsCircled (rows old) (rows new) fs k i →
     IsTurn (rows old) (rows new) fs fs
 circle_turned old new fs k i waiting formal open' there c =
     closed_turn (rows old) (rows new) fs k i (subst (SameShape (rows old)) (sym c.made) (shape_circled (rows old) (c.first ∷ c.circle)))
@@ -181,17 +181,17 @@ circle_turned old new fs k i waiting formal open' there c =
         ∙ own_circle (program_of old) (rows old) waiting.ready.told c.circle c.first formal.0 formal.1 head
 
 -- the topmost look-up is taken off
-pub taken : (s : Scene) (fs : List Frame) (f : Frame) → IsWaiting s (fs ++ f ∷ []) → IsWaiting s fs × IsFrame (program_of s) (rows s) f × LastWaits (program_of s) fs f.spot f.formal
+pub taken : (s : Scene) (fs : List LookUpFrame) (f : LookUpFrame) → IsWaiting s (fs ++ f ∷ []) → IsWaiting s fs × IsFrame (program_of s) (rows s) f × LastWaits (program_of s) fs f.spot f.formal
 taken s fs f w =
     let r : IsStack (program_of s) (rows s) fs × IsFrame (program_of s) (rows s) f × LastWaits (program_of s) fs f.spot f.formal = stack_pop (program_of s) (rows s) fs f w.stack in
     (record { ready = w.ready; stack = r.0; fresh = fresh_below (rows s) fs f w.fresh }, r.1, r.2)
 
-pub taken_turn : (s : Scene) (fs : List Frame) (f : Frame) → (IsOpen (formal_at s f.spot f.formal) → ⊥) → IsTurn (rows s) (rows s) (fs ++ f ∷ []) fs
+pub taken_turn : (s : Scene) (fs : List LookUpFrame) (f : LookUpFrame) → (IsOpen (formal_at s f.spot f.formal) → ⊥) → IsTurn (rows s) (rows s) (fs ++ f ∷ []) fs
 taken_turn s fs f told =
     popped_turn (rows s) (rows s) fs f (shape_same (rows s)) (λ k i is. is) (λ h. told (subst IsOpen (sym (formal_by_rows s f.spot f.formal)) h))
 
 -- it goes on
-pub gone_on : (s : Scene) (fs fs' : List Frame) (f g : Frame) → IsWaiting s (fs ++ f ∷ []) → GoesOn (program_of s) (rows s) f g → fs' ≡ fs ++ g ∷ [] → IsWaiting s fs'
+pub gone_on : (s : Scene) (fs fs' : List LookUpFrame) (f g : LookUpFrame) → IsWaiting s (fs ++ f ∷ []) → GoesOn (program_of s) (rows s) f g → fs' ≡ fs ++ g ∷ [] → IsWaiting s fs'
 gone_on s fs fs' f g w on pushed =
     let t : IsWaiting s fs × IsFrame (program_of s) (rows s) f × LastWaits (program_of s) fs f.spot f.formal = taken s fs f w in
     subst (IsWaiting s) (sym pushed)
@@ -203,18 +203,18 @@ gone_on s fs fs' f g w on pushed =
       fresh = fresh_after (rows s) fs f g on.spot on.formal w.fresh;
     })
 
-pub on_turned : (old new : Scene) (fs gs fs' : List Frame) (f g : Frame) → GoesOn (program_of old) (rows old) f g → gs ≡ fs ++ g ∷ [] → IsTurn (rows old) (rows new) gs fs' → IsTurn (rows old) (rows new) (fs ++ f ∷ []) fs'
+pub on_turned : (old new : Scene) (fs gs fs' : List LookUpFrame) (f g : LookUpFrame) → GoesOn (program_of old) (rows old) f g → gs ≡ fs ++ g ∷ [] → IsTurn (rows old) (rows new) gs fs' → IsTurn (rows old) (rows new) (fs ++ f ∷ []) fs'
 on_turned old new fs gs fs' f g on pushed turn = turn_after (rows old) (rows new) fs fs' f g on.spot on.formal (subst (λ xs. IsTurn (rows old) (rows new) xs fs') pushed turn)
 
 -- it waits
-pub waits_last : (s : Scene) (fs fs' : List Frame) (f : Frame) (i : ℕ) → Waits (program_of s) (rows s) f i → fs' ≡ fs ++ f ∷ [] → LastWaits (program_of s) fs' f.here i
+pub waits_last : (s : Scene) (fs fs' : List LookUpFrame) (f : LookUpFrame) (i : ℕ) → Waits (program_of s) (rows s) f i → fs' ≡ fs ++ f ∷ [] → LastWaits (program_of s) fs' f.here i
 waits_last s fs fs' f i w pushed = subst (λ xs. LastWaits (program_of s) xs f.here i) (sym pushed) (last_waits (program_of s) (rows s) fs f f.here i w.waits)
 
-pub waits_open : (s : Scene) (f : Frame) (i : ℕ) → Waits (program_of s) (rows s) f i → IsOpen (formal_at s f.here i)
+pub waits_open : (s : Scene) (f : LookUpFrame) (i : ℕ) → Waits (program_of s) (rows s) f i → IsOpen (formal_at s f.here i)
 waits_open s f i w = subst IsOpen (sym (formal_by_rows s f.here i)) w.unanswered
 
 -- it ends
-pub ended_turn : (old new : Scene) (fs : List Frame) (f : Frame) (m : Found) → IsWaiting old (fs ++ f ∷ []) → IsOpen (formal_at old f.spot f.formal) → IsAnswer (program_of old) (rows old) f.spot f.formal m →
+pub ended_turn : (old new : Scene) (fs : List LookUpFrame) (f : LookUpFrame) (m : Found) → IsWaiting old (fs ++ f ∷ []) → IsOpen (formal_at old f.spot f.formal) → IsAnswer (program_of old) (rows old) f.spot f.formal m →
     IsSameButFormals old new → rows new ≡ rows_with (rows old) f.spot f.formal (known.Means m) → IsWaiting new fs
 ended_turn old new fs f m w open' a same made =
     waiting_made old new same w.ready (rows_with (rows old) f.spot f.formal (known.Means m)) made (settled_with (rows old) f.spot f.formal (known.Means m) (λ h. absurd h))
@@ -231,7 +231,7 @@ ended_turn old new fs f m w open' a same made =
     stays : ComesBack (program_of old) a.at a.name → ⊥
     stays back = a.shut back.0 a.at a.name back.1 back.2 (f.spot, f.formal, a.head, open_rows old f.spot f.formal open')
 
-pub ended_turned : (old new : Scene) (fs : List Frame) (f : Frame) (m : Found) → IsWaiting old (fs ++ f ∷ []) → IsAnswer (program_of old) (rows old) f.spot f.formal m →
+pub ended_turned : (old new : Scene) (fs : List LookUpFrame) (f : LookUpFrame) (m : Found) → IsWaiting old (fs ++ f ∷ []) → IsAnswer (program_of old) (rows old) f.spot f.formal m →
     rows new ≡ rows_with (rows old) f.spot f.formal (known.Means m) → IsTurn (rows old) (rows new) (fs ++ f ∷ []) fs
 ended_turned old new fs f m w a made =
     popped_turn (rows old) (rows new) fs f (subst (SameShape (rows old)) (sym made) (shape_with (rows old) f.spot f.formal (known.Means m)))

@@ -9,11 +9,11 @@ use Rattle.smv_language.specs.Scope.{Place, find_module}
 use Rattle.smv_language.specs.Flat.{FlatInstance}
 use Rattle.smv_flat_laws.specs.Items.{instances_of}
 use Rattle.smv_scope.specs.SceneTree.{HasNames, formals_of, program_of}
-use Rattle.smv_scope.specs.FoundAt.{names_of_spot, formal_or}
-use Rattle.smv_scope.specs.Known.{rows_of, rows, row_or, formals_in, formals_at, unknown_to, formal_of, IsHead, IsTold, AreTold, IsSameButFormals}
-use Rattle.smv_scope.specs.Laid.{IsLaidSpot, IsLaid}
+use Rattle.smv_scope.specs.TableLookUps.{names_of_spot, formal_or}
+use Rattle.smv_scope.specs.KnownFormals.{rows_of, rows, row_or, formals_in, formals_at, unknown_to, formal_of, IsHead, IsTold, AreTold, IsSameButFormals}
+use Rattle.smv_scope.specs.NumberedScenes.{IsLaidSpot, IsLaid}
 use Rattle.smv_scope.specs.declared.modules.Modules.{Modules}
-use Rattle.smv_scope.specs.declared.modules.Names.{Names}
+use Rattle.smv_scope.specs.declared.modules.ModuleNames.{ModuleNames}
 use Rattle.smv_scope.specs.declared.walk.Spot.{Spot}
 use Rattle.smv_scope.specs.declared.names.Formal.{Formal}
 use Rattle.smv_scope.specs.declared.names.Formal.TheVariants as known
@@ -40,7 +40,7 @@ unknown_more s mid k fs v count same so_far pushed is counted =
         ap (λ (m : Modules). formals_of_modules m (slice_get mid.spots.items k)) same.modules
         ∙ ap (λ (v : Vec Spot Global). formals_of_modules s.modules (slice_get v.items k)) same.spots
       where
-        names_by : Modules → Option Spot → Option Names
+        names_by : Modules → Option Spot → Option ModuleNames
         names_by m None = None
         names_by m (Some spot) = slice_get m.list.items spot.«module»
 
@@ -99,7 +99,7 @@ unknown_told s laid k all = record {
     counted : (spot : ℕ) (at : FlatInstance) → slice_get (instances_of (program_of s)) spot ≡ Some at → formals_at s spot ≡ length (formals_of (find_module (program_of s) at.module_name))
     counted spot at e =
         let own : (own : Spot) × (slice_get s.spots.items spot ≡ Some own) × IsLaidSpot (program_of s) at own = laid_at s laid spot at e in
-        let names : (names : Names) × (names_of_spot s (slice_get s.spots.items spot) ≡ Some names) × HasNames own.2.placed.tree names = names_laid s laid spot at own.0 own.1 own.2 in
+        let names : (names : ModuleNames) × (names_of_spot s (slice_get s.spots.items spot) ≡ Some names) × HasNames own.2.placed.tree names = names_laid s laid spot at own.0 own.1 own.2 in
         ap formals_in names.1
         ∙ ap (λ (m : ModuleTree). length m.formals) names.2.tree
         ∙ ap (λ o. length (formals_of o)) (sym own.2.placed.named)

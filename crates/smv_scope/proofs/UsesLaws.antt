@@ -3,10 +3,10 @@ use Rattle.std.proofs.Common.{◌≡◌, Bool, true, false, ◌||◌, List, [], 
 use Rattle.std.proofs.lemmas.List.{append-nil, append_assoc, map-append}
 use Rattle.smv_language.specs.Tree.{Tree, Trees, Branches, truth, number, leaf, not_of, negate, next_of, binary, choice, case_of, set_of, span, no_tree, tree_then, no_branch, branch_then}
 use Rattle.smv_language.specs.ProgramTree.{Path}
-use Rattle.smv_flat_laws.specs.Resolved.{leaves_in, trees_leaves, branches_leaves, has_next, trees_have_next, branches_have_next}
+use Rattle.smv_flat_laws.specs.NameResolution.{leaves_in, trees_leaves, branches_leaves, has_next, trees_have_next, branches_have_next}
 use Rattle.smv_flat_laws.specs.Rules.{leaves_under, trees_leaves_under, branches_leaves_under, next_under_next, trees_next_under, branches_next_under}
-use Rattle.smv_scope.specs.Flagged.{flagged, trees_flagged, branches_flagged}
-use Rattle.smv_scope.specs.Seen.{Seen, seen_after, seen_after_trees, seen_after_branches}
+use Rattle.smv_scope.specs.NextFlags.{flagged, trees_flagged, branches_flagged}
+use Rattle.smv_scope.specs.SeenNames.{Seen, seen_after, seen_after_trees, seen_after_branches}
 use Rattle.smv_language.proofs.BoolLaws.{or_assoc}
 
 four : {A : Type 0} (xs ys zs ws : List A) → ((xs ++ ys) ++ zs) ++ ws ≡ xs ++ (ys ++ (zs ++ ws))

@@ -11,9 +11,9 @@ use Rattle.smv_flat_laws.proofs.FaultLaws.{IsLowest, IsFirstOf, Outcome, first_b
 use Rattle.smv_scope.specs.declared.fault.FlatFault.{FlatFault}
 use Rattle.smv_scope.specs.declared.modules.Modules.{Modules}
 use Rattle.smv_scope.specs.Faults.{rule_of, IsFaultOf}
-use Rattle.smv_scope.specs.Reading.{Told, told_if, told_first, IsTold}
+use Rattle.smv_scope.specs.ModuleFaults.{Told, told_if, told_first, IsTold}
 use Rattle.smv_scope.specs.SceneTree.{AreModules}
-use Rattle.smv_scope.specs.Walking.{calls_declared, passes_limit, visits_told, program_in}
+use Rattle.smv_scope.specs.InstanceWalk.{calls_declared, passes_limit, visits_told, program_in}
 use Rattle.smv_flat_laws.proofs.VariableCounts.{variables_and}
 use Rattle.smv_language.proofs.ListLaws.{flat_end}
 use Rattle.smv_language.proofs.BoolLaws.{never}

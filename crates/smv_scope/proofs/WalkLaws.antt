@@ -12,9 +12,9 @@ use Rattle.smv_scope.specs.declared.walk.Meaning.{Meaning as Found}
 use Rattle.smv_scope.specs.declared.walk.Spot.{Spot}
 use Rattle.smv_scope.specs.declared.walk.Walk.{Walk}
 use Rattle.smv_language.specs.ModelTree.{variable_tree}
-use Rattle.smv_scope.specs.Reading.{Told, told_first}
+use Rattle.smv_scope.specs.ModuleFaults.{Told, told_first}
 use Rattle.smv_language.specs.BorrowedTexts.{texts}
-use Rattle.smv_scope.specs.Walking.{Call, calls_declared, calls_in, variables_in, visit_told, visits_told, program_in, call_of, calls_of, variables_of_walk, on_path_of, place_of_spot, place_at, IsInstanceIn, IsVariableIn, IsDeclarationIn, IsOwnIn, IsCaller, IsSpotOf, IsDeclaredIn, HasWalked}
+use Rattle.smv_scope.specs.InstanceWalk.{Call, calls_declared, calls_in, variables_in, visit_told, visits_told, program_in, call_of, calls_of, variables_of_walk, on_path_of, place_of_spot, place_at, IsInstanceIn, IsVariableIn, IsDeclarationIn, IsOwnIn, IsCaller, IsSpotOf, IsDeclaredIn, HasWalked}
 use Rattle.smv_scope.proofs.SceneItems.{both_more}
 use Rattle.base_values.proofs.ListLaws.{get_left}
 use Rattle.smv_flat_laws.proofs.BothLaws.{both_long}

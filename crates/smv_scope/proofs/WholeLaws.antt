@@ -6,7 +6,7 @@ use Rattle.smv_language.specs.ProgramTree.{Text, Formula, DeclaredTree, boolean,
 use Rattle.smv_language.specs.Scope.{Place, Role, an_instance, kind_declared, kind_at, module_at, find_module}
 use Rattle.smv_language.specs.Texts.{is_among}
 use Rattle.smv_language.specs.Trace.{Each, EachBoth}
-use Rattle.smv_language.specs.Written.{tree_of}
+use Rattle.smv_language.specs.ExpressionTree.{tree_of}
 use Rattle.smv_language.specs.Flat.{FlatInstance, FlatVariable}
 use Rattle.smv_flat_laws.specs.Items.{Item as ItemOf, a_declaration, a_definition, an_assignment, some_constants, an_init, an_invar, a_trans, NumberedItem, items_named, Visit, walk, visits, instance_declared, instances_of_visit, instances_of, variables_of}
 use Rattle.smv_flat_laws.specs.Rules.{IsWalkable}
@@ -17,17 +17,17 @@ use Rattle.smv_flat_laws.proofs.Walkable.{main_is_there}
 use Rattle.smv_scope.specs.declared.fault.FlatFault.{FlatFault}
 use Rattle.smv_language.specs.declared.model.Variable.{Variable}
 use Rattle.smv_scope.specs.declared.modules.Modules.{Modules}
-use Rattle.smv_scope.specs.declared.modules.Names.{Names}
+use Rattle.smv_scope.specs.declared.modules.ModuleNames.{ModuleNames}
 use Rattle.smv_scope.specs.declared.walk.Meaning.{Meaning as Found}
 use Rattle.smv_scope.specs.declared.walk.Spot.{Spot}
 use Rattle.smv_scope.specs.declared.walk.Walk.{Walk}
 use Rattle.smv_language.specs.ModelTree.{place_of, variable_tree}
 use Rattle.smv_scope.specs.Faults.{IsFaultOf}
-use Rattle.smv_scope.specs.Reading.{IsTold, IsModuleAt}
+use Rattle.smv_scope.specs.ModuleFaults.{IsTold, IsModuleAt}
 use Rattle.smv_scope.specs.SceneTree.{AreModules, IsWalked, IsCalled, IsSpotWalked}
 use Rattle.smv_language.specs.BorrowedTexts.{texts}
-use Rattle.smv_scope.specs.Walked.{IsDeclaredBy, IsWhole}
-use Rattle.smv_scope.specs.Walking.{Call, calls_declared, calls_in, variables_in, visits_told, walk_from, program_in, name_at, call_of, calls_of, variables_of_walk, on_path_of, visits_within, IsInstanceIn, IsVariableIn, IsDeclarationIn, IsOwnIn, IsCaller, IsSpotOf, IsDeclaredIn, HasEntered, IsPath, IsEntry}
+use Rattle.smv_scope.specs.WalkFindings.{IsDeclaredBy, IsWhole}
+use Rattle.smv_scope.specs.InstanceWalk.{Call, calls_declared, calls_in, variables_in, visits_told, walk_from, program_in, name_at, call_of, calls_of, variables_of_walk, on_path_of, visits_within, IsInstanceIn, IsVariableIn, IsDeclarationIn, IsOwnIn, IsCaller, IsSpotOf, IsDeclaredIn, HasEntered, IsPath, IsEntry}
 use Rattle.smv_scope.proofs.FoundModule.{main_at}
 use Rattle.smv_scope.proofs.MetLaws.{calls_met, module_named}
 use Rattle.smv_scope.proofs.ReadingLaws.{told_as}
@@ -160,7 +160,7 @@ module _ (ms : Modules) (known : AreModules ms) (w0 : Walk) (spots : w0.spots.it
     (main : Spot) (at_main : main.«module» ≡ ms.main) (no_path : main.path ≡ None) (no_actuals : main.actuals.now ≡ []) where
   main_name : name_at ms main.«module» ≡ codes "main"
   main_name =
-      let at : (names : Names) × IsModuleAt ms (codes "main") ms.main names = main_at ms known in
+      let at : (names : ModuleNames) × IsModuleAt ms (codes "main") ms.main names = main_at ms known in
       ap (name_at ms) at_main ∙ module_named ms (codes "main") ms.main at.0 at.1
 
   no_modules : on_path_of w0 ≡ []
@@ -171,7 +171,7 @@ module _ (ms : Modules) (known : AreModules ms) (w0 : Walk) (spots : w0.spots.it
 
   pub main_enters : IsEntry ms w0 main
   main_enters =
-      let at : (names : Names) × IsModuleAt ms (codes "main") ms.main names = main_at ms known in
+      let at : (names : ModuleNames) × IsModuleAt ms (codes "main") ms.main names = main_at ms known in
       record {
         names = at.0;
         is = subst (λ (x : Text). IsModuleAt ms x main.«module» at.0) (sym main_name) (subst (λ (k : ℕ). IsModuleAt ms (codes "main") k at.0) (sym at_main) at.1);

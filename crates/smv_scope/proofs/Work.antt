@@ -3,12 +3,12 @@ use Rattle.std.proofs.Common.{◌≡◌, ℕ, zero, suc, ◌+◌, ◌<◌, ◌�
 use Rattle.std.specs.Prelude.{slice_get}
 use Rattle.std.proofs.lemmas.List.{length-set}
 use Rattle.std.proofs.lemmas.List.Folds.{list_any-append}
-use Rattle.smv_scope.specs.FoundAt.{formal_or}
-use Rattle.smv_scope.specs.Known.{rows_with, formal_of, IsOpen}
-use Rattle.smv_scope.specs.Waiting.{is_of, has_frame, circled, AreSettled, left_of, row_left, rows_left, work, IsTurn}
+use Rattle.smv_scope.specs.TableLookUps.{formal_or}
+use Rattle.smv_scope.specs.KnownFormals.{rows_with, formal_of, IsOpen}
+use Rattle.smv_scope.specs.WaitingLookUps.{is_of, has_frame, circled, AreSettled, left_of, row_left, rows_left, work, IsTurn}
 use Rattle.smv_scope.specs.declared.names.Formal.{Formal}
 use Rattle.smv_scope.specs.declared.names.Formal.TheVariants as known
-use Rattle.smv_scope.specs.declared.formals.Frame.{Frame}
+use Rattle.smv_scope.specs.declared.formals.LookUpFrame.{LookUpFrame}
 use Rattle.smv_scope.proofs.Told.{IsChanged, changed}
 use Rattle.std.proofs.lemmas.Bool.{or_left, or_right, and_parts as and_both, and_from as and_true}
 use Rattle.smv_language.proofs.BoolLaws.{or_cases}
@@ -37,7 +37,7 @@ shape_then (x ∷ a) [] c h g = absurd h
 shape_then (x ∷ a) (y ∷ b) [] h g = absurd g
 shape_then (x ∷ a) (y ∷ b) (z ∷ c) h g = (h.0 ∙ g.0, shape_then a b c h.1 g.1)
 
-pub shape_circled : (rs : List (List Formal)) (fs : List Frame) → SameShape rs (circled rs fs)
+pub shape_circled : (rs : List (List Formal)) (fs : List LookUpFrame) → SameShape rs (circled rs fs)
 shape_circled rs [] = shape_same rs
 shape_circled rs (f ∷ fs) = shape_then rs (circled rs fs) (circled rs (f ∷ fs)) (shape_circled rs fs) (shape_with (circled rs fs) f.spot f.formal known.Circle)
 
@@ -124,23 +124,23 @@ told_left b known.Begun told = absurd (told tt)
 told_left b known.Circle told = refl
 told_left b (known.Means m) told = refl
 
-pub of_frame : (k i : ℕ) (f : Frame) → is_of k i f ≡ true → (f.spot ≡ k) × (f.formal ≡ i)
+pub of_frame : (k i : ℕ) (f : LookUpFrame) → is_of k i f ≡ true → (f.spot ≡ k) × (f.formal ≡ i)
 of_frame k i f h =
     let both : ((f.spot == k) ≡ true) × ((f.formal == i) ≡ true) = and_both (f.spot == k) (f.formal == i) h in (eqb-true f.spot k both.0, eqb-true f.formal i both.1)
 
-pub own_frame : (k i : ℕ) (f : Frame) → f.spot ≡ k → f.formal ≡ i → is_of k i f ≡ true
+pub own_frame : (k i : ℕ) (f : LookUpFrame) → f.spot ≡ k → f.formal ≡ i → is_of k i f ≡ true
 own_frame k i f e d = and_true (f.spot == k) (f.formal == i) (eq-eqb f.spot k e) (eq-eqb f.formal i d)
 
-has_end : (fs : List Frame) (f : Frame) (k i : ℕ) → has_frame (fs ++ f ∷ []) k i ≡ (has_frame fs k i || (is_of k i f || false))
+has_end : (fs : List LookUpFrame) (f : LookUpFrame) (k i : ℕ) → has_frame (fs ++ f ∷ []) k i ≡ (has_frame fs k i || (is_of k i f || false))
 has_end fs f k i = list_any-append (is_of k i) fs (f ∷ [])
 
-pub has_below : (fs : List Frame) (f : Frame) (k i : ℕ) → has_frame fs k i ≡ true → has_frame (fs ++ f ∷ []) k i ≡ true
+pub has_below : (fs : List LookUpFrame) (f : LookUpFrame) (k i : ℕ) → has_frame fs k i ≡ true → has_frame (fs ++ f ∷ []) k i ≡ true
 has_below fs f k i h = has_end fs f k i ∙ or_left (has_frame fs k i) (is_of k i f || false) h
 
-pub has_last : (fs : List Frame) (f : Frame) (k i : ℕ) → f.spot ≡ k → f.formal ≡ i → has_frame (fs ++ f ∷ []) k i ≡ true
+pub has_last : (fs : List LookUpFrame) (f : LookUpFrame) (k i : ℕ) → f.spot ≡ k → f.formal ≡ i → has_frame (fs ++ f ∷ []) k i ≡ true
 has_last fs f k i e d = has_end fs f k i ∙ or_right (has_frame fs k i) (is_of k i f || false) (or_left (is_of k i f) false (own_frame k i f e d))
 
-pub has_split : (fs : List Frame) (f : Frame) (k i : ℕ) → has_frame (fs ++ f ∷ []) k i ≡ true → (has_frame fs k i ≡ true) ⊎ ((f.spot ≡ k) × (f.formal ≡ i))
+pub has_split : (fs : List LookUpFrame) (f : LookUpFrame) (k i : ℕ) → has_frame (fs ++ f ∷ []) k i ≡ true → (has_frame fs k i ≡ true) ⊎ ((f.spot ≡ k) × (f.formal ≡ i))
 has_split fs f k i h = by_end (or_cases (has_frame fs k i) (is_of k i f || false) (sym (has_end fs f k i) ∙ h))
   where
     by_own : (is_of k i f ≡ true) ⊎ (false ≡ true) → (has_frame fs k i ≡ true) ⊎ ((f.spot ≡ k) × (f.formal ≡ i))
@@ -152,7 +152,7 @@ has_split fs f k i h = by_end (or_cases (has_frame fs k i) (is_of k i f || false
     by_end (inr e) = by_own (or_cases (is_of k i f) false e)
 
 -- a turn
-module _ (rs rs' : List (List Formal)) (fs fs' : List Frame) (shape : SameShape rs rs') (settled : AreSettled rs rs')
+module _ (rs rs' : List (List Formal)) (fs fs' : List LookUpFrame) (shape : SameShape rs rs') (settled : AreSettled rs rs')
     (waits : (k i : ℕ) → IsOpen (formal_of rs' k i) → has_frame fs k i ≡ true → has_frame fs' k i ≡ true) where
   each_less : (k i : ℕ) → left_of (has_frame fs' k i) (formal_of rs' k i) ≤ left_of (has_frame fs k i) (formal_of rs k i)
   each_less k i = left_less (has_frame fs k i) (has_frame fs' k i) (formal_of rs k i) (formal_of rs' k i) (settled k i) (waits k i)
@@ -177,7 +177,7 @@ module _ (rs rs' : List (List Formal)) (fs fs' : List Frame) (shape : SameShape 
       rows_less (λ k i f. left_of (has_frame fs k i) f) (λ k i f. left_of (has_frame fs' k i) f) rs rs' shape each_less in
       let all : rows_left (λ k i f. left_of (has_frame fs' k i) f) rs' + length fs' ≤ rows_left (λ k i f. left_of (has_frame fs k i) f) rs + length fs = omega (arith, less, shorter) in all
 
-length_end : (fs : List Frame) (f : Frame) → length (fs ++ f ∷ []) ≡ suc (length fs)
+length_end : (fs : List LookUpFrame) (f : LookUpFrame) → length (fs ++ f ∷ []) ≡ suc (length fs)
 length_end [] f = refl
 length_end (g ∷ fs) f = ap suc (length_end fs f)
 
@@ -189,12 +189,12 @@ settled_with rs k i f may k' i' is = by_change (changed rs k i f k' i')
     by_change (inl e) = subst IsOpen e is
     by_change (inr e) = subst IsOpen (ap (λ n. formal_of rs n i) (sym e.0) ∙ ap (formal_of rs k') (sym e.1)) (may (subst IsOpen e.2 is))
 
-pub settled_circled : (rs : List (List Formal)) (fs : List Frame) → AreSettled rs (circled rs fs)
+pub settled_circled : (rs : List (List Formal)) (fs : List LookUpFrame) → AreSettled rs (circled rs fs)
 settled_circled rs [] = λ k i is. is
 settled_circled rs (f ∷ fs) = λ k i is. settled_circled rs fs k i (settled_with (circled rs fs) f.spot f.formal known.Circle (λ h. absurd h) k i is)
 
 -- the topmost look-up is done
-pub popped_turn : (rs rs' : List (List Formal)) (fs : List Frame) (f : Frame) → SameShape rs rs' → AreSettled rs rs' → (IsOpen (formal_of rs' f.spot f.formal) → ⊥) → IsTurn rs rs' (fs ++ f ∷ []) fs
+pub popped_turn : (rs rs' : List (List Formal)) (fs : List LookUpFrame) (f : LookUpFrame) → SameShape rs rs' → AreSettled rs rs' → (IsOpen (formal_of rs' f.spot f.formal) → ⊥) → IsTurn rs rs' (fs ++ f ∷ []) fs
 popped_turn rs rs' fs f shape settled told =
     turn_shorter rs rs' (fs ++ f ∷ []) fs shape settled
     (λ k i is h. by_split k i is (has_split fs f k i h))
@@ -205,7 +205,7 @@ popped_turn rs rs' fs f shape settled told =
     by_split k i is (inr e) = absurd (told (subst IsOpen (ap (λ n. formal_of rs' n i) (sym e.0) ∙ ap (formal_of rs' f.spot) (sym e.1)) is))
 
 -- another look-up begins
-pub begun_turn : (rs rs' : List (List Formal)) (fs : List Frame) (f : Frame) (k i : ℕ) → rs' ≡ rows_with rs k i known.Begun → IsOpen (formal_of rs k i) → has_frame fs k i ≡ false → f.spot ≡ k → f.formal ≡ i →
+pub begun_turn : (rs rs' : List (List Formal)) (fs : List LookUpFrame) (f : LookUpFrame) (k i : ℕ) → rs' ≡ rows_with rs k i known.Begun → IsOpen (formal_of rs k i) → has_frame fs k i ≡ false → f.spot ≡ k → f.formal ≡ i →
     IsTurn rs rs' fs (fs ++ f ∷ [])
 begun_turn rs rs' fs f k i made is fresh spot formal =
     turn_fewer rs rs' fs (fs ++ f ∷ []) (subst (SameShape rs) (sym made) (shape_with rs k i known.Begun))
@@ -220,7 +220,7 @@ begun_turn rs rs' fs f k i made is fresh spot formal =
         omega (arith, now, before)
 
 -- a circle closes
-pub closed_turn : (rs rs' : List (List Formal)) (fs : List Frame) (k i : ℕ) → SameShape rs rs' → AreSettled rs rs' → IsOpen (formal_of rs k i) → has_frame fs k i ≡ true → (IsOpen (formal_of rs' k i) → ⊥) → IsTurn rs rs' fs fs
+pub closed_turn : (rs rs' : List (List Formal)) (fs : List LookUpFrame) (k i : ℕ) → SameShape rs rs' → AreSettled rs rs' → IsOpen (formal_of rs k i) → has_frame fs k i ≡ true → (IsOpen (formal_of rs' k i) → ⊥) → IsTurn rs rs' fs fs
 closed_turn rs rs' fs k i shape settled is waits told =
     turn_fewer rs rs' fs fs shape settled (λ k' i' open' h. h) k i 1 is fewer (omega arith)
   where
@@ -231,7 +231,7 @@ closed_turn rs rs' fs k i shape settled is waits told =
         omega (arith, now, before)
 
 -- the topmost look-up has gone on before the turn
-pub turn_after : (rs rs' : List (List Formal)) (fs fs' : List Frame) (f g : Frame) → g.spot ≡ f.spot → g.formal ≡ f.formal → IsTurn rs rs' (fs ++ g ∷ []) fs' → IsTurn rs rs' (fs ++ f ∷ []) fs'
+pub turn_after : (rs rs' : List (List Formal)) (fs fs' : List LookUpFrame) (f g : LookUpFrame) → g.spot ≡ f.spot → g.formal ≡ f.formal → IsTurn rs rs' (fs ++ g ∷ []) fs' → IsTurn rs rs' (fs ++ f ∷ []) fs'
 turn_after rs rs' fs fs' f g spot formal turn = record {
   settled = turn.settled;
   waits = λ k i is h. turn.waits k i is (same k i h);

@@ -1,20 +1,20 @@
 -- Which rule is told of several.
 use Rattle.std.specs.Prelude.{◌≡◌, Bool, if◌then◌else◌, List, [], ◌∷◌, Option, Some, None, IfSome}
-use Rattle.smv_scope.specs.declared.fault.Rule.{Rule}
-use Rattle.smv_scope.specs.declared.fault.Rule.TheVariants as code
-use Rattle.smv_scope.specs.declared.fault.Rule.TheVariants.{NoMain}
+use Rattle.smv_scope.specs.declared.fault.FlatRule.{FlatRule}
+use Rattle.smv_scope.specs.declared.fault.FlatRule.TheVariants as code
+use Rattle.smv_scope.specs.declared.fault.FlatRule.TheVariants.{NoMain}
 use Rattle.smv_scope.specs.declared.fault.FlatFault.{FlatFault}
 use Rattle.smv_language.specs.ProgramTree.{ProgramTree}
 use Rattle.smv_flat_laws.specs.Rules as rules
 use Rattle.smv_flat_laws.specs.Rules.{IsFirstBroken}
 
 -- the first rule of a list that is broken
-abbrev pub first_of : List (Bool × Rule) → Option Rule
+abbrev pub first_of : List (Bool × FlatRule) → Option FlatRule
 first_of [] = None
 first_of (r ∷ rs) = if r.0 then Some r.1 else first_of rs
 
 -- the rule that a told one is; want of memory is none
-abbrev pub rule_of : Rule → Option rules.Rule
+abbrev pub rule_of : FlatRule → Option rules.Rule
 rule_of code.NoMain = Some rules.no_main
 rule_of code.MainHasParameters = Some rules.main_has_parameters
 rule_of code.DoubleModule = Some rules.double_module

@@ -4,7 +4,7 @@ use Rattle.smv_language.specs.ProgramTree.{Path, Formula, ProgramTree}
 use Rattle.smv_language.specs.Scope.{Place, Key}
 use Rattle.smv_language.specs.Trace.{Each, AtSome, EachBoth}
 use Rattle.smv_flat_laws.specs.Looks.{MeansNothing, MeetsLoop}
-use Rattle.smv_flat_laws.specs.Resolved.{leaves_in}
+use Rattle.smv_flat_laws.specs.NameResolution.{leaves_in}
 use Rattle.smv_flat_laws.specs.Rules.{Leads, NeedsItself, MeansInput, expression_of}
 use Rattle.smv_flat_laws.specs.Model.{Root, roots_of, AddsAll}
 use Rattle.smv_scope.specs.declared.needs.Needs.{Needs}
@@ -42,10 +42,11 @@ pub record IsMeant (p : ProgramTree) (at : Place) (name : Path) : Type 0 where
 
 -- each name of each definition means something
 abbrev pub AreMeant : ProgramTree → Type 0
-AreMeant p = (k : ℕ) (key : Key) (at : Place) (e : Formula) → IsKeyAt p k key → expression_of p key ≡ Some (at, e) → Each (IsMeant p at) (leaves_in e)
+AreMeant p = (k : ℕ) (key : Key) (at : Place) (e : Formula) → IsKeyAt p k key → expression_of p key ≡ Some (at, e) →
+    Each (IsMeant p at) (leaves_in e)
 
--- The order of definitions, where none needs itself and all names mean something: each after those that it names. It has all numbers, and the
--- places are the other way round.
+-- The order of definitions, where none needs itself and all names mean something: each after those that it names. It has all numbers, and
+-- the places are the other way round.
 pub record IsOrder (p : ProgramTree) (order places : List ℕ) : Type 0 where
   pub ordered : List Key
   pub each : EachBoth (IsKeyAt p) order ordered

@@ -1,14 +1,17 @@
 -- What the tables of names hold of a program: its modules, its instances, and what names mean there.
-use Rattle.std.specs.Prelude.{◌≡◌, ℕ, suc, ◌<◌, Bool, false, if◌then◌else◌, List, [], ◌∷◌, ◌++◌, length, map, Option, Some, None, codes, slice_get, Vec}
+use Rattle.std.specs.Prelude.{◌≡◌, ℕ, suc, ◌<◌, Bool, false, if◌then◌else◌, List, [], ◌∷◌, ◌++◌, length, map, Option, Some, None, codes}
+use Rattle.std.specs.Prelude.{slice_get, Vec}
 use Rattle.std.specs.declared.alloc.Global.{Global}
 use Rattle.std.specs.Borrow.{Bor}
 use Rattle.smv_language.specs.ProgramTree.{Text, Path, Formula, DeclaredTree, instance, ModuleTree, ProgramTree, program_tree, module_tree}
 use Rattle.smv_language.specs.Texts.{same_text}
-use Rattle.smv_language.specs.Written.{tree_of}
-use Rattle.smv_language.specs.Scope.{Place, define_key, Meaning, a_variable_at, an_expression_at, an_instance_at, a_symbol, Means, find_module, formal_from, kind_at, module_at, an_instance}
+use Rattle.smv_language.specs.ExpressionTree.{tree_of}
+use Rattle.smv_language.specs.Scope.{Place, define_key, Meaning, a_variable_at, an_expression_at, an_instance_at, a_symbol, Means}
+use Rattle.smv_language.specs.Scope.{find_module, formal_from, kind_at, module_at, an_instance}
 use Rattle.smv_language.specs.Trace.{Each, EachBoth}
 use Rattle.smv_language.specs.Flat.{FlatInstance}
-use Rattle.smv_flat_laws.specs.Items.{Item as ItemOf, a_declaration, a_definition, NumberedItem, NumberedModule, modules_of, numbered_items, items_of, items_named, Visit, instances_of, variables_of}
+use Rattle.smv_flat_laws.specs.Items.{Item as ItemOf, a_declaration, a_definition, NumberedItem, NumberedModule, modules_of, numbered_items}
+use Rattle.smv_flat_laws.specs.Items.{items_of, items_named, Visit, instances_of, variables_of}
 use Rattle.smv_flat_laws.specs.Looks.{ComesBack, MeetsLoop, MeansNothing}
 use Rattle.smv_flat_laws.specs.Rules.{the_program, module_sites, IsKept, IsWalkable, expression_of}
 use Rattle.smv_flat_laws.specs.Model.{Root, roots_of, symbols_of}
@@ -17,7 +20,7 @@ use Rattle.smv_language.specs.ModelTree.{role_of, place_of}
 use Rattle.smv_language.specs.BorrowedTexts.{texts}
 use Rattle.smv_scope.specs.declared.modules.Local.{Local}
 use Rattle.smv_scope.specs.declared.modules.Local.TheVariants as local
-use Rattle.smv_scope.specs.declared.modules.Names.{Names}
+use Rattle.smv_scope.specs.declared.modules.ModuleNames.{ModuleNames}
 use Rattle.smv_scope.specs.declared.modules.Modules.{Modules}
 use Rattle.smv_scope.specs.declared.walk.Meaning.{Meaning as Found}
 use Rattle.smv_scope.specs.declared.walk.Meaning.TheVariants as found
@@ -87,7 +90,7 @@ module_from k [] x = None
 module_from k (m ∷ ms) x = if same_text m.name x then Some k else module_from (suc k) ms x
 
 -- a module with its items and its names
-pub record HasNames (m : NumberedModule) (names : Names) : Type 0 where
+pub record HasNames (m : NumberedModule) (names : ModuleNames) : Type 0 where
   pub tree : module_tree names.«module».now ≡ m.tree
   pub items : map numbered_tree names.items.items ≡ map number_and_item (numbered_items m)
   pub locals : named names.locals.entries ≡ local_entries m.tree
@@ -145,7 +148,8 @@ IsWalked p at i f = IsOwnMeaning p (meaning_of_item at i) f
 abbrev pub IsCalled : ProgramTree → FlatInstance → Place → ℕ → List Formula → Type 0
 IsCalled p i [] caller actuals = actuals ≡ []
 IsCalled p i (own ∷ at) caller actuals =
-    ((c : FlatInstance) × (slice_get (instances_of p) caller ≡ Some c) × (c.place ≡ at)) × (kind_at (module_at p at) own ≡ an_instance i.module_name actuals)
+    ((c : FlatInstance) × (slice_get (instances_of p) caller ≡ Some c) × (c.place ≡ at))
+    × (kind_at (module_at p at) own ≡ an_instance i.module_name actuals)
 
 -- an instance with its module by number, its path, its caller and its actuals
 pub record IsPlaced (p : ProgramTree) (i : FlatInstance) (spot : Spot) : Type 0 where
@@ -214,4 +218,5 @@ pub record IsSet (s : Scene) : Type 0 where
 -- all tables of a scene are the program's
 pub record IsScene (s : Scene) : Type 0 where
   pub set : IsSet s
-  pub formals : EachBoth (λ (i : FlatInstance) (fs : Vec Formal Global). AreKnown (program_of s) i fs.items) (instances_of (program_of s)) s.formals.items
+  pub formals : EachBoth (λ (i : FlatInstance) (fs : Vec Formal Global). AreKnown (program_of s) i fs.items) (instances_of (program_of s))
+      s.formals.items

@@ -5,10 +5,10 @@
 //! in no component yet begins one, and all that lead to it, and are in none, belong there: the search goes over
 //! the links from their other ends, and looks at each link once. A definition is on a circle where it is linked
 //! to one of its own component.
-
 ghost use Rattle.std.specs.Prelude.{◌≡◌, ◌<◌, true, [], ◌++◌, length, reverse, set, replicate, None, Some, IfOk, OnOk};
 ghost use Rattle.smv_scope.specs.Links.{graph_of, AreTurned, IsCircle, AreCircles};
-ghost use Rattle.smv_scope.specs.Components.{IsFinished, component_at, members, with_own, joined_of, join_by, AreComponents, is_same as is_same_component, is_back};
+ghost use Rattle.smv_scope.specs.Components.{IsFinished, component_at, members, with_own, joined_of, join_by, AreComponents};
+ghost use Rattle.smv_scope.specs.Components.{is_same as is_same_component, is_back};
 
 use crate::links::Links;
 use base_values::OutOfMemory;
@@ -16,7 +16,7 @@ use std::alloc::Global;
 
 /// A definition that may be in a component.
 #[derive(Clone, Copy)]
-struct Member {
+struct CircleMember {
     definition: usize,
     component: usize,
 }
@@ -26,7 +26,7 @@ struct Member {
 #[derive(Drop)]
 struct Components {
     of: Vec<Option<usize>>,
-    waiting: Vec<Member>,
+    waiting: Vec<CircleMember>,
 }
 
 impl Components {
@@ -37,7 +37,7 @@ impl Components {
         let of = Vec::from_elem(alloc, None, count)?;
         let mut waiting = Vec::new(alloc);
         for (component, definition) in order.iter().enumerate() {
-            waiting.push(Member {
+            waiting.push(CircleMember {
                 definition: *definition,
                 component,
             })?;
@@ -46,7 +46,7 @@ impl Components {
     }
 
     /// Looks at a definition: if it is in no component yet, it is in this one, and what is linked to it waits.
-    fn by(&mut self, back: &Links, member: Member) -> Result<(), OutOfMemory>
+    fn by(&mut self, back: &Links, member: CircleMember) -> Result<(), OutOfMemory>
         ensures { OnOk result (joined_of self.new ≡ join_by (graph_of back.now) (joined_of self.old) member) }
     {
         if component_of(self.of.as_slice(), member.definition).is_some() {
@@ -82,14 +82,14 @@ fn set_component(components: &mut Vec<Option<usize>>, definition: usize, compone
 
 /// Puts definitions for a component on the stack.
 fn push_members(
-    waiting: &mut Vec<Member>,
+    waiting: &mut Vec<CircleMember>,
     definitions: &[usize],
     component: usize,
 ) -> Result<(), OutOfMemory>
     ensures { OnOk result (reverse waiting.new.items ≡ members component definitions.now ++ reverse waiting.old.items) }
 {
     for definition in definitions.iter().rev() {
-        waiting.push(Member {
+        waiting.push(CircleMember {
             definition: *definition,
             component,
         })?;

@@ -2,14 +2,13 @@
 //!
 //! All fourteen rules have one list, though those from 8 to 13 are tried in the layer above (`smv_flat`). Want of memory
 //! counts as the last one, and every call below turns it into a [`FlatFault`] by `From`.
-
 use base_values::OutOfMemory;
 use std::alloc::{AllocError, AllocFailed};
 
 /// A rule that a program breaks. Its number, from 1 on, is `rule as u32`, and of two rules that an item
 /// breaks in one group the one with the lower number is told.
 #[derive(Clone, Copy, Debug, PartialEq, Eq)]
-pub enum Rule {
+pub enum FlatRule {
     /// There is no module `main`.
     NoMain = 1,
     /// The module `main` has formal parameters.
@@ -46,7 +45,7 @@ pub enum Rule {
 /// order; item 0 is the program as a whole. With `OutOfMemory` the item says nothing.
 #[derive(Clone, Copy, Debug, PartialEq, Eq)]
 pub struct FlatFault {
-    pub rule: Rule,
+    pub rule: FlatRule,
     pub item: u32,
 }
 
@@ -57,7 +56,7 @@ impl From<OutOfMemory> for FlatFault {
 
     fn from(_refused: OutOfMemory) -> FlatFault {
         FlatFault {
-            rule: Rule::OutOfMemory,
+            rule: FlatRule::OutOfMemory,
             item: 0,
         }
     }
@@ -70,7 +69,7 @@ impl From<AllocError> for FlatFault {
 
     fn from(_refused: AllocError) -> FlatFault {
         FlatFault {
-            rule: Rule::OutOfMemory,
+            rule: FlatRule::OutOfMemory,
             item: 0,
         }
     }
@@ -83,7 +82,7 @@ impl<T: Drop> From<AllocFailed<T>> for FlatFault {
 
     fn from(_refused: AllocFailed<T>) -> FlatFault {
         FlatFault {
-            rule: Rule::OutOfMemory,
+            rule: FlatRule::OutOfMemory,
             item: 0,
         }
     }

@@ -3,15 +3,15 @@
 //! can be as many as there are formals; each formal is looked up once. Where the topmost look-up comes to
 //! a formal whose own look-up waits below it, those from that one on are a circle. Their formals are
 //! answered at once, and they are taken from the stack as their turns come.
-
 ghost use Rattle.std.specs.Prelude.{◌≡◌, true, false, ◌&&◌, [], ◌∷◌, ◌++◌, OnOk};
 ghost use Rattle.smv_scope.specs.SceneTree.{IsScene, program_of};
-ghost use Rattle.smv_scope.specs.FoundAt.{formal_at};
+ghost use Rattle.smv_scope.specs.TableLookUps.{formal_at};
 ghost use Rattle.smv_scope.specs.Steps.{known_at, is_open as is_open_of, is_begun as is_begun_of, row_count, gone_inside};
-ghost use Rattle.smv_scope.specs.Known.{rows, formal_of, IsOpen, IsSameButFormals};
-ghost use Rattle.smv_scope.specs.Waiting.{IsFormal, IsFrame, LastWaits, IsReady, has_frame as frame_of_it, IsWaiting, IsProgress, IsStop, IsCircled, AreSettled, IsRowAnswered, IsTurn};
+ghost use Rattle.smv_scope.specs.KnownFormals.{rows, formal_of, IsOpen, IsSameButFormals};
+ghost use Rattle.smv_scope.specs.WaitingLookUps.{IsFormal, IsFrame, LastWaits, IsReady, has_frame as frame_of_it, IsWaiting, IsProgress};
+ghost use Rattle.smv_scope.specs.WaitingLookUps.{IsStop, IsCircled, AreSettled, IsRowAnswered, IsTurn};
 
-use crate::names::{Formal, Scene, Step, plain_name_of, told};
+use crate::names::{Formal, LookUpStep, Scene, plain_name_of, told};
 use crate::walk::Meaning;
 use base_values::{Name, OutOfMemory};
 use std::alloc::Global;
@@ -19,7 +19,7 @@ use std::alloc::Global;
 /// A look-up that has begun: the formal of an instance, and the parts of its actual that are still to be
 /// looked up, at the instance `here`.
 #[derive(Clone, Copy)]
-pub struct Frame<'a> {
+pub struct LookUpFrame<'a> {
     pub spot: usize,
     pub formal: usize,
     pub here: usize,
@@ -29,19 +29,19 @@ pub struct Frame<'a> {
 /// How a look-up goes on at its next part: further, to an answer, or not before the formal that the part
 /// is has an answer itself.
 pub enum Progress<'a> {
-    Further(Frame<'a>),
+    Further(LookUpFrame<'a>),
     Ended(Meaning),
     Waits(usize),
 }
 
 /// How a look-up stops: at an answer, or before a formal that has none itself.
-pub enum Stop<'a> {
+pub enum LookUpStop<'a> {
     Ended(Meaning),
-    Waits(Frame<'a>, usize),
+    Waits(LookUpFrame<'a>, usize),
 }
 
 /// What a part of a name means, or the formal that it is, if that has no answer yet.
-pub enum Part {
+pub enum PartMeaning {
     Known(Meaning),
     Waits(usize),
 }
@@ -112,7 +112,7 @@ impl<'a> Scene<'a> {
     /// name, since other actuals are answered already.
     fn begin(
         &mut self,
-        waiting: &mut Vec<Frame<'a>>,
+        waiting: &mut Vec<LookUpFrame<'a>>,
         spot: usize,
         formal: usize,
     ) -> Result<(), OutOfMemory>
@@ -133,7 +133,7 @@ impl<'a> Scene<'a> {
     }
 
     /// The look-up of a formal that has no answer, at its actual's first part.
-    fn frame_of(&self, spot: usize, formal: usize) -> Frame<'a>
+    fn frame_of(&self, spot: usize, formal: usize) -> LookUpFrame<'a>
         requires ready { IsReady self.now }
         requires formal { IsFormal (program_of self.now) spot formal }
         requires unanswered { IsOpen (formal_at self.now spot formal) }
@@ -148,7 +148,7 @@ impl<'a> Scene<'a> {
         let Some(name) = plain_name_of(value) else {
             unreachable!()
         };
-        Frame {
+        LookUpFrame {
             spot,
             formal,
             here: own.caller,
@@ -159,8 +159,8 @@ impl<'a> Scene<'a> {
     /// Goes on with the topmost look-up. One whose formal has got its answer is done.
     fn take_turn(
         &mut self,
-        waiting: &mut Vec<Frame<'a>>,
-        frame: Frame<'a>,
+        waiting: &mut Vec<LookUpFrame<'a>>,
+        frame: LookUpFrame<'a>,
     ) -> Result<(), OutOfMemory>
         requires { IsWaiting self.old (waiting.old.items ++ frame ∷ []) }
         ensures same { IsSameButFormals self.old self.new }
@@ -171,11 +171,11 @@ impl<'a> Scene<'a> {
             return Ok(());
         }
         match self.go_on(frame) {
-            Stop::Ended(meaning) => {
+            LookUpStop::Ended(meaning) => {
                 self.set_formal(frame.spot, frame.formal, Formal::Means(meaning));
                 Ok(())
             }
-            Stop::Waits(next, formal) => {
+            LookUpStop::Waits(next, formal) => {
                 waiting.push(next)?;
                 self.wait_for(waiting, next.here, formal)
             }
@@ -185,7 +185,7 @@ impl<'a> Scene<'a> {
     /// Begins the look-up that the topmost one waits for, or closes the circle that it comes back to.
     fn wait_for(
         &mut self,
-        waiting: &mut Vec<Frame<'a>>,
+        waiting: &mut Vec<LookUpFrame<'a>>,
         spot: usize,
         formal: usize,
     ) -> Result<(), OutOfMemory>
@@ -206,14 +206,14 @@ impl<'a> Scene<'a> {
     }
 
     /// Whether the look-up of a formal stands on the stack. Only one that has begun is looked for there.
-    fn comes_back(&self, waiting: &[Frame<'a>], spot: usize, formal: usize) -> bool
+    fn comes_back(&self, waiting: &[LookUpFrame<'a>], spot: usize, formal: usize) -> bool
         ensures { result ≡ (is_begun_of (formal_at self.now spot formal) && frame_of_it waiting.now spot formal) }
     {
         is_begun(self.formal(spot, formal)) && has_frame(waiting, spot, formal)
     }
 
     /// Goes on with a look-up until it has an answer, or has to wait for one.
-    fn go_on(&self, frame: Frame<'a>) -> Stop<'a>
+    fn go_on(&self, frame: LookUpFrame<'a>) -> LookUpStop<'a>
         requires ready { IsReady self.now }
         requires frame { IsFrame (program_of self.now) (rows self.now) frame }
         ensures { IsStop (program_of self.now) (rows self.now) frame.entry result }
@@ -222,14 +222,14 @@ impl<'a> Scene<'a> {
         'parts: loop {
             match self.advance(at) {
                 Progress::Further(next) => at = next,
-                Progress::Ended(meaning) => return Stop::Ended(meaning),
-                Progress::Waits(formal) => return Stop::Waits(at, formal),
+                Progress::Ended(meaning) => return LookUpStop::Ended(meaning),
+                Progress::Waits(formal) => return LookUpStop::Waits(at, formal),
             }
         }
     }
 
     /// One part of a look-up.
-    fn advance(&self, frame: Frame<'a>) -> Progress<'a>
+    fn advance(&self, frame: LookUpFrame<'a>) -> Progress<'a>
         requires ready { IsReady self.now }
         requires frame { IsFrame (program_of self.now) (rows self.now) frame }
         ensures { IsProgress (program_of self.now) (rows self.now) frame.entry result }
@@ -238,8 +238,8 @@ impl<'a> Scene<'a> {
             return Progress::Ended(Meaning::Nothing);
         };
         match self.known_part(frame.here, part) {
-            Part::Waits(formal) => Progress::Waits(formal),
-            Part::Known(found) => {
+            PartMeaning::Waits(formal) => Progress::Waits(formal),
+            PartMeaning::Known(found) => {
                 if more.is_empty() {
                     Progress::Ended(found)
                 } else {
@@ -250,17 +250,17 @@ impl<'a> Scene<'a> {
     }
 
     /// What a part means at an instance, or the formal that it is, if that has no answer yet.
-    fn known_part(&self, spot: usize, part: &Name) -> Part
+    fn known_part(&self, spot: usize, part: &Name) -> PartMeaning
         ensures { result ≡ known_at self.now spot part.now }
     {
         match self.step(spot, part, true) {
-            Step::Means(meaning) => Part::Known(meaning),
-            Step::Formal(formal) => {
+            LookUpStep::Means(meaning) => PartMeaning::Known(meaning),
+            LookUpStep::Formal(formal) => {
                 let known = self.formal(spot, formal);
                 if is_open(known) {
-                    Part::Waits(formal)
+                    PartMeaning::Waits(formal)
                 } else {
-                    Part::Known(told(known))
+                    PartMeaning::Known(told(known))
                 }
             }
         }
@@ -268,7 +268,7 @@ impl<'a> Scene<'a> {
 
     /// Answers the look-ups from that of a formal to the topmost one, each of which leads to the next and
     /// the last one back to the first.
-    fn close_circle(&mut self, waiting: &[Frame<'a>], spot: usize, formal: usize)
+    fn close_circle(&mut self, waiting: &[LookUpFrame<'a>], spot: usize, formal: usize)
         requires { frame_of_it waiting.now spot formal ≡ true }
         ensures same { IsSameButFormals self.old self.new }
         ensures circle { IsCircled (rows self.old) (rows self.new) waiting.now spot formal }
@@ -285,11 +285,11 @@ impl<'a> Scene<'a> {
 }
 
 /// The parts after one that means this are looked up inside it, if it is an instance.
-fn go_inside<'a>(frame: Frame<'a>, more: &'a [Name], found: Meaning) -> Progress<'a>
+fn go_inside<'a>(frame: LookUpFrame<'a>, more: &'a [Name], found: Meaning) -> Progress<'a>
     ensures { result ≡ gone_inside frame.entry more.entry found }
 {
     match found {
-        Meaning::Instance(inner) => Progress::Further(Frame {
+        Meaning::Instance(inner) => Progress::Further(LookUpFrame {
             spot: frame.spot,
             formal: frame.formal,
             here: inner,
@@ -321,7 +321,7 @@ fn is_begun(known: Formal) -> bool
 }
 
 /// Whether a look-up of the formal stands on the stack.
-fn has_frame(waiting: &[Frame], spot: usize, formal: usize) -> bool
+fn has_frame(waiting: &[LookUpFrame], spot: usize, formal: usize) -> bool
     ensures { result ≡ frame_of_it waiting.now spot formal }
 {
     waiting

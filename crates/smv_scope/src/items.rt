@@ -1,6 +1,5 @@
 //! The items of a module, numbered as in the whole program. [`ItemList::of_module`] is the main function: the modules are
 //! read in written order, and each goes on with the numbers of the one before it. By these numbers faults tell where they are.
-
 ghost use Rattle.std.specs.Prelude.{◌≡◌, ◌+◌, ◌^◌, ◌<◌, [], ◌∷◌, map, IfOk, IsOk, OnOk};
 ghost use Rattle.smv_language.specs.ProgramTree.{module_tree, section_tree, decl_tree, define_tree, assignment_tree};
 ghost use Rattle.smv_flat_laws.specs.Items.{items_of, items_of_section, a_declaration, a_definition, an_assignment};
@@ -115,7 +114,8 @@ impl<'a> ItemList<'a> {
 
     /// Adds the assignments of a section.
     fn add_assignments(&mut self, assignments: &'a [Assignment]) -> Result<(), OutOfMemory>
-        ensures { OnOk result (counted_of self.new ≡ with_items (counted_of self.old) (map an_assignment (map assignment_tree assignments.now))) }
+        ensures { OnOk result (counted_of self.new
+            ≡ with_items (counted_of self.old) (map an_assignment (map assignment_tree assignments.now))) }
     {
         for assignment in assignments {
             self.add(Item::Assigned(assignment))?;

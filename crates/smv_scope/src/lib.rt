@@ -32,4 +32,4 @@ pub mod uses;
 pub mod walk;
 
 pub use bounds::Bounds;
-pub use fault::{FlatFault, Rule};
+pub use fault::{FlatFault, FlatRule};

@@ -1,5 +1,4 @@
 //! The graph of definitions: each is a number, and is linked to those that it names, in written order.
-
 ghost use Rattle.std.specs.Prelude.{◌≡◌, [], ◌∷◌, ◌++◌, replicate, IfOk, OnOk};
 ghost use Rattle.smv_scope.specs.Links.{graph_of, rows, linked_to, all_linked_to, AreTurned};
 

@@ -1,6 +1,5 @@
 //! The modules of a program by name, and the names of each module: the rules that a program keeps or
 //! breaks before any instance is made.
-
 ghost use Rattle.std.specs.Prelude.{◌≡◌, ◌↔◌, ◌&&◌, suc, [], ◌∷◌, ◌++◌, length, codes, map, None, Some, IfOk, IfErr, OnOk, IsTrue};
 ghost use Rattle.smv_language.specs.ProgramTree.{module_tree, program_tree};
 ghost use Rattle.smv_language.specs.Texts.{same_text, is_among};
@@ -8,10 +7,12 @@ ghost use Rattle.smv_flat_laws.specs.Items.{items_of};
 ghost use Rattle.smv_flat_laws.specs.Rules.{double_name, has_formals, names_of_item, is_name_again};
 ghost use Rattle.smv_scope.specs.Faults.{IsFaultOf};
 ghost use Rattle.smv_scope.specs.ItemTree.{numbered_tree, counted_from};
-ghost use Rattle.smv_scope.specs.Reading.{AreRead, IsReadAfter, IsFirstModule, IsTold, told_if, formals_told, items_told, header_told, names_told, module_told, texts_of, trees_read, item_of_numbered};
-ghost use Rattle.smv_scope.specs.SceneTree.{AreModules, module_from, named, module_entries, formal_entries, entries_of_item, item_entries, local_entries};
+ghost use Rattle.smv_scope.specs.ModuleFaults.{AreRead, IsReadAfter, IsFirstModule, IsTold, told_if, formals_told, items_told, header_told};
+ghost use Rattle.smv_scope.specs.ModuleFaults.{names_told, module_told, texts_of, trees_read, item_of_numbered};
+ghost use Rattle.smv_scope.specs.SceneTree.{AreModules, module_from, named, module_entries, formal_entries, entries_of_item, item_entries};
+ghost use Rattle.smv_scope.specs.SceneTree.{local_entries};
 
-use crate::fault::{FlatFault, Rule};
+use crate::fault::{FlatFault, FlatRule};
 use crate::items::{Item, ItemList, Numbered, number_after};
 use base_values::Name;
 use indexmap::IndexMap;
@@ -27,7 +28,7 @@ pub enum Local {
 
 /// A module with its items and its names.
 #[derive(Drop)]
-pub struct Names<'a> {
+pub struct ModuleNames<'a> {
     pub module: &'a Module,
     pub items: Vec<Numbered<'a>>,
     pub locals: IndexMap<&'a [u8], Local>,
@@ -37,7 +38,7 @@ pub struct Names<'a> {
 #[derive(Drop)]
 pub struct Modules<'a> {
     pub program: &'a Program,
-    pub list: Vec<Names<'a>>,
+    pub list: Vec<ModuleNames<'a>>,
     pub places: IndexMap<&'a [u8], usize>,
     pub main: usize,
 }
@@ -64,7 +65,7 @@ impl<'a> Modules<'a> {
     }
 
     /// The module of a name, with its place.
-    pub fn find(&self, name: &Name) -> Option<(usize, &Names<'a>)>
+    pub fn find(&self, name: &Name) -> Option<(usize, &ModuleNames<'a>)>
         requires { AreModules self.now }
         ensures { IsFirstModule self.now name.now result }
     {
@@ -85,7 +86,7 @@ impl<'a> Modules<'a> {
         self.add_place(header, module)?;
         let items = ItemList::of_module(alloc, header, module)?;
         let last = items.last_number();
-        let names = Names::of_module(alloc, header, module, items.items)?;
+        let names = ModuleNames::of_module(alloc, header, module, items.items)?;
         self.list.push(names)?;
         Ok(last)
     }
@@ -103,14 +104,14 @@ impl<'a> Modules<'a> {
     {
         if is_main_with_formals(module) {
             return Err(FlatFault {
-                rule: Rule::MainHasParameters,
+                rule: FlatRule::MainHasParameters,
                 item: header,
             });
         }
         let place = self.list.len();
         if self.places.insert(module.name.text(), place)?.is_some() {
             return Err(FlatFault {
-                rule: Rule::DoubleModule,
+                rule: FlatRule::DoubleModule,
                 item: header,
             });
         }
@@ -118,14 +119,14 @@ impl<'a> Modules<'a> {
     }
 }
 
-impl<'a> Names<'a> {
+impl<'a> ModuleNames<'a> {
     /// A module of these items with its names, none of which stands twice.
     fn of_module(
         alloc: Global,
         header: u32,
         module: &'a Module,
         items: Vec<Numbered<'a>>,
-    ) -> Result<Names<'a>, FlatFault>
+    ) -> Result<ModuleNames<'a>, FlatFault>
         requires { map numbered_tree items.items ≡ counted_from (suc header) (items_of (module_tree «module».now)) }
         ensures same { IfOk result (λ names. names.«module».now ≡ «module».now) }
         ensures items { IfOk result (λ names. names.items ≡ items.entry) }
@@ -136,7 +137,7 @@ impl<'a> Names<'a> {
         let mut locals = IndexMap::new(alloc);
         declare_formals(&mut locals, header, module.formals.as_slice())?;
         declare_items(&mut locals, items.as_slice())?;
-        Ok(Names {
+        Ok(ModuleNames {
             module,
             items,
             locals,
@@ -181,7 +182,8 @@ fn declare_item<'a>(
     place: usize,
     numbered: Numbered<'a>,
 ) -> Result<(), FlatFault>
-    ensures entries { OnOk result (named locals.new.entries ≡ named locals.old.entries ++ entries_of_item place (item_of_numbered numbered.entry)) }
+    ensures entries { OnOk result (named locals.new.entries
+        ≡ named locals.old.entries ++ entries_of_item place (item_of_numbered numbered.entry)) }
     ensures kept { OnOk result (told_if (is_name_again (texts_of (named locals.old.entries))
         (names_of_item (item_of_numbered numbered.entry))) double_name numbered.entry.number ≡ None) }
     ensures fault { IfErr result (IsTold (told_if (is_name_again (texts_of (named locals.old.entries))
@@ -209,7 +211,7 @@ fn declare<'a>(
 {
     if locals.insert(name, local)?.is_some() {
         return Err(FlatFault {
-            rule: Rule::DoubleName,
+            rule: FlatRule::DoubleName,
             item,
         });
     }

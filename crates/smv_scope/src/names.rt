@@ -1,23 +1,24 @@
 //! What names mean. The formals are answered first, once and for all; then a look-up goes through the
 //! parts of a name, one after another.
-
-ghost use Rattle.std.specs.Prelude.{◌≡◌, ◌^◌, ◌<◌, [], ◌∷◌, ◌++◌, length, map, replicate, Some, IfOk, IsOk, OnOk, option_map, option_copied, slice_get};
+ghost use Rattle.std.specs.Prelude.{◌≡◌, ◌^◌, ◌<◌, [], ◌∷◌, ◌++◌, length, map, replicate, Some, IfOk, IsOk, OnOk, option_map};
+ghost use Rattle.std.specs.Prelude.{option_copied, slice_get};
 ghost use Rattle.smv_language.specs.ProgramTree.{program_tree, decl_tree};
-ghost use Rattle.smv_language.specs.Written.{tree_of};
+ghost use Rattle.smv_language.specs.ExpressionTree.{tree_of};
 ghost use Rattle.smv_language.specs.Scope.{plain_name};
 ghost use Rattle.smv_language.specs.Flat.{FlatInstance};
 ghost use Rattle.smv_flat_laws.specs.Items.{instances_of};
 ghost use Rattle.smv_flat_laws.specs.Rules.{IsWalkable};
 ghost use Rattle.smv_scope.specs.ItemTree.{item_tree};
 ghost use Rattle.smv_scope.specs.SceneTree.{AreModules, IsSpotWalked, IsScene, IsFound, program_of, items_at, number_and_item};
-ghost use Rattle.smv_scope.specs.FoundAt.{names_of_spot, local_at, own_at, formal_at, symbol_or, symbol_at, part_at, found_at, told};
+ghost use Rattle.smv_scope.specs.TableLookUps.{names_of_spot, local_at, own_at, formal_at, symbol_or, symbol_at, part_at, found_at, told};
 ghost use Rattle.smv_scope.specs.Steps.{step_at, numbered_at, count_in};
-ghost use Rattle.smv_scope.specs.Known.{rows, rows_with, formals_at, IsSameButFormals, AreTold};
-ghost use Rattle.smv_scope.specs.Laid.{IsLaid, IsNamedTo, IsSameProgram, NamesItems, NamesItem, NamesDeclared, NamesActuals, NamesActual, with_own};
+ghost use Rattle.smv_scope.specs.KnownFormals.{rows, rows_with, formals_at, IsSameButFormals, AreTold};
+ghost use Rattle.smv_scope.specs.NumberedScenes.{IsLaid, IsNamedTo, IsSameProgram, NamesItems, NamesItem, NamesDeclared, NamesActuals};
+ghost use Rattle.smv_scope.specs.NumberedScenes.{NamesActual, with_own};
 ghost use Rattle.smv_language.specs.Trace.{EachBoth};
 
 use crate::items::{Item, Numbered};
-use crate::modules::{Local, Modules, Names};
+use crate::modules::{Local, ModuleNames, Modules};
 use crate::symbols::symbols_of;
 use crate::walk::{Meaning, Spot};
 use base_values::{Dotted, Name, OutOfMemory};
@@ -55,7 +56,7 @@ pub struct Scene<'a> {
 }
 
 /// One step of a look-up: what a part means, or the formal that it is.
-pub enum Step {
+pub enum LookUpStep {
     Means(Meaning),
     Formal(usize),
 }
@@ -69,7 +70,8 @@ impl<'a> Scene<'a> {
     ) -> Result<Scene<'a>, OutOfMemory>
         requires modules { AreModules modules }
         requires walkable { IsWalkable (program_tree modules.program.now) }
-        requires spots { EachBoth (IsSpotWalked (program_tree modules.program.now)) (instances_of (program_tree modules.program.now)) spots.items }
+        requires spots { EachBoth (IsSpotWalked (program_tree modules.program.now)) (instances_of (program_tree modules.program.now))
+            spots.items }
         ensures scene { IfOk result IsScene }
         ensures program { IfOk result (λ scene. scene.modules.program.now ≡ modules.entry.program.now) }
     {
@@ -346,14 +348,14 @@ impl<'a> Scene<'a> {
     }
 
     /// What a part of a name means at an instance; `last` says that no part comes after it.
-    pub fn step(&self, spot: usize, part: &Name, last: bool) -> Step
+    pub fn step(&self, spot: usize, part: &Name, last: bool) -> LookUpStep
         ensures step { result ≡ step_at self.now spot last part.now }
     {
         match self.local(spot, part) {
-            Some(Local::Formal(formal)) => Step::Formal(formal),
-            Some(Local::Item(place)) => Step::Means(self.own(spot, place)),
-            None if last => Step::Means(self.symbol(part)),
-            None => Step::Means(Meaning::Nothing),
+            Some(Local::Formal(formal)) => LookUpStep::Formal(formal),
+            Some(Local::Item(place)) => LookUpStep::Means(self.own(spot, place)),
+            None if last => LookUpStep::Means(self.symbol(part)),
+            None => LookUpStep::Means(Meaning::Nothing),
         }
     }
 
@@ -368,7 +370,7 @@ impl<'a> Scene<'a> {
     }
 
     /// The names of an instance's module.
-    pub fn names_at(&self, spot: usize) -> Option<&Names<'a>>
+    pub fn names_at(&self, spot: usize) -> Option<&ModuleNames<'a>>
         ensures names { option_copied result ≡ names_of_spot self.now (slice_get self.now.spots.items spot) }
     {
         match self.spots.as_slice().get(spot) {
@@ -423,8 +425,8 @@ impl<'a> Scene<'a> {
         ensures { result ≡ part_at self.now spot last part.now }
     {
         match self.step(spot, part, last) {
-            Step::Means(meaning) => meaning,
-            Step::Formal(formal) => told(self.formal(spot, formal)),
+            LookUpStep::Means(meaning) => meaning,
+            LookUpStep::Formal(formal) => told(self.formal(spot, formal)),
         }
     }
 }

@@ -5,17 +5,17 @@
 //! there is one, and so the program will be refused, a second pass finds which definitions are on one
 //! (`circles`). What reads an input is all that is reached from what names one, over the links from their
 //! other ends.
-
-ghost use Rattle.std.specs.Prelude.{◌≡◌, true, ◌||◌, [], ◌∷◌, ◌++◌, length, reverse, set, slice_get, replicate, false, unwrap_or, IfOk, OnOk};
+ghost use Rattle.std.specs.Prelude.{◌≡◌, true, ◌||◌, [], ◌∷◌, ◌++◌, length, reverse, set, slice_get, replicate, false, unwrap_or, IfOk};
+ghost use Rattle.std.specs.Prelude.{OnOk};
 ghost use Rattle.smv_scope.specs.SceneTree.{IsScene, program_of};
-ghost use Rattle.smv_scope.specs.FoundAt.{found_at};
+ghost use Rattle.smv_scope.specs.TableLookUps.{found_at};
 ghost use Rattle.smv_scope.specs.NeedsTree.{AreNeeds};
 ghost use Rattle.smv_scope.specs.Links.{graph_of, rows, AreReached, is_marked, spread_by};
-ghost use Rattle.smv_scope.specs.Laying.{IsInto, mark_at, visits, upto, lay_of, lay_by, IsLaid, placed_from};
+ghost use Rattle.smv_scope.specs.DefinitionOrder.{IsInto, mark_at, visits, upto, lay_of, lay_by, IsLaid, placed_from};
 ghost use Rattle.smv_scope.specs.Spreads.{spread_of};
 ghost use Rattle.smv_scope.specs.Components.{IsFinished};
-ghost use Rattle.smv_scope.specs.Naming.{needed, is_input, needs_of, reads_of, number_if, IsFoundAt, AreFoundIn, IsNamed};
-ghost use Rattle.smv_scope.specs.declared.needs.Mark.TheVariants as Mark;
+ghost use Rattle.smv_scope.specs.DefinitionNeeds.{needed, is_input, needs_of, reads_of, number_if, IsFoundAt, AreFoundIn, IsNamed};
+ghost use Rattle.smv_scope.specs.declared.needs.WalkMark.TheVariants as Mark;
 ghost use Rattle.smv_scope.specs.declared.needs.Task.TheVariants as Task;
 
 use crate::circles::circles_of;
@@ -154,7 +154,7 @@ enum Task {
 
 /// How far the walk is with a definition.
 #[derive(Clone, Copy)]
-enum Mark {
+enum WalkMark {
     Unmet,
     Begun,
     Ended,
@@ -164,7 +164,7 @@ enum Mark {
 /// chain as long as their list. A visit of what is begun and not ended shows a circle.
 #[derive(Drop)]
 struct Laying {
-    marks: Vec<Mark>,
+    marks: Vec<WalkMark>,
     order: Vec<usize>,
     tasks: Vec<Task>,
     circle: bool,
@@ -173,9 +173,10 @@ struct Laying {
 impl Laying {
     /// All definitions are to be visited, the first one first.
     fn of_all(alloc: Global, count: usize) -> Result<Laying, OutOfMemory>
-        ensures { IfOk result (λ l. lay_of l ≡ record { marks = replicate count Mark.Unmet; order = []; tasks = visits (upto count); circle = false }) }
+        ensures { IfOk result (λ l. lay_of l
+            ≡ record { marks = replicate count WalkMark.Unmet; order = []; tasks = visits (upto count); circle = false }) }
     {
-        let marks = Vec::from_elem(alloc, Mark::Unmet, count)?;
+        let marks = Vec::from_elem(alloc, WalkMark::Unmet, count)?;
         let all = all_of(alloc, count)?;
         let mut tasks = Vec::new(alloc);
         push_visits(&mut tasks, all.as_slice())?;
@@ -193,13 +194,13 @@ impl Laying {
     {
         match task {
             Task::End(definition) => {
-                set_mark(&mut self.marks, definition, Mark::Ended);
+                set_mark(&mut self.marks, definition, WalkMark::Ended);
                 Ok(self.order.push(definition)?)
             }
             Task::Visit(definition) => match mark_of(self.marks.as_slice(), definition) {
-                Mark::Ended => Ok(()),
-                Mark::Unmet => self.begin(links, definition),
-                Mark::Begun => {
+                WalkMark::Ended => Ok(()),
+                WalkMark::Unmet => self.begin(links, definition),
+                WalkMark::Begun => {
                     self.circle = true;
                     Ok(())
                 }
@@ -209,27 +210,27 @@ impl Laying {
 
     /// Begins a visit: what the definition names is visited first, and then the visit ends.
     fn begin(&mut self, links: &Links, definition: usize) -> Result<(), OutOfMemory>
-        requires { mark_at self.old.marks.items definition ≡ Mark.Unmet }
+        requires { mark_at self.old.marks.items definition ≡ WalkMark.Unmet }
         ensures { OnOk result (lay_of self.new ≡ lay_by (graph_of links.now) (lay_of self.old) (Task.Visit definition)) }
     {
-        set_mark(&mut self.marks, definition, Mark::Begun);
+        set_mark(&mut self.marks, definition, WalkMark::Begun);
         self.tasks.push(Task::End(definition))?;
         push_visits(&mut self.tasks, links.from(definition))
     }
 }
 
 /// How far the walk is with a definition; one that isn't there is never met.
-fn mark_of(marks: &[Mark], place: usize) -> Mark
+fn mark_of(marks: &[WalkMark], place: usize) -> WalkMark
     ensures { result ≡ mark_at marks.now place }
 {
     match marks.get(place) {
         Some(mark) => *mark,
-        None => Mark::Unmet,
+        None => WalkMark::Unmet,
     }
 }
 
 /// Notes how far the walk is with a definition.
-fn set_mark(marks: &mut Vec<Mark>, place: usize, mark: Mark)
+fn set_mark(marks: &mut Vec<WalkMark>, place: usize, mark: WalkMark)
     ensures { marks.new.items ≡ set marks.old.items place mark }
 {
     if let Some(known) = marks.get_mut(place) {

@@ -1,7 +1,6 @@
 //! The symbols of a program: the members of types and the names in CONSTANTS, of all modules, each once.
 //! [`symbols_of`] gathers them as texts that are borrowed from the program, by whose places a look-up finds a symbol's
 //! number, and [`symbol_names`] copies them for the flat model.
-
 ghost use Rattle.std.specs.Prelude.{◌≡◌, [], ◌∷◌, flat_map, IfOk, OnOk};
 ghost use Rattle.smv_flat_laws.specs.Model.{first_appearances, symbols_of_members, symbols_of_item};
 ghost use Rattle.smv_scope.specs.ItemTree.{item_tree};

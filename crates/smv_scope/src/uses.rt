@@ -1,12 +1,11 @@
 //! The names of an expression, gathered by one pass over its tree ([`Uses::of_value`]). The rules of names and moments
 //! ask of each name what it means and whether it stands under `next`, and of the whole expression where it has `next`.
-
 ghost use Rattle.std.specs.Prelude.{◌≡◌, false, IfOk, OnOk};
-ghost use Rattle.smv_language.specs.Written.{tree_of, trees_of, branches_of};
-ghost use Rattle.smv_flat_laws.specs.Resolved.{has_next};
+ghost use Rattle.smv_language.specs.ExpressionTree.{tree_of, trees_of, branches_of};
+ghost use Rattle.smv_flat_laws.specs.NameResolution.{has_next};
 ghost use Rattle.smv_flat_laws.specs.Rules.{next_under_next};
-ghost use Rattle.smv_scope.specs.Flagged.{flagged};
-ghost use Rattle.smv_scope.specs.Seen.{seen_in, seen_after, seen_after_trees, seen_after_branches};
+ghost use Rattle.smv_scope.specs.NextFlags.{flagged};
+ghost use Rattle.smv_scope.specs.SeenNames.{seen_in, seen_after, seen_after_trees, seen_after_branches};
 
 use base_values::{Dotted, OutOfMemory};
 use smv_language::Expr;

@@ -3,20 +3,21 @@
 //! missing, of the number of actuals, of modules that lie in themselves, and of the two limits.
 //!
 //! The walk keeps the names of the modules that it stands in, so that an instance of one of them is found at once.
-
 ghost use Rattle.std.specs.Prelude.{◌≡◌, ◌<◌, ◌-◌, suc, false, None, [], ◌∷◌, length, map, reverse, take, IfOk, IfErr, OnOk};
 ghost use Rattle.smv_language.specs.ProgramTree.{program_tree};
 ghost use Rattle.smv_language.specs.Texts.{is_among};
 ghost use Rattle.smv_language.specs.declared.program.Declared.TheVariants.{Instance};
-ghost use Rattle.smv_scope.specs.Closed.{AreVariables, is_instance};
+ghost use Rattle.smv_scope.specs.ClosedModels.{AreVariables, is_instance};
 ghost use Rattle.smv_scope.specs.Faults.{IsFaultOf};
 ghost use Rattle.smv_scope.specs.ItemTree.{numbered_tree};
-ghost use Rattle.smv_scope.specs.Reading.{IsTold};
+ghost use Rattle.smv_scope.specs.ModuleFaults.{IsTold};
 ghost use Rattle.smv_scope.specs.SceneTree.{AreModules};
-ghost use Rattle.smv_scope.specs.Walked.{IsWhole};
-ghost use Rattle.smv_scope.specs.Walking.{HasEntered, HasGone, HasMet, IsEntry, IsModuleOf, IsStanding, instance_told, on_path_of, place_at, program_in, told_from, visits_at, visits_here, visits_told, visits_within, with_own, declared_item, IsVariableOf};
+ghost use Rattle.smv_scope.specs.WalkFindings.{IsWhole};
+ghost use Rattle.smv_scope.specs.InstanceWalk.{HasEntered, HasGone, HasMet, IsEntry, IsModuleOf, IsStanding, instance_told, on_path_of};
+ghost use Rattle.smv_scope.specs.InstanceWalk.{place_at, program_in, told_from, visits_at, visits_here, visits_told, visits_within};
+ghost use Rattle.smv_scope.specs.InstanceWalk.{with_own, declared_item, IsVariableOf};
 
-use crate::fault::{FlatFault, Rule};
+use crate::fault::{FlatFault, FlatRule};
 use crate::items::{Item, Numbered, number_of};
 use crate::modules::Modules;
 use base_values::{Dotted, Items, Name, OutOfMemory};
@@ -172,8 +173,10 @@ impl<'a> Walk<'a> {
         requires variables { AreVariables self.old.variables }
         ensures variables { OnOk result (AreVariables self.new.variables) }
         ensures gone { IfOk result (λ own. HasGone modules.now self.old spot (map numbered_tree items.now) self.new own.items) }
-        ensures kept { OnOk result (told_from modules.now self.old (visits_here modules.now self.old spot (map numbered_tree items.now)) ≡ None) }
-        ensures fault { IfErr result (IsTold (told_from modules.now self.old (visits_here modules.now self.old spot (map numbered_tree items.now)))) }
+        ensures kept { OnOk result (told_from modules.now self.old (visits_here modules.now self.old spot (map numbered_tree items.now))
+            ≡ None) }
+        ensures fault { IfErr result
+            (IsTold (told_from modules.now self.old (visits_here modules.now self.old spot (map numbered_tree items.now)))) }
     {
         let mut own = Vec::new(alloc);
         for numbered in items {
@@ -196,8 +199,10 @@ impl<'a> Walk<'a> {
         requires variables { AreVariables self.old.variables }
         ensures variables { OnOk result (AreVariables self.new.variables) }
         ensures met { IfOk result (HasMet modules.now self.old spot (numbered_tree numbered.entry) self.new) }
-        ensures kept { OnOk result (told_from modules.now self.old (visits_at modules.now self.old spot (numbered_tree numbered.entry)) ≡ None) }
-        ensures fault { IfErr result (IsTold (told_from modules.now self.old (visits_at modules.now self.old spot (numbered_tree numbered.entry)))) }
+        ensures kept { OnOk result (told_from modules.now self.old (visits_at modules.now self.old spot (numbered_tree numbered.entry))
+            ≡ None) }
+        ensures fault { IfErr result
+            (IsTold (told_from modules.now self.old (visits_at modules.now self.old spot (numbered_tree numbered.entry)))) }
     {
         let item = numbered.number;
         match numbered.item {
@@ -227,7 +232,9 @@ impl<'a> Walk<'a> {
         requires variables { AreVariables self.old.variables }
         ensures variables { OnOk result (AreVariables self.new.variables) }
         ensures met { IfOk result (HasMet modules.now self.old declaring.entry.spot (declared_item declaring.entry) self.new) }
-        ensures kept { OnOk result (told_from modules.now self.old (visits_at modules.now self.old declaring.entry.spot (declared_item declaring.entry)) ≡ None) }
+        ensures kept { OnOk result
+            (told_from modules.now self.old (visits_at modules.now self.old declaring.entry.spot (declared_item declaring.entry))
+            ≡ None) }
         ensures fault { IfErr result (IsTold (told_from modules.now self.old
             (visits_at modules.now self.old declaring.entry.spot (declared_item declaring.entry)))) }
     {
@@ -257,7 +264,9 @@ impl<'a> Walk<'a> {
         requires declared { declaring.decl.now.what ≡ Instance name.now actuals.now }
         ensures variables { OnOk result (AreVariables self.new.variables) }
         ensures met { IfOk result (HasMet modules.now self.old declaring.entry.spot (declared_item declaring.entry) self.new) }
-        ensures kept { OnOk result (told_from modules.now self.old (visits_at modules.now self.old declaring.entry.spot (declared_item declaring.entry)) ≡ None) }
+        ensures kept { OnOk result
+            (told_from modules.now self.old (visits_at modules.now self.old declaring.entry.spot (declared_item declaring.entry))
+            ≡ None) }
         ensures fault { IfErr result (IsTold (told_from modules.now self.old
             (visits_at modules.now self.old declaring.entry.spot (declared_item declaring.entry)))) }
     {
@@ -283,19 +292,21 @@ impl<'a> Walk<'a> {
     ) -> Result<usize, FlatFault>
         requires { AreModules modules.now }
         ensures found { IfOk result (IsModuleOf modules.now self.now name.now) }
-        ensures kept { OnOk result (instance_told (program_in modules.now) (on_path_of self.now) (length self.now.spots.items) item name.now actuals
+        ensures kept { OnOk result
+            (instance_told (program_in modules.now) (on_path_of self.now) (length self.now.spots.items) item name.now actuals
             ≡ None) }
-        ensures fault { IfErr result (IsTold (instance_told (program_in modules.now) (on_path_of self.now) (length self.now.spots.items) item name.now actuals)) }
+        ensures fault { IfErr result
+            (IsTold (instance_told (program_in modules.now) (on_path_of self.now) (length self.now.spots.items) item name.now actuals)) }
     {
         let rule = match modules.find(name) {
-            None => Rule::NoSuchModule,
+            None => FlatRule::NoSuchModule,
             Some((module, names)) => {
                 if names.module.formals.len() != actuals {
-                    Rule::WrongCount
+                    FlatRule::WrongCount
                 } else if self.is_inside(name) {
-                    Rule::ModuleLoop
+                    FlatRule::ModuleLoop
                 } else if self.spots.len() >= INSTANCE_LIMIT {
-                    Rule::TooMany
+                    FlatRule::TooMany
                 } else {
                     return Ok(module);
                 }
@@ -329,14 +340,16 @@ impl<'a> Walk<'a> {
         requires values { is_instance declaring.decl.now.what ≡ false }
         ensures variables { OnOk result (AreVariables self.new.variables) }
         ensures met { IfOk result (HasMet modules.now self.old declaring.entry.spot (declared_item declaring.entry) self.new) }
-        ensures kept { OnOk result (told_from modules.now self.old (visits_at modules.now self.old declaring.entry.spot (declared_item declaring.entry)) ≡ None) }
+        ensures kept { OnOk result
+            (told_from modules.now self.old (visits_at modules.now self.old declaring.entry.spot (declared_item declaring.entry))
+            ≡ None) }
         ensures fault { IfErr result (IsTold (told_from modules.now self.old
             (visits_at modules.now self.old declaring.entry.spot (declared_item declaring.entry)))) }
     {
         let place = self.variables.len();
         if place >= VARIABLE_LIMIT {
             return Err(FlatFault {
-                rule: Rule::TooMany,
+                rule: FlatRule::TooMany,
                 item: declaring.item,
             });
         }

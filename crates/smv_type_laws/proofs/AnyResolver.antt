@@ -9,7 +9,7 @@ use Rattle.smv_language.specs.May.{Valuation, name_values, May}
 use Rattle.smv_language.specs.Trace.{Each}
 use Rattle.smv_language.proofs.Monotone.{name_values_more}
 use Rattle.smv_language.specs.Flat.{FlatLeaf, flat_variable, flat_symbol, flat_definition, FlatModel, leaves_at, FlatGives, FlatMay, Numbers}
-use Rattle.smv_flat_laws.specs.Resolved.{leaves_in, Resolver, IsSound, IsResolved, IsBefore, leaf_gives}
+use Rattle.smv_flat_laws.specs.NameResolution.{leaves_in, Resolver, IsSound, IsResolved, IsBefore, leaf_gives}
 use Rattle.smv_flat_laws.specs.Model.{IsFlatOf}
 use Rattle.smv_flat_laws.proofs.Reaches.{BothReach, tree_reaches}
 use Rattle.smv_flat_laws.proofs.Lists.{each_more}

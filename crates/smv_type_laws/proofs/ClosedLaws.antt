@@ -8,7 +8,7 @@ use Rattle.smv_language.specs.Laws.{AllLeaves, AllLeavesOfTrees, AllLeavesOfBran
 use Rattle.smv_language.specs.Scope.{Place, Meaning, a_variable_at, an_expression_at, an_instance_at, a_symbol}
 use Rattle.smv_language.specs.Trace.{Each, EachBoth}
 use Rattle.smv_language.specs.Flat.{FlatLeaf, flat_variable, flat_symbol, flat_definition, FlatFormula, FlatModel}
-use Rattle.smv_flat_laws.specs.Resolved.{leaves_in, trees_leaves, branches_leaves, StandsFor, Resolver, IsSound, IsResolved, IsBefore}
+use Rattle.smv_flat_laws.specs.NameResolution.{leaves_in, trees_leaves, branches_leaves, StandsFor, Resolver, IsSound, IsResolved, IsBefore}
 use Rattle.smv_flat_laws.specs.Model.{Condition, plain, now_among, next_among, kept, Written, IsVariableNumber, IsConditionTree, IsFormulaOf, IsDefinitionOf, IsFlatOf}
 use Rattle.smv_flat_laws.proofs.Reaches.{each_left, each_right}
 use Rattle.smv_flat_laws.proofs.Lists.{leaves_map}

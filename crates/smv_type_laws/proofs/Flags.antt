@@ -2,7 +2,7 @@
 use Rattle.std.proofs.Common.{◌≡◌, ◌∙◌, Bool, true, false, [], ◌∷◌, ◌++◌, List, Option, refl, ap}
 use Rattle.smv_language.specs.declared.expr.Op.TheVariants as op
 use Rattle.smv_language.specs.Tree.{Tree, Branches, truth as is_truth, number as is_number, leaf, not_of, negate, next_of, binary, choice, case_of, set_of, span, no_branch, branch_then}
-use Rattle.smv_type_laws.specs.Judged.{Kind, broken_in, ends_in_true, Class, KindRule, some_values, judged_choice, judged_case, judge, judge_conditions, judge_values}
+use Rattle.smv_type_laws.specs.ExpressionKinds.{Kind, broken_in, ends_in_true, Class, KindRule, some_values, judged_choice, judged_case, judge, judge_conditions, judge_values}
 use Rattle.smv_type_laws.specs.Intervals.{Interval}
 use Rattle.smv_type_laws.proofs.Parts.{none_first, none_second}
 use Rattle.smv_type_laws.proofs.TreeLaws.{no_set}

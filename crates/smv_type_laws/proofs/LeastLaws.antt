@@ -10,7 +10,7 @@ use Rattle.smv_language.specs.Scope.{Role, state, input, frozen_role}
 use Rattle.smv_language.specs.Trace.{is_member, in_domain, value_of_member}
 use Rattle.smv_language.proofs.ValueLaws.{same_text_refl}
 use Rattle.smv_flat_laws.specs.FlatTrace.{AreInDomains}
-use Rattle.smv_type_laws.specs.Least.{is_less, least_member, least_value, least_values, HasValues, by_role, LeastValuesLie, MixedValuesLie, LeastInputsServe}
+use Rattle.smv_type_laws.specs.LeastValues.{is_less, least_member, least_value, least_values, HasValues, by_role, LeastValuesLie, MixedValuesLie, LeastInputsServe}
 use Rattle.std.proofs.lemmas.Bool.{or_left, or_right}
 
 pub same_int_self : (n : ℤ) → same_int n n ≡ true

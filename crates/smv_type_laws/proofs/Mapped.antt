@@ -2,7 +2,7 @@
 use Rattle.std.proofs.Common.{◌≡◌, Bool, refl}
 use Rattle.smv_language.specs.Tree.{Tree, Trees, Branches, truth as is_truth, number as is_number, leaf, not_of, negate, next_of, binary, choice, case_of, set_of, span, no_tree, tree_then, no_branch, branch_then}
 use Rattle.smv_language.specs.Leaves.{tree_map, trees_map, branches_map}
-use Rattle.smv_type_laws.specs.Judged.{Kind, is_word_true, ends_in_true, judge, judge_trees, judge_conditions, judge_values}
+use Rattle.smv_type_laws.specs.ExpressionKinds.{Kind, is_word_true, ends_in_true, judge, judge_trees, judge_conditions, judge_values}
 use Rattle.smv_type_laws.specs.Costs.{cost_of, trees_cost, branches_cost}
 
 word_mapped : {L M : Type 0} (f : L → M) (c : Tree L) → is_word_true (tree_map f c) ≡ is_word_true c

@@ -9,7 +9,7 @@ use Rattle.smv_language.specs.Evaluate.{evaluate}
 use Rattle.smv_language.specs.Laws.{AllLeaves, AllLeavesOfTrees, AllLeavesOfBranches}
 use Rattle.smv_language.specs.Flat.{FlatLeaf, flat_variable, flat_symbol, flat_definition, FlatFormula, flat_leaves, definition_gives, table_after}
 use Rattle.smv_flat_laws.proofs.Lists.{get_within, length_end}
-use Rattle.smv_type_laws.specs.Judged.{Kind, Judged, judge, judge_trees, judge_conditions, judge_values}
+use Rattle.smv_type_laws.specs.ExpressionKinds.{Kind, Judged, judge, judge_trees, judge_conditions, judge_values}
 use Rattle.smv_type_laws.specs.Models.{leaf_kind, judged_after}
 use Rattle.smv_type_laws.specs.Laws.{IsKnown, AreInOrder}
 use Rattle.smv_type_laws.proofs.Parts.{Alone}

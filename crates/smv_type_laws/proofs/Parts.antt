@@ -5,8 +5,8 @@ use Rattle.smv_language.specs.Trace.{Each}
 use Rattle.smv_language.specs.Values.{Value, truth, number, symbol, Values, one, from_to, either, has, at_most}
 use Rattle.smv_language.proofs.ValueLaws.{same_value_equal, not_less}
 use Rattle.smv_type_laws.specs.Intervals.{Interval, hull, fits, fits_number}
-use Rattle.smv_type_laws.specs.Judged.{Class, truth_class, number_class, symbol_class, Kind, KindRule, set_here, same_class, rule_if, unless_class, wide, joined, where_kept, one_value, some_values, Judged, hull_from, hull_of, first_class}
-use Rattle.smv_type_laws.specs.Safe.{LiesIn, IsOfKind, GivesOne, GivesSome}
+use Rattle.smv_type_laws.specs.ExpressionKinds.{Class, truth_class, number_class, symbol_class, Kind, KindRule, set_here, same_class, rule_if, unless_class, wide, joined, where_kept, one_value, some_values, Judged, hull_from, hull_of, first_class}
+use Rattle.smv_type_laws.specs.KindValues.{LiesIn, IsOfKind, GivesOne, GivesSome}
 use Rattle.smv_type_laws.proofs.Products.{in_hull_left, in_hull_right}
 use Rattle.smv_lexer.proofs.SignLemmas.{both_true}
 use Rattle.smv_language.proofs.BoolLaws.{or_cases}

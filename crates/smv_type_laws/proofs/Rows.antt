@@ -5,8 +5,8 @@ use Rattle.smv_language.specs.declared.expr.Op.TheVariants as op
 use Rattle.smv_language.specs.Values.{Value, truth, number, symbol, Values, one, either, has, apply, on_numbers, on_truths, opposite}
 use Rattle.smv_language.specs.Evaluate.{gives_one, gives_not, gives_negative, gives_either, gives_within, gives_applied}
 use Rattle.smv_type_laws.specs.Intervals.{Interval, IsIn, has_zero, sum_of, difference_of, negative_of, product_of, quotient_of, remainder_of}
-use Rattle.smv_type_laws.specs.Judged.{Class, truth_class, number_class, symbol_class, Kind, mismatch, not_boolean, unless_class, wide, on_both, joined, Judged, judged_not, judged_connective, negative_interval, judged_negative, exact_interval, divisor_rule, judged_number, judged_order, judged_same, judged_union}
-use Rattle.smv_type_laws.specs.Safe.{IsOfClass, LiesIn, IsOfKind}
+use Rattle.smv_type_laws.specs.ExpressionKinds.{Class, truth_class, number_class, symbol_class, Kind, mismatch, not_boolean, unless_class, wide, on_both, joined, Judged, judged_not, judged_connective, negative_interval, judged_negative, exact_interval, divisor_rule, judged_number, judged_order, judged_same, judged_union}
+use Rattle.smv_type_laws.specs.KindValues.{IsOfClass, LiesIn, IsOfKind}
 use Rattle.smv_type_laws.proofs.Products.{in_sum, in_difference, in_negative, in_product}
 use Rattle.smv_type_laws.proofs.Quotients.{in_quotient, in_remainder}
 use Rattle.smv_type_laws.proofs.Parts.{none_first, none_second, not_if, class_kept, Bounded, wide_bounded, joined_bounded, joined_left, joined_right, of_either, Alone, Sound, kind_as, sound_one, sound_some}

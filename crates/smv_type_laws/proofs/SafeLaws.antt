@@ -9,8 +9,8 @@ use Rattle.smv_language.specs.Laws.{AllLeaves, AllLeavesOfTrees, AllLeavesOfBran
 use Rattle.smv_language.specs.Values.{number, Values, one, has}
 use Rattle.smv_language.specs.Evaluate.{Leaves, evaluate}
 use Rattle.smv_type_laws.specs.Intervals.{Interval, fits_number}
-use Rattle.smv_type_laws.specs.Judged.{Class, truth_class, number_class, symbol_class, Kind, KindRule, mismatch, unless_class, wide, zero_rule, on_both, exact_interval, Judged, judged_binary, broken_in, judge, judge_trees, judge_conditions, judge_values, sets_on_left, sets_on_right}
-use Rattle.smv_type_laws.specs.Safe.{IsOfClass, LiesIn, GivesSmall, DividesByNoZero, IsSafe, AreSafe, AreSafeBranches}
+use Rattle.smv_type_laws.specs.ExpressionKinds.{Class, truth_class, number_class, symbol_class, Kind, KindRule, mismatch, unless_class, wide, zero_rule, on_both, exact_interval, Judged, judged_binary, broken_in, judge, judge_trees, judge_conditions, judge_values, sets_on_left, sets_on_right}
+use Rattle.smv_type_laws.specs.KindValues.{IsOfClass, LiesIn, GivesSmall, DividesByNoZero, IsSafe, AreSafe, AreSafeBranches}
 use Rattle.smv_type_laws.proofs.Quotients.{NotZero, divisor_not_zero}
 use Rattle.smv_type_laws.proofs.Parts.{none_first, none_second, not_if, class_kept, Bounded, Alone, Sound}
 use Rattle.smv_type_laws.proofs.Rows.{number_given, bounded_as}

@@ -4,8 +4,8 @@ use Rattle.smv_language.specs.Trace.{Each}
 use Rattle.smv_language.specs.Values.{Value, truth, number, Values, no_value, one, from_to, either}
 use Rattle.smv_language.specs.Evaluate.{gives_either, gives_choice}
 use Rattle.smv_type_laws.specs.Intervals.{Interval, just}
-use Rattle.smv_type_laws.specs.Judged.{Class, truth_class, number_class, Kind, mismatch, not_boolean, empty_range, case_end, unless_class, rule_if, wide, joined, Judged, one_value, judged_choice, judged_case, judged_set, judged_span, first_class, hull_of, unlike_first, broken_in, kinds_in, some_set}
-use Rattle.smv_type_laws.specs.Safe.{IsOfClass, IsOfKind, GivesOne, GivesSome}
+use Rattle.smv_type_laws.specs.ExpressionKinds.{Class, truth_class, number_class, Kind, mismatch, not_boolean, empty_range, case_end, unless_class, rule_if, wide, joined, Judged, one_value, judged_choice, judged_case, judged_set, judged_span, first_class, hull_of, unlike_first, broken_in, kinds_in, some_set}
+use Rattle.smv_type_laws.specs.KindValues.{IsOfClass, IsOfKind, GivesOne, GivesSome}
 use Rattle.smv_type_laws.proofs.Products.{in_just}
 use Rattle.smv_type_laws.proofs.Parts.{none_first, none_second, not_if, class_kept, Bounded, BoundedAs, Inside, wide_bounded, joined_bounded, hull_of_bounded, of_one, of_either, of_span, Alone, Sound, kind_as, sound_one, sound_some, not_false}
 use Rattle.smv_type_laws.proofs.Rows.{truth_given, bounded_as, from_left, from_right}

@@ -8,8 +8,8 @@ use Rattle.smv_language.specs.Values.{truth, number, symbol, Values, one, same_i
 use Rattle.smv_language.specs.Texts.{same_text}
 use Rattle.smv_language.specs.Evaluate.{Leaves, evaluate, evaluate_trees, evaluate_branches}
 use Rattle.smv_type_laws.specs.Intervals.{Interval}
-use Rattle.smv_type_laws.specs.Judged.{Class, truth_class, number_class, symbol_class, Kind, KindRule, mismatch, not_boolean, set_here, rule_if, unless_class, Judged, kinds_in, broken_in, is_word_true, ends_in_true, judge, judge_trees, judge_conditions, judge_values}
-use Rattle.smv_type_laws.specs.Safe.{GivesOne}
+use Rattle.smv_type_laws.specs.ExpressionKinds.{Class, truth_class, number_class, symbol_class, Kind, KindRule, mismatch, not_boolean, set_here, rule_if, unless_class, Judged, kinds_in, broken_in, is_word_true, ends_in_true, judge, judge_trees, judge_conditions, judge_values}
+use Rattle.smv_type_laws.specs.KindValues.{GivesOne}
 use Rattle.smv_type_laws.proofs.Parts.{none_first, none_second, class_kept, Bounded, Inside, hull_of_holds, Alone, Sound, kind_as, some_of_one}
 use Rattle.smv_type_laws.proofs.Rows.{Connects, Compares, Matches, truth_given, not_row, connective_row, order_row, same_row, within_row, number_row, negative_row, union_row, plus_works, minus_works, times_works, over_works, mod_works}
 use Rattle.smv_type_laws.proofs.SetRows.{choice_row, Members, no_members, one_member, set_row, Branched, last_branch, one_branch, case_row, span_row, number_literal}

@@ -6,8 +6,8 @@ use Rattle.smv_language.specs.Laws.{AllLeaves}
 use Rattle.smv_language.specs.Flat.{FlatLeaf, flat_variable, flat_symbol, flat_definition, FlatVariable, FlatFormula, FlatModel, table_after, leaves_at}
 use Rattle.smv_flat_laws.proofs.Lists.{get_within, length_end}
 use Rattle.smv_flat_laws.specs.FlatTrace.{AreInDomains}
-use Rattle.smv_type_laws.specs.Judged.{KindRule, number_of, truth_class, not_boolean, unless_class, Judged, judge}
-use Rattle.smv_type_laws.specs.Declared.{judged_declared}
+use Rattle.smv_type_laws.specs.ExpressionKinds.{KindRule, number_of, truth_class, not_boolean, unless_class, Judged, judge}
+use Rattle.smv_type_laws.specs.DeclaredKinds.{judged_declared}
 use Rattle.smv_type_laws.specs.Models.{kind_at, leaf_kind, judged_variables, judged_after, judged_definitions, kind_of_leaf, judged_in, broken_condition, Breach, breaches_at, variable_breaches, definition_breaches, condition_breaches, breaches, IsNoLater, at_an_item, of_its_size, IsTyped}
 use Rattle.smv_type_laws.specs.Laws.{IsKnown, AreInOrder, ReadOwn, IsClosed, IsDecided, IsDefined, ValuesLieInKinds, ConditionsAreDecided, DefinitionsAreDefined, OneFault, TypedHasNoFault}
 use Rattle.smv_type_laws.proofs.Parts.{none_first, none_second, class_kept}

@@ -8,9 +8,9 @@ use Rattle.smv_language.specs.Values.{Value, truth, number, symbol, one, same_in
 use Rattle.smv_language.specs.Texts.{same_text}
 use Rattle.smv_language.proofs.ValueLaws.{same_int_equal}
 use Rattle.smv_type_laws.specs.Intervals.{Interval, just}
-use Rattle.smv_type_laws.specs.Judged.{Class, number_class, KindRule, mixed_enum, empty_range, double_member, rule_if, unless_class, wide, first_class, hull_of, one_value}
-use Rattle.smv_type_laws.specs.Declared.{member_kind, has_double, judged_declared}
-use Rattle.smv_type_laws.specs.Safe.{IsOfClass, IsOfKind}
+use Rattle.smv_type_laws.specs.ExpressionKinds.{Class, number_class, KindRule, mixed_enum, empty_range, double_member, rule_if, unless_class, wide, first_class, hull_of, one_value}
+use Rattle.smv_type_laws.specs.DeclaredKinds.{member_kind, has_double, judged_declared}
+use Rattle.smv_type_laws.specs.KindValues.{IsOfClass, IsOfKind}
 use Rattle.smv_type_laws.proofs.Products.{in_just}
 use Rattle.smv_type_laws.proofs.Parts.{none_first, none_second, class_kept, Bounded, BoundedAs, Inside, wide_bounded, hull_of_holds, hull_of_bounded, of_span, kind_as}
 use Rattle.smv_type_laws.proofs.TreeLaws.{AtLeaf}

@@ -13,13 +13,13 @@ use Rattle.smv_language.specs.Flat.{FlatLeaf, FlatVariable, FlatModel, Numbers}
 use Rattle.smv_flat_laws.specs.Items.{Visit, visits, variable_declared, variables_of}
 use Rattle.smv_flat_laws.specs.Rules.{IsAccepted}
 use Rattle.smv_flat_laws.specs.Model.{IsVariableOf, IsFlatOf}
-use Rattle.smv_flat_laws.specs.Resolved.{Resolver, IsSound, IsResolved}
+use Rattle.smv_flat_laws.specs.NameResolution.{Resolver, IsSound, IsResolved}
 use Rattle.smv_flat_laws.proofs.Conditions.{each_join}
 use Rattle.smv_flat_laws.proofs.Places.{Real, has_main}
 use Rattle.smv_flat_laws.proofs.Walkable.{accepted_walkable, main_is_there}
 use Rattle.smv_flat_laws.specs.FlatTrace.{AreInDomains}
-use Rattle.smv_type_laws.specs.Judged.{Judged, truth_class, not_boolean, unless_class}
-use Rattle.smv_type_laws.specs.Safe.{IsOfClass, IsOfKind}
+use Rattle.smv_type_laws.specs.ExpressionKinds.{Judged, truth_class, not_boolean, unless_class}
+use Rattle.smv_type_laws.specs.KindValues.{IsOfClass, IsOfKind}
 use Rattle.smv_type_laws.specs.Models.{judged_in, IsTyped}
 use Rattle.smv_type_laws.specs.Laws.{values_by_number, KeepsKind, WrittenValuesLieInKinds, WrittenConditionsAreDecided}
 use Rattle.smv_type_laws.proofs.Parts.{none_first, none_second, class_kept}

@@ -1,16 +1,18 @@
 -- What a model costs, and how many bits its states have.
-use Rattle.std.specs.Prelude.{ℕ, zero, suc, ◌+◌, ◌/◌, ℤ, pos, negsuc, max, nat_eq, true, false, Option, Some, None, List, [], ◌∷◌, length, map, sum_by}
+use Rattle.std.specs.Prelude.{ℕ, zero, suc, ◌+◌, ◌/◌, ℤ, pos, negsuc, max, nat_eq, true, false, Option, Some, None, List, [], ◌∷◌, length}
+use Rattle.std.specs.Prelude.{map, sum_by}
 use Rattle.smv_language.specs.declared.expr.Op.{Op}
 use Rattle.smv_language.specs.declared.expr.Op.TheVariants as op
 use Rattle.smv_language.specs.declared.program.Member.{Member}
 use Rattle.smv_language.specs.declared.program.Member.TheVariants as member
-use Rattle.smv_language.specs.Tree.{Tree, Trees, Branches, truth, number, leaf, not_of, negate, next_of, binary, choice, case_of, set_of, span, no_tree, tree_then, no_branch, branch_then}
+use Rattle.smv_language.specs.Tree.{Tree, Trees, Branches, truth, number, leaf, not_of, negate, next_of, binary, choice, case_of, set_of}
+use Rattle.smv_language.specs.Tree.{span, no_tree, tree_then, no_branch, branch_then}
 use Rattle.smv_language.specs.ProgramTree.{Text, DeclaredTree, boolean, range, members, instance}
 use Rattle.smv_language.specs.Texts.{same_text}
 use Rattle.smv_language.specs.Scope.{Role, state, input, frozen_role}
 use Rattle.smv_language.specs.Flat.{FlatFormula, FlatModel}
 use Rattle.smv_type_laws.specs.Intervals.{Interval, just}
-use Rattle.smv_type_laws.specs.Judged.{Kind, number_class, hull_of}
+use Rattle.smv_type_laws.specs.ExpressionKinds.{Kind, number_class, hull_of}
 
 -- a product, a quotient and a remainder cost 64, every other node 1
 abbrev pub op_cost : Op → ℕ
@@ -56,7 +58,8 @@ formulas_cost fs = sum_by (λ f. cost_of f.value) fs
 -- of all variables, definitions and conditions of a model
 abbrev pub model_cost : FlatModel → ℕ
 model_cost m =
-    sum_by (λ x. declared_cost x.declared) m.variables + formulas_cost m.definitions + formulas_cost m.at_first + formulas_cost m.at_each + formulas_cost m.at_step
+    sum_by (λ x. declared_cost x.declared) m.variables + formulas_cost m.definitions + formulas_cost m.at_first + formulas_cost m.at_each
+    + formulas_cost m.at_step
 
 -- the number of binary digits of a number below 2 ^ most
 unfoldable pub digits_in : ℕ → ℕ → ℕ

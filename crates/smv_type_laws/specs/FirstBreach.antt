@@ -1,13 +1,14 @@
 -- The first breach of a list, found breach by breach.
 use Rattle.std.specs.Prelude.{ℕ, nat_eq, nat_lt, nat_le, Bool, Option, Some, None, List, [], ◌∷◌, if◌then◌else◌}
 use Rattle.smv_language.specs.Flat.{FlatModel}
-use Rattle.smv_type_laws.specs.Judged.{KindRule, too_large, number_of}
+use Rattle.smv_type_laws.specs.ExpressionKinds.{KindRule, too_large, number_of}
 use Rattle.smv_type_laws.specs.Models.{Breach, breaches, is_too_large}
 
 -- by instances, then items, then numbers
 abbrev pub is_no_later : Breach → Breach → Bool
 is_no_later a b =
-    if nat_eq a.number b.number then (if nat_eq a.item b.item then nat_le (number_of a.rule) (number_of b.rule) else nat_lt a.item b.item) else nat_lt a.number b.number
+    if nat_eq a.number b.number then (if nat_eq a.item b.item then nat_le (number_of a.rule) (number_of b.rule) else nat_lt a.item b.item)
+    else nat_lt a.number b.number
 
 -- the first of two
 abbrev pub earlier_of : Breach → Breach → Breach

@@ -1,5 +1,6 @@
 -- Intervals of whole numbers, and what operations make of them.
-use Rattle.std.specs.Prelude.{ℤ, pos, negsuc, neg_ℤ, ◌+ℤ◌, ◌-ℤ◌, ◌*ℤ◌, ◌≤ℤ◌, ◌^◌, ◌&&◌, Bool, max, nat_lt, nat_abs, int_lt, int_le, int_div, if◌then◌else◌}
+use Rattle.std.specs.Prelude.{ℤ, pos, negsuc, neg_ℤ, ◌+ℤ◌, ◌-ℤ◌, ◌*ℤ◌, ◌≤ℤ◌, ◌^◌, ◌&&◌, Bool, max, nat_lt, nat_abs, int_lt, int_le, int_div}
+use Rattle.std.specs.Prelude.{if◌then◌else◌}
 use Rattle.std.specs.Int.{int_min, int_max}
 
 -- the whole numbers from one to another, both with them

@@ -1,5 +1,6 @@
 -- The laws of kinds, as statements.
-use Rattle.std.specs.Prelude.{◌≡◌, ℕ, suc, ◌<◌, ◌≤◌, ◌-◌, ◌^◌, ℤ, pos, negsuc, neg_ℤ, ◌≤ℤ◌, ◌<ℤ◌, Bool, true, false, Some, None, List, [], ◌∷◌, length, map, ◌↔◌}
+use Rattle.std.specs.Prelude.{◌≡◌, ℕ, suc, ◌<◌, ◌≤◌, ◌-◌, ◌^◌, ℤ, pos, negsuc, neg_ℤ, ◌≤ℤ◌, ◌<ℤ◌, Bool, true, false, Some, None, List, []}
+use Rattle.std.specs.Prelude.{◌∷◌, length, map, ◌↔◌}
 use Rattle.smv_language.specs.Tree.{Tree}
 use Rattle.smv_language.specs.ProgramTree.{Formula, ProgramTree}
 use Rattle.smv_language.specs.Laws.{AllLeaves}
@@ -8,14 +9,15 @@ use Rattle.smv_language.specs.Scope.{Place}
 use Rattle.smv_language.specs.May.{Valuation, name_values, May}
 use Rattle.smv_language.specs.Values.{Value, truth, Values, one}
 use Rattle.smv_language.specs.Trace.{Each, InDomains, IsTrace}
-use Rattle.smv_language.specs.Flat.{FlatLeaf, flat_variable, flat_symbol, flat_definition, FlatFormula, FlatModel, leaves_at, FlatGives, FlatMay, Numbers}
+use Rattle.smv_language.specs.Flat.{FlatLeaf, flat_variable, flat_symbol, flat_definition, FlatFormula, FlatModel, leaves_at, FlatGives}
+use Rattle.smv_language.specs.Flat.{FlatMay, Numbers}
 use Rattle.smv_flat_laws.specs.Model.{IsFlatOf}
 use Rattle.smv_flat_laws.specs.FlatTrace.{AreInDomains, IsFlatTrace}
-use Rattle.smv_flat_laws.specs.Resolved.{Resolver, IsSound, IsResolved}
+use Rattle.smv_flat_laws.specs.NameResolution.{Resolver, IsSound, IsResolved}
 use Rattle.smv_flat_laws.specs.Rules.{IsAccepted}
 use Rattle.smv_type_laws.specs.Intervals.{Interval, fits}
-use Rattle.smv_type_laws.specs.Judged.{KindRule, number_of, Judged}
-use Rattle.smv_type_laws.specs.Safe.{IsOfKind, IsSafe}
+use Rattle.smv_type_laws.specs.ExpressionKinds.{KindRule, number_of, Judged}
+use Rattle.smv_type_laws.specs.KindValues.{IsOfKind, IsSafe}
 use Rattle.smv_type_laws.specs.Costs.{width_of}
 use Rattle.smv_type_laws.specs.FirstBreach.{first_fault}
 use Rattle.smv_type_laws.specs.Models.{judged_in, broken_condition, IsFault, IsTyped}
@@ -86,7 +88,8 @@ pub record IsDefined (m : FlatModel) (v : List Value) (d : FlatFormula) : Type 0
 
 -- each definition of a typed model has one value, of its kind
 abbrev pub DefinitionsAreDefined : Type 0
-DefinitionsAreDefined = (m : FlatModel) → IsClosed m → IsTyped m → (v : List Value) → AreInDomains m.variables v → Each (IsDefined m v) m.definitions
+DefinitionsAreDefined = (m : FlatModel) → IsClosed m → IsTyped m → (v : List Value) → AreInDomains m.variables v →
+    Each (IsDefined m v) m.definitions
 
 -- a model has at most one fault, and none where it is typed
 abbrev pub OneFault : Type 0
@@ -100,7 +103,8 @@ TypedHasNoFault = (m : FlatModel) (r : KindRule) (i : ℕ) → IsTyped m → IsF
 -- value.
 pub record KeepsWrittenKind (p : ProgramTree) (at : Place) (now next : Valuation) (j : Judged) (e : Formula) : Type 0 where
   pub of_kind : (x : Value) → May p at now next e x → IsOfKind j.kind x
-  pub alone : j.is_set ≡ false → (x : Value) × (n : ℕ) × (evaluate (name_values n p at now next) (name_values n p at next next) e ≡ Some (one x))
+  pub alone : j.is_set ≡ false →
+      (x : Value) × (n : ℕ) × (evaluate (name_values n p at now next) (name_values n p at next next) e ≡ Some (one x))
 
 -- a program's flat model is closed
 abbrev pub FlatModelsAreClosed : Type 0
@@ -109,14 +113,17 @@ FlatModelsAreClosed = (p : ProgramTree) (m : FlatModel) → IsFlatOf p m → IsC
 -- an expression that is resolved soundly may have exactly the values of the written one, at values of all variables
 abbrev pub ResolvedMayHaveTheSame : Type 0
 ResolvedMayHaveTheSame =
-    (p : ProgramTree) (m : FlatModel) (is : IsFlatOf p m) (r : Resolver) → IsSound p m is.written r → (v w : List Value) (now next : Valuation) → Numbers m v now → Numbers m w next →
-    (at : Place) (e : Formula) (flat : Tree FlatLeaf) → IsResolved (r at) e flat → (x : Value) → (May p at now next e x ↔ FlatMay m v w flat x)
+    (p : ProgramTree) (m : FlatModel) (is : IsFlatOf p m) (r : Resolver) → IsSound p m is.written r →
+    (v w : List Value) (now next : Valuation) → Numbers m v now → Numbers m w next →
+    (at : Place) (e : Formula) (flat : Tree FlatLeaf) → IsResolved (r at) e flat → (x : Value) →
+    (May p at now next e x ↔ FlatMay m v w flat x)
 
 -- each written expression of a lawful program, resolved soundly, keeps the kind of its flat form
 abbrev pub WrittenValuesLieInKinds : Type 0
 WrittenValuesLieInKinds =
     (p : ProgramTree) (m : FlatModel) → IsAccepted p → (is : IsFlatOf p m) → IsTyped m → (r : Resolver) → IsSound p m is.written r →
-    (now next : Valuation) → InDomains p now → InDomains p next → (at : Place) (e : Formula) (flat : Tree FlatLeaf) → IsResolved (r at) e flat →
+    (now next : Valuation) → InDomains p now → InDomains p next → (at : Place) (e : Formula) (flat : Tree FlatLeaf) →
+    IsResolved (r at) e flat →
     (sets : Bool) → (judged_in m sets flat).broken ≡ [] →
     KeepsWrittenKind p at now next (judged_in m sets flat) e
 
@@ -124,7 +131,8 @@ WrittenValuesLieInKinds =
 abbrev pub WrittenConditionsAreDecided : Type 0
 WrittenConditionsAreDecided =
     (p : ProgramTree) (m : FlatModel) → IsAccepted p → (is : IsFlatOf p m) → IsTyped m → (r : Resolver) → IsSound p m is.written r →
-    (now next : Valuation) → InDomains p now → InDomains p next → (at : Place) (e : Formula) (flat : Tree FlatLeaf) → IsResolved (r at) e flat →
+    (now next : Valuation) → InDomains p now → InDomains p next → (at : Place) (e : Formula) (flat : Tree FlatLeaf) →
+    IsResolved (r at) e flat →
     broken_condition (judged_in m false flat) ≡ [] →
     (n : ℕ) × (b : Bool) × (evaluate (name_values n p at now next) (name_values n p at next next) e ≡ Some (one (truth b)))
 
@@ -140,7 +148,8 @@ BitsHold (negsuc n) hi w = (1 ≤ w) × (neg_ℤ (pos (2 ^ (w - 1))) ≤ℤ negs
 
 -- the width of an interval is the least number of bits that hold its numbers
 abbrev pub WidthsAreLeast : Type 0
-WidthsAreLeast = (i : Interval) → i.lo ≤ℤ i.hi → fits i ≡ true → BitsHold i.lo i.hi (width_of i) × ((w : ℕ) → BitsHold i.lo i.hi w → width_of i ≤ w)
+WidthsAreLeast = (i : Interval) → i.lo ≤ℤ i.hi → fits i ≡ true →
+    BitsHold i.lo i.hi (width_of i) × ((w : ℕ) → BitsHold i.lo i.hi w → width_of i ≤ w)
 
 -- the values of a valuation, by the numbers of the variables
 abbrev pub values_by_number : FlatModel → Valuation → List Value
@@ -149,7 +158,8 @@ values_by_number m v = map (λ x. v x.place x.name) m.variables
 -- a valuation lies in a program's domains exactly where its values lie in those of the numbered variables
 abbrev pub DomainsAreThose : Type 0
 DomainsAreThose =
-    (p : ProgramTree) (m : FlatModel) → IsAccepted p → IsFlatOf p m → (v : Valuation) → (InDomains p v ↔ AreInDomains m.variables (values_by_number m v))
+    (p : ProgramTree) (m : FlatModel) → IsAccepted p → IsFlatOf p m → (v : Valuation) →
+    (InDomains p v ↔ AreInDomains m.variables (values_by_number m v))
 
 -- the traces of a program are the traces of its flat model
 abbrev pub TracesAreThose : Type 0

@@ -1,9 +1,9 @@
 pub mod Intervals
-pub mod Judged
-pub mod Declared
+pub mod ExpressionKinds
+pub mod DeclaredKinds
 pub mod Costs
 pub mod Models
-pub mod Safe
+pub mod KindValues
 pub mod Laws
 pub mod FirstBreach
-pub mod Least
+pub mod LeastValues

@@ -1,10 +1,12 @@
 -- The kinds of a model's variables and definitions, and the first rule that it breaks.
-use Rattle.std.specs.Prelude.{◌≡◌, ◌⊎◌, ℕ, ◌<◌, ◌≤◌, nat_lt, Bool, true, false, ◌||◌, Option, Some, None, List, [], ◌∷◌, ◌++◌, map, flat_map, slice_get, if◌then◌else◌}
+use Rattle.std.specs.Prelude.{◌≡◌, ◌⊎◌, ℕ, ◌<◌, ◌≤◌, nat_lt, Bool, true, false, ◌||◌, Option, Some, None, List, [], ◌∷◌, ◌++◌, map}
+use Rattle.std.specs.Prelude.{flat_map, slice_get, if◌then◌else◌}
 use Rattle.smv_language.specs.Tree.{Tree}
 use Rattle.smv_language.specs.Trace.{Each, AtSome}
 use Rattle.smv_language.specs.Flat.{FlatLeaf, flat_variable, flat_symbol, flat_definition, FlatVariable, FlatFormula, FlatModel}
-use Rattle.smv_type_laws.specs.Judged.{Kind, truth_class, symbol_class, KindRule, not_boolean, too_large, number_of, Judged, unless_class, judge}
-use Rattle.smv_type_laws.specs.Declared.{judged_declared}
+use Rattle.smv_type_laws.specs.ExpressionKinds.{Kind, truth_class, symbol_class, KindRule, not_boolean, too_large, number_of, Judged}
+use Rattle.smv_type_laws.specs.ExpressionKinds.{unless_class, judge}
+use Rattle.smv_type_laws.specs.DeclaredKinds.{judged_declared}
 use Rattle.smv_type_laws.specs.Costs.{cost_of, model_cost, state_bits}
 
 -- of what is not there, a kind without a number
@@ -70,7 +72,8 @@ condition_breaches m fs = flat_map (λ f. breaches_at f.number f.item (broken_co
 abbrev pub breaches : FlatModel → List Breach
 breaches m =
     variable_breaches m.variables
-    ++ (definition_breaches m.definitions (judged_definitions m) ++ (condition_breaches m m.at_first ++ (condition_breaches m m.at_each ++ condition_breaches m m.at_step)))
+    ++ (definition_breaches m.definitions (judged_definitions m)
+    ++ (condition_breaches m m.at_first ++ (condition_breaches m m.at_each ++ condition_breaches m m.at_step)))
 
 -- by instances, then items, then numbers
 abbrev pub IsNoLater : Breach → Breach → Type 0

@@ -2,7 +2,7 @@
 //! model may break.
 //!
 //! A kind is a class (truth values, numbers, symbols) and, for numbers, the interval in which they lie.
-//! `specs/Intervals.antt` has intervals and what operations make of them, and `specs/Judged.antt` the
+//! `specs/Intervals.antt` has intervals and what operations make of them, and `specs/ExpressionKinds.antt` the
 //! table: over leaves of given kinds, `judge` gives a tree's kind, whether it is a set, and the rules
 //! that it and its parts break; a tree that breaks a rule has a class and no interval. `Declared` judges
 //! declared types, `Costs` has costs and state bits, and `Models` puts them together: definitions are
@@ -20,8 +20,11 @@
 //! ```
 #![tactic(auto)]
 
-ghost use Rattle.smv_type_laws.specs.Laws.{ValuesLieInKinds, ConditionsAreDecided, DefinitionsAreDefined, FlatModelsAreClosed, ResolvedMayHaveTheSame, WrittenValuesLieInKinds, WrittenConditionsAreDecided, OneFault, TypedHasNoFault, FirstFaultIsFound, SetsChangeNothing, WidthsAreLeast, DomainsAreThose, TracesAreThose};
-ghost use Rattle.smv_type_laws.specs.Least.{LeastValuesLie, MixedValuesLie, LeastInputsServe};
+ghost use Rattle.smv_type_laws.specs.Laws.{ValuesLieInKinds, ConditionsAreDecided, DefinitionsAreDefined, FlatModelsAreClosed};
+ghost use Rattle.smv_type_laws.specs.Laws.{ResolvedMayHaveTheSame, WrittenValuesLieInKinds, WrittenConditionsAreDecided, OneFault};
+ghost use Rattle.smv_type_laws.specs.Laws.{TypedHasNoFault, FirstFaultIsFound, SetsChangeNothing, WidthsAreLeast, DomainsAreThose};
+ghost use Rattle.smv_type_laws.specs.Laws.{TracesAreThose};
+ghost use Rattle.smv_type_laws.specs.LeastValues.{LeastValuesLie, MixedValuesLie, LeastInputsServe};
 
 /// In a typed model, at values of the variables' domains, each expression that breaks no rule has values,
 /// all of its kind, and exactly one where it is no set; each condition is TRUE or FALSE and each

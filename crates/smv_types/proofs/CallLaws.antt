@@ -3,18 +3,18 @@ use Rattle.std.proofs.Common.{◌≡◌, ℕ, Bool, true, false, List, [], ◌�
 use Rattle.std.specs.Prelude.{Result, Ok, Err, nat_lt}
 use Rattle.smv_language.specs.Tree.{Tree}
 use Rattle.smv_language.specs.Flat.{FlatLeaf, FlatModel}
-use Rattle.smv_type_laws.specs.Judged as found
-use Rattle.smv_type_laws.specs.Judged.{Judged, KindRule, truth_class, not_boolean, unless_class}
+use Rattle.smv_type_laws.specs.ExpressionKinds as found
+use Rattle.smv_type_laws.specs.ExpressionKinds.{Judged, KindRule, truth_class, not_boolean, unless_class}
 use Rattle.smv_type_laws.specs.Costs.{cost_of}
 use Rattle.smv_type_laws.specs.Models.{broken_condition, judged_in, least, least_after, size_fault, top_fault, IsTyped}
 use Rattle.smv_type_laws.proofs.Typed.{values_lie}
 use Rattle.smv_type_laws.proofs.Parts.{none_second}
-use Rattle.smv_types.specs.declared.fault.Rule.TheVariants.{NotBoolean}
+use Rattle.smv_types.specs.declared.fault.TypeRule.TheVariants.{NotBoolean}
 use Rattle.smv_types.specs.declared.fault.TypeFault.{TypeFault}
 use Rattle.smv_types.specs.declared.sort.Class.TheVariants.{Truth}
 use Rattle.smv_types.specs.declared.calls.Kind.{Kind}
-use Rattle.smv_types.specs.declared.sort.Judged.{Judged as AJudged}
-use Rattle.smv_types.specs.declared.fault.Rule.{Rule}
+use Rattle.smv_types.specs.declared.sort.JudgedExpr.{JudgedExpr as AJudged}
+use Rattle.smv_types.specs.declared.fault.TypeRule.{TypeRule}
 use Rattle.smv_types.specs.Rows.{lower, class_rule}
 use Rattle.smv_types.specs.Answers.{told_first, told_rules, told_sort, told}
 use Rattle.smv_types.specs.Calls.{value_answer, top_answer, value_by, top_by, LiesInKind}
@@ -44,7 +44,7 @@ told_top m e = by (least (broken_condition (judged_in m false e))) (nat_lt 50000
     by None true = refl
     by None false = refl
 
-pub top_answered : (r : Result (Unit {0}) TypeFault) (m : FlatModel) (e : Tree FlatLeaf) (judged : AJudged) (broken : Option Rule) (cost : ℕ) → judged ≡ told (judged_in m false e) →
+pub top_answered : (r : Result (Unit {0}) TypeFault) (m : FlatModel) (e : Tree FlatLeaf) (judged : AJudged) (broken : Option TypeRule) (cost : ℕ) → judged ≡ told (judged_in m false e) →
     broken ≡ lower (class_rule Truth NotBoolean judged.sort) judged.broken → cost ≡ min (cost_of e) 50001 → r ≡ top_by broken (nat_lt 50000 cost) → r ≡ top_answer (top_fault m e)
 top_answered r m e judged broken cost is is_broken is_cost is_answer =
     is_answer ∙ ap (λ b. top_by b (nat_lt 50000 cost)) (is_broken ∙ ap (λ (j : AJudged). lower (class_rule Truth NotBoolean j.sort) j.broken) is ∙ told_condition (judged_in m false e))

@@ -13,10 +13,10 @@ use Rattle.base_values.specs.declared.domain.Domain.TheVariants as domain
 use Rattle.base_values.specs.declared.value.Value.{Value as AValue}
 use Rattle.base_values.specs.declared.value.Value.TheVariants as value
 use Rattle.base_values.specs.Domains.{Has}
-use Rattle.smv_type_laws.specs.Judged.{number_class, symbol_class, mixed_enum, double_member, rule_if, unless_class, unlike_first, wide}
+use Rattle.smv_type_laws.specs.ExpressionKinds.{number_class, symbol_class, mixed_enum, double_member, rule_if, unless_class, unlike_first, wide}
 use Rattle.smv_type_laws.specs.Costs.{symbol_number}
 use Rattle.smv_type_laws.proofs.Parts.{none_first, none_second}
-use Rattle.smv_type_laws.specs.Declared.{member_kind, has_double, judged_declared}
+use Rattle.smv_type_laws.specs.DeclaredKinds.{member_kind, has_double, judged_declared}
 use Rattle.smv_types.specs.Types.{numbers_in, symbols_in, members_domain, domain_of, StandsFor, HasValuesOf, variable_domain, AreValuesOf}
 use Rattle.smv_type_laws.specs.Models.{breaches_at, variable_breaches, IsTyped}
 use Rattle.base_values.specs.declared.domain.Domain.{Domain}

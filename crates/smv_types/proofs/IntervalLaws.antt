@@ -4,7 +4,7 @@ use Rattle.std.proofs.lemmas.Int.{ints, fits_signed_mul, fits_signed_from_abs}
 use Rattle.std.specs.Prelude.{◌≤◌, unsigned_abs, FitsSigned}
 use mir.Syntax.{w64}
 use Rattle.smv_type_laws.specs.Intervals.{just, hull}
-use Rattle.smv_types.specs.Told.{fitting, IsSmall}
+use Rattle.smv_types.specs.NumberAnswers.{fitting, IsSmall}
 
 small_size : (a : ℤ) → IsSmall a → unsigned_abs a ≤ 2147483648
 small_size a s = omega (arith, ints, s.0, s.1)

@@ -4,17 +4,17 @@ use Rattle.std.specs.Prelude.{flat_map}
 use Rattle.std.proofs.lemmas.List.{drop_more}
 use Rattle.smv_language.specs.declared.expr.Expr.{Expr}
 use Rattle.smv_language.specs.Tree.{Tree, Branches, no_branch, branch_then}
-use Rattle.smv_language.specs.Written.{tree_of, trees_of, branches_of}
+use Rattle.smv_language.specs.ExpressionTree.{tree_of, trees_of, branches_of}
 use Rattle.smv_type_laws.specs.Intervals.{Interval}
-use Rattle.smv_type_laws.specs.Judged.{Class, truth_class, number_class, symbol_class, Kind, Judged, KindRule, mismatch, not_boolean, case_end, joined, rule_if, unless_class, unlike_first, hull_of, hull_from, kinds_in, broken_in, some_set, judged_set, judged_case, is_word_true, ends_in_true, judge, judge_trees, judge_conditions, judge_values, same_class as same}
-use Rattle.smv_types.specs.declared.fault.Rule.{Rule}
-use Rattle.smv_types.specs.declared.fault.Rule.TheVariants.{Mismatch, NotBoolean, CaseEnd}
+use Rattle.smv_type_laws.specs.ExpressionKinds.{Class, truth_class, number_class, symbol_class, Kind, Judged, KindRule, mismatch, not_boolean, case_end, joined, rule_if, unless_class, unlike_first, hull_of, hull_from, kinds_in, broken_in, some_set, judged_set, judged_case, is_word_true, ends_in_true, judge, judge_trees, judge_conditions, judge_values, same_class as same}
+use Rattle.smv_types.specs.declared.fault.TypeRule.{TypeRule}
+use Rattle.smv_types.specs.declared.fault.TypeRule.TheVariants.{Mismatch, NotBoolean, CaseEnd}
 use Rattle.smv_types.specs.declared.sort.Class.TheVariants.{Truth}
 use Rattle.smv_types.specs.declared.several.Several.{Several}
 use Rattle.smv_types.specs.declared.several.Guards.{Guards}
 use Rattle.smv_types.specs.Rows.{lower, unless, class_rule}
 use Rattle.smv_types.specs.Answers.{told_class, told_rules, told_sort, told}
-use Rattle.smv_types.specs.Several.{add_to, add_all, guard_by, guard_all, no_guards, row_set, row_case}
+use Rattle.smv_types.specs.ListKinds.{add_to, add_all, guard_by, guard_all, no_guards, row_set, row_case}
 use Rattle.smv_types.proofs.ToldLaws.{lower_again, lower_none, told_join, joins, told_class_rule, told_some}
 
 pub or_again : (a b c : Bool) → (a || b) || c ≡ a || (b || c)
@@ -37,10 +37,10 @@ after s c js =
       parts = lower s.parts (told_rules (broken_in js));
     }
 
-abbrev several : Several → Option Interval → Bool → Option Rule → Option Rule → Several
+abbrev several : Several → Option Interval → Bool → Option TypeRule → Option TypeRule → Several
 several s i is_set own parts = record { sort = record { class = s.sort.class; interval = i }; is_set = is_set; own = own; parts = parts }
 
-same_several : (s : Several) (i : Option Interval) (a b : Bool) (o p q r : Option Rule) → a ≡ b → o ≡ p → q ≡ r → several s i a o q ≡ several s i b p r
+same_several : (s : Several) (i : Option Interval) (a b : Bool) (o p q r : Option TypeRule) → a ≡ b → o ≡ p → q ≡ r → several s i a o q ≡ several s i b p r
 same_several s i a b o p q r e f g = ap (λ x. several s i x o q) e ∙ ap (λ x. several s i b x q) f ∙ ap (λ x. several s i b p x) g
 
 add_law : (s : Several) (c : Class) → told_class c ≡ s.sort.class → (js : List Judged) → add_all (Some s) js ≡ Some (after s c js)
@@ -81,10 +81,10 @@ abbrev guards_after : {L : Type 0} → (L → Kind) → Guards → Branches L �
 guards_after k g bs =
     record { own = lower g.own (told_rules (no_truths (judge_conditions k bs))); parts = lower g.parts (told_rules (broken_in (judge_conditions k bs))); ends = ends_in_true bs }
 
-abbrev guards : Bool → Option Rule → Option Rule → Guards
+abbrev guards : Bool → Option TypeRule → Option TypeRule → Guards
 guards ends own parts = record { own = own; parts = parts; ends = ends }
 
-same_guards : (ends : Bool) (o p q r : Option Rule) → o ≡ p → q ≡ r → guards ends o q ≡ guards ends p r
+same_guards : (ends : Bool) (o p q r : Option TypeRule) → o ≡ p → q ≡ r → guards ends o q ≡ guards ends p r
 same_guards ends o p q r f g = ap (λ x. guards ends x q) f ∙ ap (λ x. guards ends p x) g
 
 guard_law : {L : Type 0} (k : L → Kind) (g : Guards) (c : Tree L) (a : Tree L) (bs : Branches L) → guard_all k g (branch_then c a bs) ≡ guards_after k g (branch_then c a bs)

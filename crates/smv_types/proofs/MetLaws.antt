@@ -10,10 +10,10 @@ use Rattle.smv_language.specs.declared.program.Member.TheVariants as member
 use Rattle.smv_language.specs.Texts.{same_text, is_among}
 use Rattle.smv_language.specs.BorrowedTexts.{texts}
 use Rattle.smv_language.proofs.BorrowedTexts.{inserted}
-use Rattle.smv_type_laws.specs.Declared.{same_member, is_member_again, has_double}
+use Rattle.smv_type_laws.specs.DeclaredKinds.{same_member, is_member_again, has_double}
 use Rattle.indexmap.specs.IndexSet.{contains}
-use Rattle.smv_types.specs.declared.members.Met.{Met}
-use Rattle.smv_types.specs.Met.{AddsMember, met_again}
+use Rattle.smv_types.specs.declared.members.MetMembers.{MetMembers}
+use Rattle.smv_types.specs.MemberTests.{AddsMember, met_again}
 use Rattle.smv_language.proofs.OneTree.{same_text_equal}
 
 among_last : (ts : List (List ℕ)) (x y : List ℕ) → is_among (ts ++ x ∷ []) y ≡ (same_text x y || is_among ts y)
@@ -43,7 +43,7 @@ pub text_added : (ks after : List (Bor (List ℕ))) (k : Bor (List ℕ)) (y : Li
 text_added ks after k y e = ap (λ xs. is_among (texts xs) y) e ∙ ap (λ ts. is_among ts y) (inserted ks k) ∙ among_more (texts ks) k.now y
 
 -- a text more was met
-pub symbol_added : (before after : Met) (k : Bor (List ℕ)) (x : List ℕ) → k.now ≡ x → after.numbers ≡ before.numbers →
+pub symbol_added : (before after : MetMembers) (k : Bor (List ℕ)) (x : List ℕ) → k.now ≡ x → after.numbers ≡ before.numbers →
     after.texts.keys ≡ (if list_any (λ (y : Bor (List ℕ)). pointwise nat_eq k.now y.now) before.texts.keys then before.texts.keys else before.texts.keys ++ k ∷ []) → AddsMember before (member.Symbol x) after
 symbol_added before after k x is same keys (member.Number n) = ap (λ s. contains int_eq s n) same
 symbol_added before after k x is same keys (member.Symbol y) = text_added before.texts.keys after.texts.keys k y keys ∙ ap (λ t. same_text t y || is_among (texts before.texts.keys) y) is

@@ -2,7 +2,7 @@
 use Rattle.std.proofs.Common.{◌≡◌, ℕ, min, ◌||◌, Option, Some, None, refl, sym, ap, ◌∙◌, subst, nat_lt, arith}
 use Rattle.std.proofs.lemmas.Bool.{ltb-false, or_parts as neither}
 use Rattle.smv_language.specs.Flat.{FlatModel}
-use Rattle.smv_type_laws.specs.Judged.{KindRule}
+use Rattle.smv_type_laws.specs.ExpressionKinds.{KindRule}
 use Rattle.smv_type_laws.specs.Costs.{model_cost, state_bits}
 use Rattle.smv_type_laws.specs.FirstBreach.{first_of, first_fault}
 use Rattle.smv_type_laws.specs.Models.{breaches, IsFault, IsTyped}

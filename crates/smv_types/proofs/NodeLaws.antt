@@ -4,9 +4,9 @@ use Rattle.std.specs.Prelude.{int_lt}
 use Rattle.smv_language.specs.declared.expr.Op.{Op}
 use Rattle.smv_language.specs.declared.expr.Op.TheVariants as op
 use Rattle.smv_type_laws.specs.Intervals.{Interval, just, has_zero, fits}
-use Rattle.smv_type_laws.specs.Judged.{Judged, truth_class, number_class, mismatch, not_boolean, may_divide_by_zero, empty_range, rule_if, unless_class, wide, joined, on_both, exact_interval, negative_interval, divisor_rule, judged_not, judged_connective, judged_negative, judged_number, judged_order, judged_same, judged_union, judged_binary, judged_choice, judged_span, one_value as one_found}
-use Rattle.smv_types.specs.declared.fault.Rule.{Rule}
-use Rattle.smv_types.specs.declared.fault.Rule.TheVariants.{MayDivideByZero, TooWide, EmptyRange, Mismatch, SetHere}
+use Rattle.smv_type_laws.specs.ExpressionKinds.{Judged, truth_class, number_class, mismatch, not_boolean, may_divide_by_zero, empty_range, rule_if, unless_class, wide, joined, on_both, exact_interval, negative_interval, divisor_rule, judged_not, judged_connective, judged_negative, judged_number, judged_order, judged_same, judged_union, judged_binary, judged_choice, judged_span, one_value as one_found}
+use Rattle.smv_types.specs.declared.fault.TypeRule.{TypeRule}
+use Rattle.smv_types.specs.declared.fault.TypeRule.TheVariants.{MayDivideByZero, TooWide, EmptyRange, Mismatch, SetHere}
 use Rattle.smv_types.specs.declared.sort.Class.{Class}
 use Rattle.smv_types.specs.declared.sort.Class.TheVariants.{Truth, Number, Symbol}
 use Rattle.smv_types.specs.declared.sort.Sort.{Sort}
@@ -15,21 +15,21 @@ use Rattle.smv_types.specs.Answers.{told_class, told_rules, told_sort, told, see
 use Rattle.smv_types.proofs.ToldLaws.{joins, told_rule_if, told_class_rule, told_wide, told_one, told_some}
 
 -- an interval that passes 32 bits is not kept
-kept_exact : (x : Option Rule) (e : Option Interval) → where_kept (lower x (exact_of e).wide) e ≡ where_kept (lower x (exact_of e).wide) (exact_of e).interval
+kept_exact : (x : Option TypeRule) (e : Option Interval) → where_kept (lower x (exact_of e).wide) e ≡ where_kept (lower x (exact_of e).wide) (exact_of e).interval
 kept_exact x None = refl
 kept_exact x (Some i) = by (fits i) x
   where
-    by : (b : Bool) (x : Option Rule) → where_kept (lower x (unless b TooWide)) (Some i) ≡ where_kept (lower x (unless b TooWide)) (cond b (Some i) None)
+    by : (b : Bool) (x : Option TypeRule) → where_kept (lower x (unless b TooWide)) (Some i) ≡ where_kept (lower x (unless b TooWide)) (cond b (Some i) None)
     by true x = refl
     by false None = refl
     by false (Some r) = refl
 
-kept_exact_third : (a b c : Option Rule) (e : Option Interval) →
+kept_exact_third : (a b c : Option TypeRule) (e : Option Interval) →
     where_kept (lower a (lower b (lower c (exact_of e).wide))) e ≡ where_kept (lower a (lower b (lower c (exact_of e).wide))) (exact_of e).interval
 kept_exact_third a b c None = refl
 kept_exact_third a b c (Some i) = by (fits i) a b c
   where
-    by : (t : Bool) (a b c : Option Rule) →
+    by : (t : Bool) (a b c : Option TypeRule) →
         where_kept (lower a (lower b (lower c (unless t TooWide)))) (Some i) ≡ where_kept (lower a (lower b (lower c (unless t TooWide)))) (cond t (Some i) None)
     by true a b c = refl
     by false None None None = refl
@@ -41,7 +41,7 @@ kept_exact_third a b c (Some i) = by (fits i) a b c
     by false (Some s) (Some r) None = refl
     by false (Some s) (Some r) (Some q) = refl
 
-with_interval : (own : Option Rule) (c : Class) (i j : Option Interval) (parts : Option Rule) → where_kept own i ≡ where_kept own j → one_value own c i parts ≡ one_value own c j parts
+with_interval : (own : Option TypeRule) (c : Class) (i j : Option Interval) (parts : Option TypeRule) → where_kept own i ≡ where_kept own j → one_value own c i parts ≡ one_value own c j parts
 with_interval own c i j parts e = ap (λ x. record { sort = record { class = c; interval = x }; is_set = false; broken = lower own parts }) e
 
 pub told_not : (a : Judged) → row_not (told a) ≡ told (judged_not a)
@@ -141,19 +141,19 @@ told_literal n =
     sym (told_one (wide (Some (just n))) number_class (Some (just n)) [] (told_wide (Some (just n))) refl ∙ with_interval (exact_of (Some (just n))).wide Number (Some (just n)) (exact_of (Some (just n))).interval None (kept_exact None (Some (just n))))
 
 -- the same of what may be a set
-kept_exact_set : (a c : Option Rule) (e : Option Interval) →
+kept_exact_set : (a c : Option TypeRule) (e : Option Interval) →
     where_kept (lower (lower a (exact_of e).wide) c) e ≡ where_kept (lower (lower a (exact_of e).wide) c) (exact_of e).interval
 kept_exact_set a c None = refl
 kept_exact_set a c (Some i) = by (fits i) a c
   where
-    by : (t : Bool) (a c : Option Rule) → where_kept (lower (lower a (unless t TooWide)) c) (Some i) ≡ where_kept (lower (lower a (unless t TooWide)) c) (cond t (Some i) None)
+    by : (t : Bool) (a c : Option TypeRule) → where_kept (lower (lower a (unless t TooWide)) c) (Some i) ≡ where_kept (lower (lower a (unless t TooWide)) c) (cond t (Some i) None)
     by true a c = refl
     by false None None = refl
     by false None (Some q) = refl
     by false (Some r) None = refl
     by false (Some r) (Some q) = refl
 
-with_set_interval : (sets : Bool) (own : Option Rule) (c : Class) (i j : Option Interval) (parts : Option Rule) →
+with_set_interval : (sets : Bool) (own : Option TypeRule) (c : Class) (i j : Option Interval) (parts : Option TypeRule) →
     where_kept (lower own (unless (sets || false) SetHere)) i ≡ where_kept (lower own (unless (sets || false) SetHere)) j →
     some_values sets true own (record { class = c; interval = i }) parts ≡ some_values sets true own (record { class = c; interval = j }) parts
 with_set_interval sets own c i j parts e =

@@ -3,14 +3,14 @@ use Rattle.std.proofs.Common.{◌≡◌, ℕ, suc, ◌+◌, ◌<◌, false, List
 use Rattle.std.specs.Prelude.{map}
 use Rattle.std.proofs.lemmas.List.{take_more, append-nil}
 use Rattle.smv_language.specs.ProgramTree.{declared_tree}
-use Rattle.smv_language.specs.Written.{tree_of}
+use Rattle.smv_language.specs.ExpressionTree.{tree_of}
 use Rattle.smv_language.specs.Flat.{FlatFormula}
 use Rattle.smv_language.specs.declared.model.FlatModel.{FlatModel as AModel}
 use Rattle.smv_language.specs.declared.model.Formula.{Formula}
 use Rattle.smv_language.specs.declared.model.Variable.{Variable}
 use Rattle.smv_language.specs.ModelTree.{variable_tree, formula_tree, flat_tree, model_tree}
-use Rattle.smv_type_laws.specs.Judged.{Kind, Judged, judge}
-use Rattle.smv_type_laws.specs.Declared.{judged_declared}
+use Rattle.smv_type_laws.specs.ExpressionKinds.{Kind, Judged, judge}
+use Rattle.smv_type_laws.specs.DeclaredKinds.{judged_declared}
 use Rattle.smv_type_laws.specs.FirstBreach.{first_of}
 use Rattle.smv_type_laws.specs.Models.{leaf_kind, judged_variables, judged_after, broken_condition, Breach, breaches_at, variable_breaches, definition_breaches, condition_breaches, breaches, judged_definitions}
 use Rattle.smv_language.specs.declared.model.Flat.{Flat}
@@ -18,14 +18,14 @@ use Rattle.smv_types.specs.Answers.{told, told_rules}
 use Rattle.smv_types.specs.Names.{name_kind}
 use Rattle.smv_types.specs.Rows.{lower, class_rule}
 use Rattle.smv_types.specs.Sites.{told_first_site, earlier_site, site_at}
-use Rattle.smv_types.specs.Kept.{kept_sort, kept_sorts, AreKindsOf, formula_breaches}
+use Rattle.smv_types.specs.KeptKinds.{kept_sort, kept_sorts, AreKindsOf, formula_breaches}
 use Rattle.smv_types.specs.Parts.{AreDefined}
-use Rattle.smv_types.specs.declared.definitions.Defined.{Defined}
+use Rattle.smv_types.specs.declared.definitions.JudgedDefinitions.{JudgedDefinitions}
 use Rattle.smv_types.specs.declared.judge.Sorts.{Sorts}
-use Rattle.smv_types.specs.declared.sort.Judged.{Judged as AJudged}
+use Rattle.smv_types.specs.declared.sort.JudgedExpr.{JudgedExpr as AJudged}
 use Rattle.smv_types.specs.declared.sort.Class.TheVariants.{Truth}
-use Rattle.smv_types.specs.declared.fault.Rule.{Rule}
-use Rattle.smv_types.specs.declared.fault.Rule.TheVariants.{NotBoolean}
+use Rattle.smv_types.specs.declared.fault.TypeRule.{TypeRule}
+use Rattle.smv_types.specs.declared.fault.TypeRule.TheVariants.{NotBoolean}
 use Rattle.smv_types.specs.declared.site.Site.{Site}
 use Rattle.smv_types.proofs.SiteLaws.{one_more, joined_sites}
 use Rattle.smv_types.proofs.CallLaws.{told_condition}
@@ -72,7 +72,7 @@ conditions_more k fs i d h =
     one_more (formula_breaches k (take i fs)) f.«instance» f.item (broken_condition (judge k false (tree_of f.value)))
     ∙ sym (ap (λ bs. told_first_site (first_of bs)) (ap (formula_breaches k) (take_more fs i d h) ∙ formulas_push k (take i fs) f))
 
-pub condition_step : (k : Flat → Kind) (fs : List Formula) (i : ℕ) (f : Formula) (first found next : Option Site) (judged : AJudged) (broken : Option Rule) → i < length fs → f ≡ get_or fs i f →
+pub condition_step : (k : Flat → Kind) (fs : List Formula) (i : ℕ) (f : Formula) (first found next : Option Site) (judged : AJudged) (broken : Option TypeRule) → i < length fs → f ≡ get_or fs i f →
     first ≡ told_first_site (first_of (formula_breaches k (take i fs))) → judged ≡ told (judge k false (tree_of f.value)) → broken ≡ lower (class_rule Truth NotBoolean judged.sort) judged.broken →
     found ≡ site_at f.«instance» f.item broken → next ≡ earlier_site first found →
     next ≡ told_first_site (first_of (formula_breaches k (take (i + 1) fs)))
@@ -121,7 +121,7 @@ kept_push [] j = refl
 kept_push (k ∷ js) j = ap (λ ss. kept_sort k ∷ ss) (kept_push js j)
 
 -- one definition more
-defined_one : (variables : List Judged) (fs : List Formula) (f : Formula) (before after : Defined) → AreDefined variables fs before →
+defined_one : (variables : List Judged) (fs : List Formula) (f : Formula) (before after : JudgedDefinitions) → AreDefined variables fs before →
     after.sorts.variables.items ≡ before.sorts.variables.items →
     after.sorts.definitions.items ≡ before.sorts.definitions.items ++ kept_sort (judge (name_kind before.sorts) false (tree_of f.value)) ∷ [] →
     after.first ≡ earlier_site before.first (site_at f.«instance» f.item (told_rules (judge (name_kind before.sorts) false (tree_of f.value)).broken)) →
@@ -157,7 +157,7 @@ defined_one variables fs f before after is same more earlier = record {
     all : judged_after variables [] (map formula_tree (fs ++ f ∷ [])) ≡ js ++ j ∷ []
     all = ap (judged_after variables []) (map_push fs f) ∙ judged_push variables [] ds (formula_tree f)
 
-pub defined_more : (variables : List Judged) (fs : List Formula) (i : ℕ) (f : Formula) (before after : Defined) → i < length fs → f ≡ get_or fs i f → AreDefined variables (take i fs) before →
+pub defined_more : (variables : List Judged) (fs : List Formula) (i : ℕ) (f : Formula) (before after : JudgedDefinitions) → i < length fs → f ≡ get_or fs i f → AreDefined variables (take i fs) before →
     after.sorts.variables.items ≡ before.sorts.variables.items →
     after.sorts.definitions.items ≡ before.sorts.definitions.items ++ kept_sort (judge (name_kind before.sorts) false (tree_of f.value)) ∷ [] →
     after.first ≡ earlier_site before.first (site_at f.«instance» f.item (told_rules (judge (name_kind before.sorts) false (tree_of f.value)).broken)) →

@@ -2,7 +2,7 @@
 use Rattle.std.proofs.Common.{◌≡◌, ℕ, Bool, true, false, List, ◌++◌, Option, Some, None, refl, sym, ap, ◌∙◌}
 use Rattle.std.specs.Prelude.{nat_eq, nat_lt, nat_le, if◌then◌else◌}
 use Rattle.smv_language.specs.Flat.{FlatModel}
-use Rattle.smv_type_laws.specs.Judged.{KindRule, number_of}
+use Rattle.smv_type_laws.specs.ExpressionKinds.{KindRule, number_of}
 use Rattle.smv_type_laws.specs.Models.{Breach, breaches_at, breaches, least, is_too_large}
 use Rattle.smv_type_laws.specs.FirstBreach.{is_no_later, earlier, first_of, breach_of, size_breach, first_fault}
 use Rattle.smv_type_laws.proofs.Earliest.{first_join, first_at}

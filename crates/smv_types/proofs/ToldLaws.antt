@@ -2,22 +2,22 @@
 use Rattle.std.proofs.Common.{◌≡◌, Bool, true, false, not, cond, nat_lt, ◌&&◌, ◌||◌, List, [], ◌∷◌, ◌++◌, Option, Some, None, refl, sym, ap, ◌∙◌, arith}
 use Rattle.std.proofs.lemmas.Bool.{ltb-true, ltb-false}
 use Rattle.smv_type_laws.specs.Intervals.{Interval, fits}
-use Rattle.smv_type_laws.specs.Judged as found
-use Rattle.smv_type_laws.specs.Judged.{Class, truth_class, number_class, symbol_class, Kind, KindRule, mismatch, not_boolean, set_here, may_divide_by_zero, too_wide, empty_range, mixed_enum, case_end, too_large, double_member, number_of, rule_if, unless_class, wide}
+use Rattle.smv_type_laws.specs.ExpressionKinds as found
+use Rattle.smv_type_laws.specs.ExpressionKinds.{Class, truth_class, number_class, symbol_class, Kind, KindRule, mismatch, not_boolean, set_here, may_divide_by_zero, too_wide, empty_range, mixed_enum, case_end, too_large, double_member, number_of, rule_if, unless_class, wide}
 use Rattle.smv_type_laws.specs.Models.{least, least_after, lesser}
 use Rattle.smv_type_laws.proofs.Least.{least_join, least_of_both}
-use Rattle.smv_types.specs.declared.fault.Rule.{Rule}
-use Rattle.smv_types.specs.declared.fault.Rule.TheVariants.{SetHere, TooWide}
+use Rattle.smv_types.specs.declared.fault.TypeRule.{TypeRule}
+use Rattle.smv_types.specs.declared.fault.TypeRule.TheVariants.{SetHere, TooWide}
 use Rattle.smv_types.specs.Rows.{rule_number, lesser_rule, lower, unless, same_class, class_rule, where_kept, one_value, some_values, exact_of}
 use Rattle.smv_types.specs.Answers.{told_class, told_rule, told_first, told_rules, told_sort, told}
 
-second : (r q : Rule) → nat_lt (rule_number q) (rule_number r) ≡ true → lesser_rule r q ≡ q
+second : (r q : TypeRule) → nat_lt (rule_number q) (rule_number r) ≡ true → lesser_rule r q ≡ q
 second r q e = ap (λ t. cond t q r) e
 
-first : (r q : Rule) → nat_lt (rule_number q) (rule_number r) ≡ false → lesser_rule r q ≡ r
+first : (r q : TypeRule) → nat_lt (rule_number q) (rule_number r) ≡ false → lesser_rule r q ≡ r
 first r q e = ap (λ t. cond t q r) e
 
-lesser_again : (r q p : Rule) → lesser_rule r (lesser_rule q p) ≡ lesser_rule (lesser_rule r q) p
+lesser_again : (r q p : TypeRule) → lesser_rule r (lesser_rule q p) ≡ lesser_rule (lesser_rule r q) p
 lesser_again r q p =
     by (nat_lt (rule_number q) (rule_number r)) refl (nat_lt (rule_number p) (rule_number q)) refl (nat_lt (rule_number p) (rule_number r)) refl
   where
@@ -30,13 +30,13 @@ lesser_again r q p =
     by false e false f true g = absurd (omega (arith, ltb-false _ _ e, ltb-false _ _ f, ltb-true _ _ g))
     by false e false f false g = ap (lesser_rule r) (first q p f) ∙ first r q e ∙ sym (ap (λ z. lesser_rule z p) (first r q e) ∙ first r p g)
 
-pub lower_again : (a b c : Option Rule) → lower a (lower b c) ≡ lower (lower a b) c
+pub lower_again : (a b c : Option TypeRule) → lower a (lower b c) ≡ lower (lower a b) c
 lower_again None b c = refl
 lower_again (Some r) None c = refl
 lower_again (Some r) (Some q) None = refl
 lower_again (Some r) (Some q) (Some p) = ap Some (lesser_again r q p)
 
-pub lower_none : (a : Option Rule) → lower a None ≡ a
+pub lower_none : (a : Option TypeRule) → lower a None ≡ a
 lower_none None = refl
 lower_none (Some r) = refl
 
@@ -70,7 +70,7 @@ pub told_join : (rs qs : List KindRule) → told_rules (rs ++ qs) ≡ lower (tol
 told_join rs qs = ap told_first (least_join rs qs) ∙ told_both (least rs) (least qs)
 
 -- the same, of both parts
-pub joins : {a b : Option Rule} (rs qs : List KindRule) → told_rules rs ≡ a → told_rules qs ≡ b → told_rules (rs ++ qs) ≡ lower a b
+pub joins : {a b : Option TypeRule} (rs qs : List KindRule) → told_rules rs ≡ a → told_rules qs ≡ b → told_rules (rs ++ qs) ≡ lower a b
 joins {a = a} rs qs e f = told_join rs qs ∙ ap (λ x. lower x (told_rules qs)) e ∙ ap (λ x. lower a x) f
 
 pub told_rule_if : (b : Bool) (r : KindRule) → told_rules (rule_if b r) ≡ unless (not b) (told_rule r)
@@ -107,7 +107,7 @@ told_kept (r ∷ rs) i = by (least rs)
     by None = refl
     by (Some q) = refl
 
-pub told_one : {own' parts' : Option Rule} (own : List KindRule) (c : Class) (i : Option Interval) (parts : List KindRule) → told_rules own ≡ own' → told_rules parts ≡ parts' →
+pub told_one : {own' parts' : Option TypeRule} (own : List KindRule) (c : Class) (i : Option Interval) (parts : List KindRule) → told_rules own ≡ own' → told_rules parts ≡ parts' →
     told (found.one_value own c i parts) ≡ one_value own' (told_class c) i parts'
 told_one {own' = own'} own c i parts e f =
     ap (λ x. record { sort = record { class = told_class c; interval = x }; is_set = false; broken = told_rules (own ++ parts) }) (told_kept own i ∙ ap (λ o. where_kept o i) e)
@@ -119,7 +119,7 @@ set_rule true false = refl
 set_rule false true = refl
 set_rule false false = refl
 
-pub told_some : {own' parts' : Option Rule} (sets is_set : Bool) (own : List KindRule) (c : Class) (i : Option Interval) (parts : List KindRule) → told_rules own ≡ own' → told_rules parts ≡ parts' →
+pub told_some : {own' parts' : Option TypeRule} (sets is_set : Bool) (own : List KindRule) (c : Class) (i : Option Interval) (parts : List KindRule) → told_rules own ≡ own' → told_rules parts ≡ parts' →
     told (found.some_values sets is_set own c i parts) ≡ some_values sets is_set own' (record { class = told_class c; interval = i }) parts'
 told_some {own' = own'} sets is_set own c i parts e f =
     ap (λ x. record { sort = record { class = told_class c; interval = x }; is_set = is_set; broken = told_rules (all ++ parts) }) (told_kept all i ∙ ap (λ o. where_kept o i) whole)

@@ -2,7 +2,7 @@
 use Rattle.std.proofs.Common.{◌≡◌, ℕ, ◌+◌, ◌<◌, List, length, get_or, drop, ap}
 use Rattle.std.proofs.lemmas.List.{drop_more}
 use Rattle.smv_language.specs.declared.expr.Expr.{Expr}
-use Rattle.smv_language.specs.Written.{tree_of, trees_of, branches_of}
+use Rattle.smv_language.specs.ExpressionTree.{tree_of, trees_of, branches_of}
 use Rattle.smv_type_laws.specs.Costs.{cost_of, trees_cost, branches_cost}
 
 pub trees_cost_more : {L : Type 0} (ts : List (Expr L)) (i : ℕ) (d : Expr L) → i < length ts →

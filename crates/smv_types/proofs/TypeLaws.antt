@@ -6,17 +6,17 @@ use Rattle.smv_language.specs.declared.program.Member.{Member}
 use Rattle.smv_language.specs.declared.program.Member.TheVariants as member
 use Rattle.smv_language.specs.ProgramTree.{Text}
 use Rattle.smv_type_laws.specs.Intervals.{Interval, just, hull}
-use Rattle.smv_type_laws.specs.Judged.{Class, Kind, KindRule, mismatch, mixed_enum, double_member, empty_range, rule_if, unless_class, same_class, wide, hull_from, hull_of, unlike_first, kinds_in, broken_in, one_value as one_found, number_class, where_kept as where_found}
+use Rattle.smv_type_laws.specs.ExpressionKinds.{Class, Kind, KindRule, mismatch, mixed_enum, double_member, empty_range, rule_if, unless_class, same_class, wide, hull_from, hull_of, unlike_first, kinds_in, broken_in, one_value as one_found, number_class, where_kept as where_found}
 use Rattle.smv_type_laws.specs.Costs.{member_number, number_kind}
 use Rattle.smv_type_laws.specs.Models.{least, least_after}
 use Rattle.smv_type_laws.proofs.Parts.{none_first, none_second}
-use Rattle.smv_type_laws.specs.Declared.{member_kind, has_double, judged_members, judged_range}
-use Rattle.smv_types.specs.declared.fault.Rule.{Rule}
-use Rattle.smv_types.specs.declared.fault.Rule.TheVariants.{DoubleMember}
-use Rattle.smv_types.specs.declared.sort.Judged.{Judged as AJudged}
+use Rattle.smv_type_laws.specs.DeclaredKinds.{member_kind, has_double, judged_members, judged_range}
+use Rattle.smv_types.specs.declared.fault.TypeRule.{TypeRule}
+use Rattle.smv_types.specs.declared.fault.TypeRule.TheVariants.{DoubleMember}
+use Rattle.smv_types.specs.declared.sort.JudgedExpr.{JudgedExpr as AJudged}
 use Rattle.smv_types.specs.Rows.{lower, unless, where_kept, one_value, row_range}
 use Rattle.smv_types.specs.Answers.{told_class, told_first, told_rules, told}
-use Rattle.smv_types.specs.Several.{add_all}
+use Rattle.smv_types.specs.ListKinds.{add_all}
 use Rattle.smv_types.specs.Types.{member_judged, members_judged, mixed, row_type, spread}
 use Rattle.smv_types.proofs.ToldLaws.{joins, told_join, told_rule_if, told_one}
 use Rattle.smv_types.proofs.NodeLaws.{told_span}
@@ -39,7 +39,7 @@ hull_spread symbols [] = refl
 hull_spread symbols (m ∷ ms) = spread_from symbols (just (member_number symbols m)) ms
 
 -- Members of several classes.
-mixed_lower : (a b : Option Rule) → mixed (lower a b) ≡ lower (mixed a) (mixed b)
+mixed_lower : (a b : Option TypeRule) → mixed (lower a b) ≡ lower (mixed a) (mixed b)
 mixed_lower None b = refl
 mixed_lower (Some r) None = refl
 mixed_lower (Some r) (Some q) = refl
@@ -94,11 +94,11 @@ kinds_kept (m ∷ ms) e =
     ∙ ap (λ ks. member_kind m ∷ ks) (kinds_kept ms (none_second (wide (member_kind m).interval) (wide_members ms) e))
 
 -- an interval counts only where no rule is broken
-where_none : (own : Option Rule) (i j : Option Interval) → (own ≡ None → i ≡ j) → where_kept own i ≡ where_kept own j
+where_none : (own : Option TypeRule) (i j : Option Interval) → (own ≡ None → i ≡ j) → where_kept own i ≡ where_kept own j
 where_none None i j same = same refl
 where_none (Some r) i j same = refl
 
-last_none : (a b c : Option Rule) → lower a (lower b c) ≡ None → c ≡ None
+last_none : (a b c : Option TypeRule) → lower a (lower b c) ≡ None → c ≡ None
 last_none None None c e = e
 last_none None (Some r) None e = refl
 last_none None (Some r) (Some q) e = cc
@@ -118,7 +118,7 @@ told_type (m ∷ ms) = ap (λ s. row_type s double) (all_of (member_judged m) (m
     double : Bool
     double = has_double all
 
-    own : Option Rule
+    own : Option TypeRule
     own = lower (told_rules (unlike_first mixed_enum (map member_kind all))) (lower (unless (not double) DoubleMember) (told_rules (wide_members all)))
 
     unlike : mixed (told_rules (unlike_first mismatch (kinds_in (members_judged all)))) ≡ told_rules (unlike_first mixed_enum (map member_kind all))

@@ -4,12 +4,12 @@ use Rattle.smv_language.specs.Tree.{Tree}
 use Rattle.smv_language.specs.Values.{Value}
 use Rattle.smv_language.specs.Flat.{FlatLeaf, FlatModel}
 use Rattle.smv_flat_laws.specs.FlatTrace.{AreInDomains}
-use Rattle.smv_type_laws.specs.Judged as found
-use Rattle.smv_type_laws.specs.Judged.{KindRule}
+use Rattle.smv_type_laws.specs.ExpressionKinds as found
+use Rattle.smv_type_laws.specs.ExpressionKinds.{KindRule}
 use Rattle.smv_type_laws.specs.Laws.{IsClosed, ReadsOwn, KeepsKind}
 use Rattle.smv_type_laws.specs.Models.{judged_in}
-use Rattle.smv_types.specs.declared.fault.Rule.{Rule}
-use Rattle.smv_types.specs.declared.fault.Rule.TheVariants.{TooLarge}
+use Rattle.smv_types.specs.declared.fault.TypeRule.{TypeRule}
+use Rattle.smv_types.specs.declared.fault.TypeRule.TheVariants.{TooLarge}
 use Rattle.smv_types.specs.declared.fault.TypeFault.{TypeFault}
 use Rattle.smv_types.specs.declared.calls.Kind.{Kind}
 use Rattle.smv_types.specs.declared.calls.Kind.TheVariants.{Bool as ABool, Num, Sym}
@@ -31,7 +31,7 @@ abbrev pub shown : found.Kind → Kind
 shown k = sort_kind (told_sort k)
 
 -- the rule, at no item of the model
-abbrev pub fault_of : Rule → TypeFault
+abbrev pub fault_of : TypeRule → TypeFault
 fault_of r = record { rule = r; item = 0 }
 
 -- a value's kind, or the rule for which it is refused
@@ -45,12 +45,12 @@ top_answer None = Ok tt
 top_answer (Some r) = Err (fault_of (told_rule r))
 
 -- the same of what the code judges
-abbrev pub value_by : Option Rule → Sort → Result Kind TypeFault
+abbrev pub value_by : Option TypeRule → Sort → Result Kind TypeFault
 value_by None s = Ok (sort_kind s)
 value_by (Some r) s = Err (fault_of r)
 
 -- a condition that breaks no rule may still be too large
-abbrev pub top_by : Option Rule → Bool → Result (Unit {0}) TypeFault
+abbrev pub top_by : Option TypeRule → Bool → Result (Unit {0}) TypeFault
 top_by (Some r) large = Err (fault_of r)
 top_by None true = Err (fault_of TooLarge)
 top_by None false = Ok tt
@@ -58,4 +58,5 @@ top_by None false = Ok tt
 -- An expression over the model's own names keeps its kind, at values of the domains.
 abbrev pub LiesInKind : FlatModel → Tree FlatLeaf → Type 0
 LiesInKind m e =
-    IsClosed m → ReadsOwn m e → (v w : List Value) → AreInDomains m.variables v → AreInDomains m.variables w → KeepsKind m v w (judged_in m false e) e
+    IsClosed m → ReadsOwn m e → (v w : List Value) → AreInDomains m.variables v → AreInDomains m.variables w →
+    KeepsKind m v w (judged_in m false e) e

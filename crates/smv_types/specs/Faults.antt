@@ -1,10 +1,10 @@
 -- What is told of a model that breaks a rule.
 use Rattle.std.specs.Prelude.{◌≡◌, ◌⊎◌, ℕ, Option, Some, None}
 use Rattle.smv_language.specs.Flat.{FlatModel}
-use Rattle.smv_type_laws.specs.Judged.{KindRule}
+use Rattle.smv_type_laws.specs.ExpressionKinds.{KindRule}
 use Rattle.smv_type_laws.specs.Models.{IsFault}
 use Rattle.smv_types.specs.Answers.{told_rule}
-use Rattle.smv_types.specs.declared.fault.Rule.TheVariants.{OutOfMemory}
+use Rattle.smv_types.specs.declared.fault.TypeRule.TheVariants.{OutOfMemory}
 use Rattle.smv_types.specs.declared.fault.TypeFault.{TypeFault}
 
 -- want of memory

@@ -2,7 +2,7 @@
 use Rattle.std.specs.Prelude.{Option, Some, None, slice_get}
 use Rattle.smv_language.specs.declared.model.Flat.{Flat}
 use Rattle.smv_language.specs.declared.model.Flat.TheVariants as flat
-use Rattle.smv_type_laws.specs.Judged.{Kind}
+use Rattle.smv_type_laws.specs.ExpressionKinds.{Kind}
 use Rattle.smv_types.specs.Answers.{seen_sort}
 use Rattle.smv_types.specs.declared.sort.Class.TheVariants.{Truth, Symbol}
 use Rattle.smv_types.specs.declared.sort.Sort.{Sort}

@@ -1,7 +1,7 @@
 -- What the variables and formulas of a flat model cost, and how many bits its variables have.
 use Rattle.std.specs.Prelude.{ℕ, List, sum_by}
 use Rattle.smv_language.specs.ProgramTree.{Text, declared_tree}
-use Rattle.smv_language.specs.Written.{tree_of}
+use Rattle.smv_language.specs.ExpressionTree.{tree_of}
 use Rattle.smv_type_laws.specs.Costs.{cost_of, declared_cost, declared_width, role_width}
 use Rattle.smv_language.specs.declared.model.Formula.{Formula}
 use Rattle.smv_language.specs.declared.model.Variable.{Variable}

@@ -1,5 +1,6 @@
 -- The members of a declared type, one after the other, and the values of its domain.
-use Rattle.std.specs.Prelude.{◌≡◌, ◌↔◌, ℕ, ℤ, Bool, true, false, not, IsTrue, Option, Some, None, List, [], ◌∷◌, map, slice_get, if◌then◌else◌}
+use Rattle.std.specs.Prelude.{◌≡◌, ◌↔◌, ℕ, ℤ, Bool, true, false, not, IsTrue, Option, Some, None, List, [], ◌∷◌, map, slice_get}
+use Rattle.std.specs.Prelude.{if◌then◌else◌}
 use Rattle.smv_language.specs.declared.program.Member.{Member}
 use Rattle.smv_language.specs.declared.program.Member.TheVariants as member
 use Rattle.smv_language.specs.ProgramTree.{Text, DeclaredTree, boolean, range, members, instance, declared_tree}
@@ -13,14 +14,14 @@ use Rattle.base_values.specs.Domains.{Has}
 use Rattle.smv_language.specs.declared.model.Variable.{Variable}
 use Rattle.smv_language.specs.declared.model.FlatModel.{FlatModel}
 use Rattle.smv_type_laws.specs.Intervals.{Interval, just, hull}
-use Rattle.smv_type_laws.specs.Judged as found
-use Rattle.smv_type_laws.specs.Judged.{number_class, symbol_class, wide}
+use Rattle.smv_type_laws.specs.ExpressionKinds as found
+use Rattle.smv_type_laws.specs.ExpressionKinds.{number_class, symbol_class, wide}
 use Rattle.smv_type_laws.specs.Costs.{symbol_number}
 use Rattle.smv_types.specs.Rows.{lower, unless, one_value}
-use Rattle.smv_types.specs.declared.fault.Rule.{Rule}
-use Rattle.smv_types.specs.declared.fault.Rule.TheVariants.{MixedEnum, DoubleMember}
+use Rattle.smv_types.specs.declared.fault.TypeRule.{TypeRule}
+use Rattle.smv_types.specs.declared.fault.TypeRule.TheVariants.{MixedEnum, DoubleMember}
 use Rattle.smv_types.specs.declared.sort.Class.TheVariants.{Truth}
-use Rattle.smv_types.specs.declared.sort.Judged.{Judged}
+use Rattle.smv_types.specs.declared.sort.JudgedExpr.{JudgedExpr}
 use Rattle.smv_types.specs.declared.several.Several.{Several}
 
 -- a member alone
@@ -33,14 +34,15 @@ abbrev pub members_judged : List Member → List found.Judged
 members_judged ms = map member_judged ms
 
 -- members of several classes break a rule of their own
-abbrev pub mixed : Option Rule → Option Rule
+abbrev pub mixed : Option TypeRule → Option TypeRule
 mixed None = None
 mixed (Some r) = Some MixedEnum
 
 -- a type of these members, some of which may be double
-abbrev pub row_type : Option Several → Bool → Judged
+abbrev pub row_type : Option Several → Bool → JudgedExpr
 row_type None double = one_value None Truth None None
-row_type (Some s) double = one_value (lower (mixed s.own) (lower (unless (not double) DoubleMember) s.parts)) s.sort.class s.sort.interval None
+row_type (Some s) double =
+    one_value (lower (mixed s.own) (lower (unless (not double) DoubleMember) s.parts)) s.sort.class s.sort.interval None
 
 -- the least interval around a number and those before it
 abbrev pub widened : Option Interval → ℤ → Interval

@@ -1,6 +1,5 @@
 //! How many bits stand for a variable's value ([`declared_bits`]). The bits of state and frozen variables are added up
 //! for the limit of a model, and the encoding of a model gives each variable as many.
-
 ghost use Rattle.std.specs.Prelude.{◌≡◌, ◌≤◌, None, map};
 ghost use Rattle.smv_language.specs.ProgramTree.{declared_tree};
 ghost use Rattle.smv_type_laws.specs.Costs.{digits_of, digits_above, width_of, width_in, member_number, declared_width};

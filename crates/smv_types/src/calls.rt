@@ -1,6 +1,5 @@
 //! Expressions over a typed model that are no part of it: values, top events, guards. [`kind_of`] tells the kind of
 //! what breaks no rule, and [`check_value`] and [`check_top`] judge. A fault has the item 0.
-
 ghost use Rattle.std.specs.Prelude.{◌≡◌, true, false, [], OnOk};
 ghost use Rattle.smv_language.specs.ModelTree.{model_tree, flat_tree};
 ghost use Rattle.smv_type_laws.specs.Models.{judged_in, broken_condition, value_fault, top_fault};
@@ -8,9 +7,9 @@ ghost use Rattle.smv_types.specs.Answers.{told};
 ghost use Rattle.smv_types.specs.Calls.{sort_kind, shown, value_answer, top_answer, value_by, top_by, LiesInKind};
 
 use crate::cost::{COST_LIMIT, cost};
-use crate::fault::{Rule, TypeFault};
+use crate::fault::{TypeFault, TypeRule};
 use crate::judge::judge;
-use crate::sort::{Class, Judged, Sort, broken_condition};
+use crate::sort::{Class, JudgedExpr, Sort, broken_condition};
 use crate::typed::Typed;
 use smv_language::Expr;
 use smv_language::model::Flat;
@@ -38,7 +37,8 @@ pub fn kind_of(t: &Typed, e: &Expr<Flat>) -> Kind
 /// kind.
 pub fn check_value(t: &Typed, e: &Expr<Flat>) -> Result<Kind, TypeFault>
     ensures answer { result
-        ≡ value_answer (value_fault (model_tree t.now.model) (flat_tree e.now)) (judged_in (model_tree t.now.model) false (flat_tree e.now)).kind }
+        ≡ value_answer (value_fault (model_tree t.now.model) (flat_tree e.now))
+        (judged_in (model_tree t.now.model) false (flat_tree e.now)).kind }
     ensures kept { OnOk result ((judged_in (model_tree t.now.model) false (flat_tree e.now)).broken ≡ []) }
     ensures lies { OnOk result (LiesInKind (model_tree t.now.model) (flat_tree e.now)) }
 {
@@ -60,14 +60,14 @@ pub fn check_top(t: &Typed, e: &Expr<Flat>) -> Result<(), TypeFault>
 }
 
 /// An expression over a typed model.
-fn judge_in(t: &Typed, sets: bool, e: &Expr<Flat>) -> Judged
+fn judge_in(t: &Typed, sets: bool, e: &Expr<Flat>) -> JudgedExpr
     ensures { result ≡ told (judged_in (model_tree t.now.model) sets (flat_tree e.now)) }
 {
     judge(t.sorts(), sets, e)
 }
 
 /// What is told of a value that breaks a rule or none.
-fn value_told(broken: Option<Rule>, sort: Sort) -> Result<Kind, TypeFault>
+fn value_told(broken: Option<TypeRule>, sort: Sort) -> Result<Kind, TypeFault>
     ensures { result ≡ value_by broken sort }
 {
     match broken {
@@ -77,13 +77,13 @@ fn value_told(broken: Option<Rule>, sort: Sort) -> Result<Kind, TypeFault>
 }
 
 /// What is told of a condition that breaks a rule or none, and is too large or not.
-fn top_told(broken: Option<Rule>, large: bool) -> Result<(), TypeFault>
+fn top_told(broken: Option<TypeRule>, large: bool) -> Result<(), TypeFault>
     ensures { result ≡ top_by broken large }
 {
     match broken {
         Some(rule) => Err(TypeFault { rule, item: 0 }),
         None if large => Err(TypeFault {
-            rule: Rule::TooLarge,
+            rule: TypeRule::TooLarge,
             item: 0,
         }),
         None => Ok(()),

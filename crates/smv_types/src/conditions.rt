@@ -1,8 +1,7 @@
 //! The conditions of a model: each formula must be one truth value ([`judge_conditions`]).
-
 ghost use Rattle.std.specs.Prelude.{◌≡◌, ◌++◌};
 ghost use Rattle.smv_type_laws.specs.FirstBreach.{first_of};
-ghost use Rattle.smv_types.specs.Kept.{formula_breaches};
+ghost use Rattle.smv_types.specs.KeptKinds.{formula_breaches};
 ghost use Rattle.smv_types.specs.Names.{name_kind};
 ghost use Rattle.smv_types.specs.Sites.{told_first_site};
 

@@ -1,8 +1,7 @@
 //! The cost of expressions ([`cost`]) and of models ([`model_cost`]), by which large models are refused. It counts nodes,
 //! and more for arithmetic, whose circuits are large: what passes the limit would make long clause lists.
-
 ghost use Rattle.std.specs.Prelude.{◌≡◌, ◌+◌, min};
-ghost use Rattle.smv_language.specs.Written.{tree_of, trees_of, branches_of};
+ghost use Rattle.smv_language.specs.ExpressionTree.{tree_of, trees_of, branches_of};
 ghost use Rattle.smv_language.specs.ProgramTree.{declared_tree};
 ghost use Rattle.smv_language.specs.ModelTree.{model_tree};
 ghost use Rattle.smv_type_laws.specs.Costs.{op_cost, cost_of, trees_cost, branches_cost, declared_cost, model_cost};

@@ -1,15 +1,14 @@
 //! What declared types are judged as ([`judge_declared`]), and the domains of the variables that have them
 //! ([`declare`]). A domain is made also of a type that breaks a rule, and then says nothing.
-
 ghost use Rattle.std.specs.Prelude.{◌≡◌, IfOk};
 ghost use Rattle.smv_language.specs.ProgramTree.{declared_tree};
-ghost use Rattle.smv_type_laws.specs.Declared.{judged_declared};
+ghost use Rattle.smv_type_laws.specs.DeclaredKinds.{judged_declared};
 ghost use Rattle.smv_types.specs.Answers.{told};
 ghost use Rattle.smv_types.specs.Types.{begins_with_number, numbers_in, symbols_in, members_domain, domain_of};
 
 use crate::members::judge_members;
 use crate::numbers::TextNumbers;
-use crate::sort::{Class, Judged, Sort, kept, range};
+use crate::sort::{Class, JudgedExpr, Sort, kept, range};
 use base_values::{Domain, Members, NumList, OutOfMemory, SymList};
 use smv_language::{Declared, Member};
 use std::alloc::Global;
@@ -17,7 +16,7 @@ use std::alloc::Global;
 /// What is known of the values of a declared type, and the first rule that it breaks. An instance is no
 /// variable; it counts as a truth value.
 #[tactic(auto, using(crate::proofs::TypeLaws::told_range))]
-pub(crate) fn judge_declared(alloc: Global, declared: &Declared) -> Result<Judged, OutOfMemory>
+pub(crate) fn judge_declared(alloc: Global, declared: &Declared) -> Result<JudgedExpr, OutOfMemory>
     ensures { IfOk result (λ j. j ≡ told (judged_declared (declared_tree declared.now))) }
 {
     match declared {

@@ -1,6 +1,5 @@
 //! The rules of kinds and limits, and the first that is broken ([`TypeFault`]). Of two rules that are broken at one
 //! item the one with the lower number is told: [`lower`] chooses it.
-
 ghost use Rattle.std.specs.Prelude.{◌≡◌};
 ghost use Rattle.smv_types.specs.Rows.{rule_number, lower, lesser_rule, unless};
 
@@ -10,7 +9,7 @@ use std::alloc::{AllocError, AllocFailed};
 /// A rule of kinds and limits that a model or an expression breaks. Its number, from 1 on, is
 /// `rule as u32`, and of several rules that an item breaks the one with the lowest number is told.
 #[derive(Clone, Copy, Debug, PartialEq, Eq)]
-pub enum Rule {
+pub enum TypeRule {
     /// A side, a branch, a member or an operand is of another class than it has to be.
     Mismatch = 1,
     /// A truth value is needed, and the expression is none.
@@ -40,7 +39,7 @@ pub enum Rule {
 /// says nothing.
 #[derive(Clone, Copy, Debug, PartialEq, Eq)]
 pub struct TypeFault {
-    pub rule: Rule,
+    pub rule: TypeRule,
     pub item: u32,
 }
 
@@ -51,7 +50,7 @@ impl From<OutOfMemory> for TypeFault {
 
     fn from(_refused: OutOfMemory) -> TypeFault {
         TypeFault {
-            rule: Rule::OutOfMemory,
+            rule: TypeRule::OutOfMemory,
             item: 0,
         }
     }
@@ -64,7 +63,7 @@ impl From<AllocError> for TypeFault {
 
     fn from(_refused: AllocError) -> TypeFault {
         TypeFault {
-            rule: Rule::OutOfMemory,
+            rule: TypeRule::OutOfMemory,
             item: 0,
         }
     }
@@ -77,33 +76,33 @@ impl<T: Drop> From<AllocFailed<T>> for TypeFault {
 
     fn from(_refused: AllocFailed<T>) -> TypeFault {
         TypeFault {
-            rule: Rule::OutOfMemory,
+            rule: TypeRule::OutOfMemory,
             item: 0,
         }
     }
 }
 
 /// The number of a rule, from 1 on.
-pub(crate) fn number_of(rule: Rule) -> u32
+pub(crate) fn number_of(rule: TypeRule) -> u32
     ensures { result ≡ rule_number rule }
 {
     match rule {
-        Rule::Mismatch => 1,
-        Rule::NotBoolean => 2,
-        Rule::SetHere => 3,
-        Rule::MayDivideByZero => 4,
-        Rule::TooWide => 5,
-        Rule::EmptyRange => 6,
-        Rule::MixedEnum => 7,
-        Rule::CaseEnd => 8,
-        Rule::TooLarge => 9,
-        Rule::DoubleMember => 10,
-        Rule::OutOfMemory => 11,
+        TypeRule::Mismatch => 1,
+        TypeRule::NotBoolean => 2,
+        TypeRule::SetHere => 3,
+        TypeRule::MayDivideByZero => 4,
+        TypeRule::TooWide => 5,
+        TypeRule::EmptyRange => 6,
+        TypeRule::MixedEnum => 7,
+        TypeRule::CaseEnd => 8,
+        TypeRule::TooLarge => 9,
+        TypeRule::DoubleMember => 10,
+        TypeRule::OutOfMemory => 11,
     }
 }
 
 /// The rule with the lower number, where there is any.
-pub(crate) fn lower(a: Option<Rule>, b: Option<Rule>) -> Option<Rule>
+pub(crate) fn lower(a: Option<TypeRule>, b: Option<TypeRule>) -> Option<TypeRule>
     ensures { result ≡ lower a b }
 {
     match (a, b) {
@@ -114,14 +113,14 @@ pub(crate) fn lower(a: Option<Rule>, b: Option<Rule>) -> Option<Rule>
 }
 
 /// The rule with the lower number.
-fn lesser(a: Rule, b: Rule) -> Rule
+fn lesser(a: TypeRule, b: TypeRule) -> TypeRule
     ensures { result ≡ lesser_rule a b }
 {
     if number_of(b) < number_of(a) { b } else { a }
 }
 
 /// The rule, where it is not kept.
-pub(crate) fn unless(kept: bool, rule: Rule) -> Option<Rule>
+pub(crate) fn unless(kept: bool, rule: TypeRule) -> Option<TypeRule>
     ensures { result ≡ unless kept rule }
 {
     if kept { None } else { Some(rule) }

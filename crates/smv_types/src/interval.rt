@@ -1,11 +1,11 @@
 //! Intervals of numbers within 32 bits, and what operations make of them. Each answers the least interval that has all
 //! results, or None where one of these passes 32 bits: `plus`, `times`, `over` (which truncates toward zero), `remainder`
 //! (which has the sign of what is divided), and so on. No computation here passes 64 bits.
-
 ghost use Rattle.std.specs.Prelude.{◌≡◌, ◌≢◌, ◌≤ℤ◌, ◌*ℤ◌, pos, neg_ℤ, false, int_div, int_lt, if◌then◌else◌};
 ghost use Rattle.std.specs.Int.{int_min, int_max};
-ghost use Rattle.smv_type_laws.specs.Intervals.{just, hull, sum_of, difference_of, negative_of, product_of, quotient_of, remainder_of, most_left, has_zero, fits_number};
-ghost use Rattle.smv_types.specs.Told.{fitting, IsSmall};
+ghost use Rattle.smv_type_laws.specs.Intervals.{just, hull, sum_of, difference_of, negative_of, product_of, quotient_of, remainder_of};
+ghost use Rattle.smv_type_laws.specs.Intervals.{most_left, has_zero, fits_number};
+ghost use Rattle.smv_types.specs.NumberAnswers.{fitting, IsSmall};
 
 use std::marker::Model;
 

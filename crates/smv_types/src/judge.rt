@@ -1,16 +1,15 @@
 //! What is known of an expression's values and the rule that it breaks, by one pass over its tree ([`judge`]). Each node
 //! is judged by `sort` or `several`, over what is known of its parts.
-
 ghost use Rattle.std.specs.Prelude.{◌≡◌, false, None, slice_get};
-ghost use Rattle.smv_language.specs.Written.{tree_of, trees_of, branches_of};
-ghost use Rattle.smv_type_laws.specs.Judged.{sets_on_left, sets_on_right, is_word_true, judge, judge_trees, judge_values};
+ghost use Rattle.smv_language.specs.ExpressionTree.{tree_of, trees_of, branches_of};
+ghost use Rattle.smv_type_laws.specs.ExpressionKinds.{sets_on_left, sets_on_right, is_word_true, judge, judge_trees, judge_values};
 ghost use Rattle.smv_types.specs.Answers.{told};
 ghost use Rattle.smv_types.specs.Names.{sort_at, name_sort, name_kind};
-ghost use Rattle.smv_types.specs.Several.{add_all, guard_all, no_guards};
+ghost use Rattle.smv_types.specs.ListKinds.{add_all, guard_all, no_guards};
 
 use crate::several::{Guards, Several, add_to, guard_by, whole_case, whole_set};
 use crate::sort::{
-    Class, Judged, Sort, choice, kept, literal, negative, operation, opposite, span,
+    Class, JudgedExpr, Sort, choice, kept, literal, negative, operation, opposite, span,
 };
 use smv_language::model::Flat;
 use smv_language::{Expr, Op};
@@ -53,7 +52,7 @@ fn sort_at(sorts: &[Sort], number: u32) -> Sort
 /// stand where the expression does. Takes no memory.
 #[cycle(judge)]
 #[tactic(auto, using(crate::proofs::NodeLaws::told_literal, crate::proofs::NodeLaws::told_name))]
-pub(crate) fn judge(sorts: &Sorts, sets: bool, e: &Expr<Flat>) -> Judged
+pub(crate) fn judge(sorts: &Sorts, sets: bool, e: &Expr<Flat>) -> JudgedExpr
     ensures { result ≡ told (judge (name_kind sorts.now) sets (tree_of e.now)) }
 {
     match e {

@@ -44,8 +44,8 @@ mod whole;
 
 pub use bits::{Ends, digits, ends_width, widened, width};
 pub use calls::{Kind, check_top, check_value, kind_of};
-pub use fault::{Rule, TypeFault};
+pub use fault::{TypeFault, TypeRule};
 pub use interval::Interval;
 pub use numbers::TextNumbers;
-pub use sort::{Class, Judged, Sort, joined, kept, literal, negative, operation};
+pub use sort::{Class, JudgedExpr, Sort, joined, kept, literal, negative, operation};
 pub use typed::{Typed, check_model};

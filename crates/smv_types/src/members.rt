@@ -1,15 +1,14 @@
 //! The members of a type that lists its values ([`judge_members`]): all numbers or all symbols, and none twice.
-
 ghost use Rattle.std.specs.Prelude.{◌≡◌, None, not, IfOk, OnOk};
-ghost use Rattle.smv_type_laws.specs.Declared.{has_double, judged_members};
+ghost use Rattle.smv_type_laws.specs.DeclaredKinds.{has_double, judged_members};
 ghost use Rattle.smv_types.specs.Answers.{told};
-ghost use Rattle.smv_types.specs.Several.{add_all};
+ghost use Rattle.smv_types.specs.ListKinds.{add_all};
 ghost use Rattle.smv_types.specs.Types.{member_judged, members_judged, mixed, row_type};
-ghost use Rattle.smv_types.specs.Met.{has_met, AddsMember, IsFirstMet};
+ghost use Rattle.smv_types.specs.MemberTests.{has_met, AddsMember, IsFirstMet};
 
-use crate::fault::{Rule, lower, unless};
+use crate::fault::{TypeRule, lower, unless};
 use crate::several::{Several, add_to, no_sort};
-use crate::sort::{Class, Judged, Sort, kept, literal, one_value};
+use crate::sort::{Class, JudgedExpr, Sort, kept, literal, one_value};
 use base_values::OutOfMemory;
 use indexmap::IndexSet;
 use smv_language::Member;
@@ -17,17 +16,17 @@ use std::alloc::Global;
 
 /// Members that were met.
 #[derive(Drop)]
-pub(crate) struct Met<'a> {
+pub(crate) struct MetMembers<'a> {
     numbers: IndexSet<i64>,
     texts: IndexSet<&'a [u8]>,
 }
 
-impl<'a> Met<'a> {
+impl<'a> MetMembers<'a> {
     /// None yet.
-    fn new(alloc: Global) -> Met<'a>
+    fn new(alloc: Global) -> MetMembers<'a>
         ensures { IsFirstMet result }
     {
-        Met {
+        MetMembers {
             numbers: IndexSet::new(alloc),
             texts: IndexSet::new(alloc),
         }
@@ -49,7 +48,7 @@ impl<'a> Met<'a> {
 fn has_double(alloc: Global, members: &[Member]) -> Result<bool, OutOfMemory>
     ensures { IfOk result (λ double. double ≡ has_double members.now) }
 {
-    let mut met = Met::new(alloc);
+    let mut met = MetMembers::new(alloc);
     for member in members {
         if !met.add(member)? {
             return Ok(true);
@@ -61,7 +60,7 @@ fn has_double(alloc: Global, members: &[Member]) -> Result<bool, OutOfMemory>
 /// What is known of the values of a type that lists them, and the first rule that it breaks: members are
 /// all numbers or all symbols, distinct, and within 32 bits.
 #[tactic(auto, using(crate::proofs::TypeLaws::told_type))]
-pub(crate) fn judge_members(alloc: Global, members: &[Member]) -> Result<Judged, OutOfMemory>
+pub(crate) fn judge_members(alloc: Global, members: &[Member]) -> Result<JudgedExpr, OutOfMemory>
     ensures { IfOk result (λ j. j ≡ told (judged_members members.now)) }
 {
     let double = has_double(alloc, members)?;
@@ -80,7 +79,7 @@ fn all_members(members: &[Member]) -> Option<Several>
 }
 
 /// A member alone, which breaks a rule where it passes 32 bits.
-fn judge_member(member: &Member) -> Judged
+fn judge_member(member: &Member) -> JudgedExpr
     ensures { result ≡ told (member_judged member.now) }
 {
     match member {
@@ -93,12 +92,12 @@ fn judge_member(member: &Member) -> Judged
 }
 
 /// A type of all these members. A type without members has no values; it counts as one of truth values.
-fn whole_type(values: Option<Several>, double: bool) -> Judged
+fn whole_type(values: Option<Several>, double: bool) -> JudgedExpr
     ensures { result ≡ row_type values double }
 {
     match values {
         Some(all) => {
-            let double = unless(!double, Rule::DoubleMember);
+            let double = unless(!double, TypeRule::DoubleMember);
             let own = lower(mixed(all.own), lower(double, all.parts));
             one_value(own, all.sort.class, all.sort.interval, None)
         }
@@ -107,11 +106,11 @@ fn whole_type(values: Option<Several>, double: bool) -> Judged
 }
 
 /// The rule of members of several classes, where they break one.
-fn mixed(own: Option<Rule>) -> Option<Rule>
+fn mixed(own: Option<TypeRule>) -> Option<TypeRule>
     ensures { result ≡ mixed own }
 {
     match own {
-        Some(_) => Some(Rule::MixedEnum),
+        Some(_) => Some(TypeRule::MixedEnum),
         None => None,
     }
 }

@@ -1,9 +1,8 @@
 //! Texts by their numbers, as a model numbers its symbols: each by its first place in a list, found in a map
 //! ([`TextNumbers`]).
-
 ghost use Rattle.std.specs.Prelude.{◌≡◌, ◌≤◌, length, IfOk, IsOk, OnOk};
 ghost use Rattle.smv_type_laws.specs.Costs.{symbol_number, member_number};
-ghost use Rattle.smv_types.specs.Numbering.{number_from, AreNumbered};
+ghost use Rattle.smv_types.specs.SymbolNumbering.{number_from, AreNumbered};
 
 use base_values::{Name, OutOfMemory};
 use indexmap::IndexMap;

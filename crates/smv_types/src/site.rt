@@ -1,17 +1,16 @@
 //! The first place at which a model breaks a rule: by instances, then items, then numbers of rules ([`earlier`]). The
 //! parts of a model are judged one after the other, and the earliest of what they find is told.
-
 ghost use Rattle.std.specs.Prelude.{◌≡◌};
 ghost use Rattle.smv_types.specs.Sites.{is_before, earlier_site, site_at};
 
-use crate::fault::{Rule, number_of};
+use crate::fault::{TypeRule, number_of};
 
 /// A rule that is broken at an item of an instance.
 #[derive(Clone, Copy, Debug, PartialEq, Eq)]
 pub(crate) struct Site {
     pub instance: u32,
     pub item: u32,
-    pub rule: Rule,
+    pub rule: TypeRule,
 }
 
 impl Site {
@@ -41,7 +40,7 @@ pub(crate) fn earlier(a: Option<Site>, b: Option<Site>) -> Option<Site>
 }
 
 /// The site of an item that breaks a rule, or None where it breaks none.
-pub(crate) fn site_of(instance: u32, item: u32, broken: Option<Rule>) -> Option<Site>
+pub(crate) fn site_of(instance: u32, item: u32, broken: Option<TypeRule>) -> Option<Site>
     ensures { result ≡ site_at instance item broken }
 {
     match broken {

@@ -1,14 +1,15 @@
 //! What is known of an expression's values, and the rules of one node over its parts. For each node there is a function
 //! of what is known of its parts: [`literal`], [`negative`], [`operation`], and those for spans, ranges, negations and
 //! choices. A node that breaks a rule has a class and no interval, so that a rule is told once, where it is broken.
-
 ghost use Rattle.std.specs.Prelude.{◌≡◌, false, None};
-ghost use Rattle.smv_type_laws.specs.Judged.{joined, on_both, exact_interval, negative_interval};
-ghost use Rattle.smv_types.specs.Rows.{lower, same_class, class_rule, one_value, some_values, found, exact_of, is_divided, row_not, row_connective, row_negative, row_number, row_order, row_same, row_union, row_binary, row_choice, row_span, row_range, row_literal};
-ghost use Rattle.smv_types.specs.declared.fault.Rule.TheVariants.{NotBoolean};
+ghost use Rattle.smv_type_laws.specs.ExpressionKinds.{joined, on_both, exact_interval, negative_interval};
+ghost use Rattle.smv_types.specs.Rows.{lower, same_class, class_rule, one_value, some_values, found, exact_of, is_divided, row_not};
+ghost use Rattle.smv_types.specs.Rows.{row_connective, row_negative, row_number, row_order, row_same, row_union, row_binary, row_choice};
+ghost use Rattle.smv_types.specs.Rows.{row_span, row_range, row_literal};
+ghost use Rattle.smv_types.specs.declared.fault.TypeRule.TheVariants.{NotBoolean};
 ghost use Rattle.smv_types.specs.declared.sort.Class.TheVariants.{Truth};
 
-use crate::fault::{Rule, lower, unless};
+use crate::fault::{TypeRule, lower, unless};
 use crate::interval::{Interval, between, is_small};
 use smv_language::Op;
 
@@ -31,10 +32,10 @@ pub struct Sort {
 /// What is known of an expression's values, whether it is a set, and the rule with the lowest number that
 /// it or a part of it breaks.
 #[derive(Clone, Copy)]
-pub struct Judged {
+pub struct JudgedExpr {
     pub sort: Sort,
     pub is_set: bool,
-    pub broken: Option<Rule>,
+    pub broken: Option<TypeRule>,
 }
 
 /// An exact interval: the interval where it is known and ends within 32 bits, and the rule that is broken
@@ -42,7 +43,7 @@ pub struct Judged {
 #[derive(Clone, Copy)]
 pub(crate) struct Exact {
     pub interval: Option<Interval>,
-    pub wide: Option<Rule>,
+    pub wide: Option<TypeRule>,
 }
 
 impl Class {
@@ -60,17 +61,17 @@ impl Class {
 }
 
 /// The rule, where values are of another class.
-pub(crate) fn class_rule(class: Class, rule: Rule, sort: Sort) -> Option<Rule>
+pub(crate) fn class_rule(class: Class, rule: TypeRule, sort: Sort) -> Option<TypeRule>
     ensures { result ≡ class_rule class rule sort }
 {
     unless(sort.class.is_same(class), rule)
 }
 
 /// A single value that breaks no rule.
-pub fn kept(sort: Sort) -> Judged
+pub fn kept(sort: Sort) -> JudgedExpr
     ensures { result ≡ record { sort = sort; is_set = false; broken = None } }
 {
-    Judged {
+    JudgedExpr {
         sort,
         is_set: false,
         broken: None,
@@ -79,18 +80,18 @@ pub fn kept(sort: Sort) -> Judged
 
 /// A single value, where a node breaks the rule `own` and its parts break the rule `parts`.
 pub(crate) fn one_value(
-    own: Option<Rule>,
+    own: Option<TypeRule>,
     class: Class,
     interval: Option<Interval>,
-    parts: Option<Rule>,
-) -> Judged
+    parts: Option<TypeRule>,
+) -> JudgedExpr
     ensures { result ≡ one_value own class interval parts }
 {
     let interval = match own {
         Some(_) => None,
         None => interval,
     };
-    Judged {
+    JudgedExpr {
         sort: Sort { class, interval },
         is_set: false,
         broken: lower(own, parts),
@@ -101,15 +102,15 @@ pub(crate) fn one_value(
 pub(crate) fn some_values(
     sets: bool,
     is_set: bool,
-    own: Option<Rule>,
+    own: Option<TypeRule>,
     sort: Sort,
-    parts: Option<Rule>,
-) -> Judged
+    parts: Option<TypeRule>,
+) -> JudgedExpr
     ensures { result ≡ some_values sets is_set own sort parts }
 {
-    let own = lower(own, unless(sets || !is_set, Rule::SetHere));
+    let own = lower(own, unless(sets || !is_set, TypeRule::SetHere));
     let one = one_value(own, sort.class, sort.interval, parts);
-    Judged {
+    JudgedExpr {
         sort: one.sort,
         is_set,
         broken: one.broken,
@@ -127,7 +128,7 @@ fn found(interval: Option<Interval>) -> Exact
         },
         None => Exact {
             interval: None,
-            wide: Some(Rule::TooWide),
+            wide: Some(TypeRule::TooWide),
         },
     }
 }
@@ -154,7 +155,7 @@ pub fn joined(a: Option<Interval>, b: Option<Interval>) -> Option<Interval>
 
 /// A written number.
 #[tactic(auto, using(crate::proofs::RowLaws::found_fitting))]
-pub fn literal(n: i64) -> Judged
+pub fn literal(n: i64) -> JudgedExpr
     ensures { result ≡ row_literal n }
 {
     let exact = found(between(n, n));
@@ -162,22 +163,22 @@ pub fn literal(n: i64) -> Judged
 }
 
 /// The numbers from `lo` to `hi`, as a set.
-pub(crate) fn span(sets: bool, lo: i64, hi: i64) -> Judged
+pub(crate) fn span(sets: bool, lo: i64, hi: i64) -> JudgedExpr
     ensures { result ≡ row_span sets lo hi }
 {
-    let wide = unless(is_small(lo) && is_small(hi), Rule::TooWide);
+    let wide = unless(is_small(lo) && is_small(hi), TypeRule::TooWide);
     let interval = if lo <= hi { between(lo, hi) } else { None };
-    let own = lower(unless(lo <= hi, Rule::EmptyRange), wide);
+    let own = lower(unless(lo <= hi, TypeRule::EmptyRange), wide);
     let class = Class::Number;
     some_values(sets, true, own, Sort { class, interval }, None)
 }
 
 /// The numbers from `lo` to `hi`, each alone.
-pub(crate) fn range(lo: i64, hi: i64) -> Judged
+pub(crate) fn range(lo: i64, hi: i64) -> JudgedExpr
     ensures { result ≡ row_range lo hi }
 {
     let all = span(true, lo, hi);
-    Judged {
+    JudgedExpr {
         sort: all.sort,
         is_set: false,
         broken: all.broken,
@@ -185,21 +186,21 @@ pub(crate) fn range(lo: i64, hi: i64) -> Judged
 }
 
 /// `!a`.
-pub(crate) fn opposite(a: Judged) -> Judged
+pub(crate) fn opposite(a: JudgedExpr) -> JudgedExpr
     ensures { result ≡ row_not a }
 {
-    let own = class_rule(Class::Truth, Rule::NotBoolean, a.sort);
+    let own = class_rule(Class::Truth, TypeRule::NotBoolean, a.sort);
     one_value(own, Class::Truth, None, a.broken)
 }
 
 /// `-a`.
-pub fn negative(a: Judged) -> Judged
+pub fn negative(a: JudgedExpr) -> JudgedExpr
     ensures { result ≡ row_negative a }
 {
     let sort = a.sort;
     let exact = negative_found(sort.interval);
     let Exact { interval, wide } = exact;
-    let own = lower(class_rule(Class::Number, Rule::Mismatch, sort), wide);
+    let own = lower(class_rule(Class::Number, TypeRule::Mismatch, sort), wide);
     one_value(own, Class::Number, interval, a.broken)
 }
 
@@ -215,7 +216,7 @@ fn negative_found(a: Option<Interval>) -> Exact
 }
 
 /// An operator between two operands. `sets` says whether a set may stand here.
-pub fn operation(sets: bool, op: Op, a: Judged, b: Judged) -> Judged
+pub fn operation(sets: bool, op: Op, a: JudgedExpr, b: JudgedExpr) -> JudgedExpr
     ensures { result ≡ row_binary sets op a b }
 {
     match op {
@@ -228,47 +229,47 @@ pub fn operation(sets: bool, op: Op, a: Judged, b: Judged) -> Judged
 }
 
 /// Two truth values joined to one.
-fn connective(a: Judged, b: Judged) -> Judged
+fn connective(a: JudgedExpr, b: JudgedExpr) -> JudgedExpr
     ensures { result ≡ row_connective a b }
 {
     let own = lower(
-        class_rule(Class::Truth, Rule::NotBoolean, a.sort),
-        class_rule(Class::Truth, Rule::NotBoolean, b.sort),
+        class_rule(Class::Truth, TypeRule::NotBoolean, a.sort),
+        class_rule(Class::Truth, TypeRule::NotBoolean, b.sort),
     );
     one_value(own, Class::Truth, None, lower(a.broken, b.broken))
 }
 
 /// `=`, `!=` and `in`.
-fn same(a: Judged, b: Judged) -> Judged
+fn same(a: JudgedExpr, b: JudgedExpr) -> JudgedExpr
     ensures { result ≡ row_same a b }
 {
-    let own = class_rule(a.sort.class, Rule::Mismatch, b.sort);
+    let own = class_rule(a.sort.class, TypeRule::Mismatch, b.sort);
     one_value(own, Class::Truth, None, lower(a.broken, b.broken))
 }
 
 /// Two numbers compared.
-fn order(a: Judged, b: Judged) -> Judged
+fn order(a: JudgedExpr, b: JudgedExpr) -> JudgedExpr
     ensures { result ≡ row_order a b }
 {
     let own = lower(
-        class_rule(Class::Number, Rule::Mismatch, a.sort),
-        class_rule(Class::Number, Rule::Mismatch, b.sort),
+        class_rule(Class::Number, TypeRule::Mismatch, a.sort),
+        class_rule(Class::Number, TypeRule::Mismatch, b.sort),
     );
     one_value(own, Class::Truth, None, lower(a.broken, b.broken))
 }
 
 /// `+`, `-`, `*`, `/` and `mod`. A missing interval breaks no rule.
-fn number(op: Op, a: Judged, b: Judged) -> Judged
+fn number(op: Op, a: JudgedExpr, b: JudgedExpr) -> JudgedExpr
     ensures { result ≡ row_number op a b }
 {
     let (left, right) = (a.sort, b.sort);
     let exact = made_by(op, left.interval, right.interval);
-    let zero = unless(!is_divided(op, right.interval), Rule::MayDivideByZero);
+    let zero = unless(!is_divided(op, right.interval), TypeRule::MayDivideByZero);
     let Exact { interval, wide } = exact;
     let own = lower(
-        class_rule(Class::Number, Rule::Mismatch, left),
+        class_rule(Class::Number, TypeRule::Mismatch, left),
         lower(
-            class_rule(Class::Number, Rule::Mismatch, right),
+            class_rule(Class::Number, TypeRule::Mismatch, right),
             lower(zero, wide),
         ),
     );
@@ -311,10 +312,10 @@ fn made_by_two(op: Op, a: Interval, b: Interval) -> Exact
 }
 
 /// The union of two values or sets of one class.
-fn union(sets: bool, a: Judged, b: Judged) -> Judged
+fn union(sets: bool, a: JudgedExpr, b: JudgedExpr) -> JudgedExpr
     ensures { result ≡ row_union sets a b }
 {
-    let own = class_rule(a.sort.class, Rule::Mismatch, b.sort);
+    let own = class_rule(a.sort.class, TypeRule::Mismatch, b.sort);
     let class = a.sort.class;
     let interval = joined(a.sort.interval, b.sort.interval);
     some_values(
@@ -327,12 +328,12 @@ fn union(sets: bool, a: Judged, b: Judged) -> Judged
 }
 
 /// `c ? a : b`.
-pub(crate) fn choice(sets: bool, c: Judged, a: Judged, b: Judged) -> Judged
+pub(crate) fn choice(sets: bool, c: JudgedExpr, a: JudgedExpr, b: JudgedExpr) -> JudgedExpr
     ensures { result ≡ row_choice sets c a b }
 {
     let own = lower(
-        class_rule(Class::Truth, Rule::NotBoolean, c.sort),
-        class_rule(a.sort.class, Rule::Mismatch, b.sort),
+        class_rule(Class::Truth, TypeRule::NotBoolean, c.sort),
+        class_rule(a.sort.class, TypeRule::Mismatch, b.sort),
     );
     let class = a.sort.class;
     let interval = joined(a.sort.interval, b.sort.interval);
@@ -347,11 +348,11 @@ pub(crate) fn choice(sets: bool, c: Judged, a: Judged, b: Judged) -> Judged
 }
 
 /// The first rule that an expression breaks as a condition, which is TRUE or FALSE.
-pub(crate) fn broken_condition(judged: Judged) -> Option<Rule>
+pub(crate) fn broken_condition(judged: JudgedExpr) -> Option<TypeRule>
     ensures { result ≡ lower (class_rule Truth NotBoolean judged.sort) judged.broken }
 {
     lower(
-        class_rule(Class::Truth, Rule::NotBoolean, judged.sort),
+        class_rule(Class::Truth, TypeRule::NotBoolean, judged.sort),
         judged.broken,
     )
 }

@@ -1,12 +1,11 @@
 //! Models that break no rule. [`check_model`] is the main function: a [`Typed`] model, or the first rule that is broken.
 //! The fields of a typed model are private and their ghost fields say what holds of it, so whoever has one knows that.
-
 ghost use Rattle.std.specs.Prelude.{◌≡◌, ◌<◌, ◌≤◌, map, length, slice_get, Some, IfOk, IfErr};
 ghost use Rattle.smv_language.specs.ModelTree.{model_tree, leaf_of};
 ghost use Rattle.smv_type_laws.specs.Costs.{model_cost, state_bits};
 ghost use Rattle.smv_type_laws.specs.Models.{IsTyped, kind_of_leaf};
 ghost use Rattle.smv_types.specs.Answers.{told_sort};
-ghost use Rattle.smv_types.specs.Kept.{AreKindsOf};
+ghost use Rattle.smv_types.specs.KeptKinds.{AreKindsOf};
 ghost use Rattle.smv_types.specs.Types.{variable_domain, AreValuesOf};
 ghost use Rattle.smv_types.specs.Faults.{IsToldOf};
 
@@ -14,7 +13,7 @@ use crate::cost::model_cost;
 use crate::fault::TypeFault;
 use crate::judge::{Sorts, name_sort};
 use crate::sort::Sort;
-use crate::whole::{Found, fault_of, find_all};
+use crate::whole::{ModelFindings, fault_of, find_all};
 use base_values::Domain;
 use smv_language::model::{Flat, FlatModel};
 use std::alloc::Global;
@@ -104,7 +103,7 @@ pub fn check_model(alloc: Global, m: FlatModel) -> Result<Typed, TypeFault>
     if let Some(fault) = fault_of(found.first, cost, found.bits) {
         return Err(fault);
     }
-    let Found {
+    let ModelFindings {
         domains,
         sorts,
         first: _,

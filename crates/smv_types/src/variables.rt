@@ -1,14 +1,13 @@
 //! The variables of a model: their domains, what is known of their values, their state bits, and the first rule that a
 //! declaration breaks ([`declare_all`]).
-
 ghost use Rattle.std.specs.Prelude.{◌≡◌, ◌+◌, [], ◌∷◌, ◌++◌, min, map, IfOk};
 ghost use Rattle.smv_language.specs.ProgramTree.{declared_tree};
 ghost use Rattle.smv_language.specs.ModelTree.{model_tree, variable_tree};
-ghost use Rattle.smv_type_laws.specs.Declared.{judged_declared};
+ghost use Rattle.smv_type_laws.specs.DeclaredKinds.{judged_declared};
 ghost use Rattle.smv_type_laws.specs.FirstBreach.{first_of};
 ghost use Rattle.smv_type_laws.specs.Models.{judged_variables, variable_breaches};
 ghost use Rattle.smv_types.specs.Answers.{told_rules};
-ghost use Rattle.smv_types.specs.Kept.{kept_sort, kept_sorts};
+ghost use Rattle.smv_types.specs.KeptKinds.{kept_sort, kept_sorts};
 ghost use Rattle.smv_types.specs.Sites.{told_first_site, earlier_site, site_at};
 ghost use Rattle.smv_types.specs.Sizes.{variable_bits, variables_bits};
 ghost use Rattle.smv_types.specs.Types.{variable_domain};
@@ -75,7 +74,8 @@ fn add_variable(
     variable: &Variable,
 ) -> Result<Declarations, OutOfMemory>
     ensures domains { IfOk result (λ d. d.domains.items ≡ before.domains.items ++ variable_domain numbers.now.texts.now variable.now ∷ []) }
-    ensures kinds { IfOk result (λ d. d.sorts.items ≡ before.sorts.items ++ kept_sort (judged_declared (declared_tree variable.now.declared)) ∷ []) }
+    ensures kinds { IfOk result (λ d. d.sorts.items
+        ≡ before.sorts.items ++ kept_sort (judged_declared (declared_tree variable.now.declared)) ∷ []) }
     ensures first { IfOk result (λ d. d.first ≡ earlier_site before.first
         (site_at variable.now.«instance» variable.now.item (told_rules (judged_declared (declared_tree variable.now.declared)).broken))) }
     ensures bits { IfOk result (λ d. d.bits ≡ min (before.bits + variable_bits numbers.now.texts.now variable.now) 50001) }

@@ -1,19 +1,18 @@
 //! All that is known of a model ([`find_all`]), and the first rule that it breaks ([`fault_of`]): the earliest of its
 //! variables, definitions and formulas, and the limits of size last.
-
 ghost use Rattle.std.specs.Prelude.{◌≡◌, ◌||◌, min, nat_lt, map, IfOk};
 ghost use Rattle.smv_language.specs.ModelTree.{model_tree};
 ghost use Rattle.smv_type_laws.specs.Costs.{state_bits};
 ghost use Rattle.smv_type_laws.specs.FirstBreach.{first_of};
 ghost use Rattle.smv_type_laws.specs.Models.{judged_definitions, variable_breaches, definition_breaches, breaches};
-ghost use Rattle.smv_types.specs.Kept.{AreKindsOf};
+ghost use Rattle.smv_types.specs.KeptKinds.{AreKindsOf};
 ghost use Rattle.smv_types.specs.Sites.{told_first_site, fault_by};
 ghost use Rattle.smv_types.specs.Types.{variable_domain};
 
 use crate::conditions::judge_conditions;
 use crate::cost::COST_LIMIT;
-use crate::definitions::{Defined, judge_definitions};
-use crate::fault::{Rule, TypeFault};
+use crate::definitions::{JudgedDefinitions, judge_definitions};
+use crate::fault::{TypeFault, TypeRule};
 use crate::judge::Sorts;
 use crate::site::{Site, earlier};
 use crate::variables::{Declarations, declare_all};
@@ -28,7 +27,7 @@ const BITS_LIMIT: u64 = 4096;
 /// rule that an item breaks, and the state bits, where one more than the limit of costs stands for every
 /// greater number.
 #[derive(Drop)]
-pub(crate) struct Found {
+pub(crate) struct ModelFindings {
     pub domains: Vec<Domain>,
     pub sorts: Sorts,
     pub first: Option<Site>,
@@ -36,7 +35,7 @@ pub(crate) struct Found {
 }
 
 /// What is found in a model.
-pub(crate) fn find_all(alloc: Global, m: &FlatModel) -> Result<Found, OutOfMemory>
+pub(crate) fn find_all(alloc: Global, m: &FlatModel) -> Result<ModelFindings, OutOfMemory>
     ensures domains { IfOk result (λ f. f.domains.items ≡ map (variable_domain m.now.symbols) m.now.variables) }
     ensures kinds { IfOk result (λ f. AreKindsOf (model_tree m.now) f.sorts) }
     ensures first { IfOk result (λ f. f.first ≡ told_first_site (first_of (breaches (model_tree m.now)))) }
@@ -50,8 +49,8 @@ pub(crate) fn find_all(alloc: Global, m: &FlatModel) -> Result<Found, OutOfMemor
     } = declare_all(alloc, m)?;
     let defined = judge_definitions(alloc, m, sorts)?;
     let first = first_in_all(m, &defined.sorts, first, defined.first);
-    let Defined { sorts, first: _ } = defined;
-    Ok(Found {
+    let JudgedDefinitions { sorts, first: _ } = defined;
+    Ok(ModelFindings {
         domains,
         sorts,
         first,
@@ -87,7 +86,7 @@ pub(crate) fn fault_of(first: Option<Site>, cost: u64, bits: u64) -> Option<Type
             item: site.item,
         }),
         None if cost > COST_LIMIT || bits > BITS_LIMIT => Some(TypeFault {
-            rule: Rule::TooLarge,
+            rule: TypeRule::TooLarge,
             item: 0,
         }),
         None => None,

@@ -1,15 +1,16 @@
 //! The text of certificates: texts that are read are written as the same bytes, and others are refused at their line.
-
 use cert_text::{CertFault, read, write};
 use std::alloc::Global;
 use std::rt::HostRuntime;
 use std::test::Fail;
 
 const TINY: &[u8] =
-    b"xsap-certificate 2\nbits 1 faults 0 size 0\nsets 0\ninvariant 1\nclause -2\nfirst 1\nstep -2 : 1 6 4\nnext 1\nstep -3 : 6 4 7\nbad 1\nstep : 2 3\nend\n";
+    b"xsap-certificate 2\nbits 1 faults 0 size 0\nsets 0\ninvariant 1\nclause -2\nfirst 1\nstep -2 : 1 6 4\nnext 1\nstep -3 : 6 4 7\nbad \
+        1\nstep : 2 3\nend\n";
 
 const TRACED: &[u8] =
-    b"xsap-certificate 2\nbits 10 faults 3 size 2147483647\nsets 3\nset 1 2\ntrace 2\nmoment 0\n\xff x\x00\nset\ntrace 0\nset 3\ntrace 1\n\ninvariant 2\nclause\nclause 9223372036854775807 -1\nfirst 0\nnext 0\nbad 2\nstep :\nstep 1 -2 3 4 5 6 : 1\nend\n";
+    b"xsap-certificate 2\nbits 10 faults 3 size 2147483647\nsets 3\nset 1 2\ntrace 2\nmoment 0\n\xff x\x00\nset\ntrace 0\nset 3\ntrace 1\n\
+        \ninvariant 2\nclause\nclause 9223372036854775807 -1\nfirst 0\nnext 0\nbad 2\nstep :\nstep 1 -2 3 4 5 6 : 1\nend\n";
 
 /// Whether the text is read, and written as the same bytes.
 fn is_written_again(alloc: Global, bytes: &[u8]) -> Result<bool, Fail> {

@@ -9,7 +9,7 @@ use Rattle.smv_language.specs.ProgramTree.{Text, DeclaredTree, boolean, range, m
 use Rattle.smv_language.specs.Tree.{Tree, Trees, Branches, truth as a_truth, number as a_number, leaf, not_of, negate, next_of, binary, choice, case_of, set_of, span, no_tree, tree_then, no_branch, branch_then}
 use Rattle.smv_language.specs.Leaves.{tree_map, trees_map, branches_map}
 use Rattle.smv_language.specs.Laws.{AllLeaves, AllLeavesOfTrees, AllLeavesOfBranches}
-use Rattle.smv_language.specs.Written.{tree_of}
+use Rattle.smv_language.specs.ExpressionTree.{tree_of}
 use Rattle.smv_language.specs.Trace.{Each, in_domain}
 use Rattle.smv_language.specs.Values as told
 use Rattle.smv_language.specs.declared.expr.Expr.{Expr}
@@ -23,10 +23,10 @@ use Rattle.smv_language.specs.declared.model.Flat.TheVariants.{Var, Symbol, Defi
 use Rattle.smv_language.specs.declared.model.Variable.{Variable}
 use Rattle.smv_language.specs.declared.model.Formula.{Formula}
 use Rattle.smv_language.specs.declared.model.FlatModel.{FlatModel}
-use Rattle.smv_scope.specs.Closed.{is_within, tree_all, trees_all, branches_all, is_closed, bounds_of}
+use Rattle.smv_scope.specs.ClosedModels.{is_within, tree_all, trees_all, branches_all, is_closed, bounds_of}
 use Rattle.smv_language.specs.ModelTree.{leaf_of, role_of, flat_tree, variable_tree, formula_tree, model_tree}
 use Rattle.smv_language.specs.Flat.{FlatLeaf, flat_variable, flat_symbol, flat_definition}
-use Rattle.smv_flat_laws.specs.Resolved.{leaves_in}
+use Rattle.smv_flat_laws.specs.NameResolution.{leaves_in}
 use Rattle.smv_flat_laws.specs.FlatTrace.{AreInDomains}
 use Rattle.smv_type_laws.specs.Laws.{IsKnown, ReadsOwn}
 use Rattle.smv_type_laws.specs.Models.{judged_in, broken_condition}
@@ -36,11 +36,11 @@ use Rattle.sat_encoding_laws.specs.Meanings.{AreSymbols}
 use Rattle.sat_encoding_laws.specs.Encodable.{IsListedType, IsEncodable, IsFitTop}
 use Rattle.sat_encoding_laws.specs.Laws.{HasMember}
 use Rattle.sat_encoding_laws.proofs.TypeMeans.{symbol_found}
-use Rattle.smv_evaluation.specs.Named.{IsNumbered, IsLawful}
+use Rattle.smv_evaluation.specs.EvaluableModels.{IsNumbered, IsLawful}
 use Rattle.test_encoding.specs.Values.{IsKnownSymbol, HasAt}
 use Rattle.std.proofs.lemmas.Option.{slice_get_within as got_below}
 use Rattle.smv_language.proofs.BoolLaws.{left_true, right_true}
-use Rattle.smv_language.specs.Told.{told_moment, told_value}
+use Rattle.smv_language.specs.NumberedValues.{told_moment, told_value}
 
 -- Types that have members.
 members_by : (xs : List Variable) → AllByRecursion (λ x. HasMember (declared_tree x.declared)) xs → Each (λ x. HasMember x.declared) (map variable_tree xs)

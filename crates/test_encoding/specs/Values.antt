@@ -6,8 +6,8 @@ use Rattle.base_values.specs.declared.value.Value.{Value}
 use Rattle.base_values.specs.declared.value.Value.TheVariants.{Bool as truth, Num, Sym}
 use Rattle.smv_language.specs.declared.model.Variable.{Variable}
 use Rattle.smv_language.specs.declared.model.FlatModel.{FlatModel}
-use Rattle.smv_evaluation.specs.Named.{IsNumbered}
-use Rattle.smv_language.specs.Told.{told_value}
+use Rattle.smv_evaluation.specs.EvaluableModels.{IsNumbered}
+use Rattle.smv_language.specs.NumberedValues.{told_value}
 
 -- a value that is a symbol has one of so many numbers
 abbrev pub IsKnownSymbol : ℕ → Value → Type 0
@@ -17,5 +17,6 @@ IsKnownSymbol symbols (Sym i) = i < symbols
 
 -- the value is one of the model's variable of this number, and a symbol has the number of one
 pub record HasAt (m : FlatModel) (i : ℕ) (value : Value) : Type 0 where
-  pub domain : (x : Variable) → slice_get m.variables i ≡ Some x → IsTrue (in_domain (declared_tree x.declared) (told_value m.symbols value))
+  pub domain : (x : Variable) → slice_get m.variables i ≡ Some x →
+      IsTrue (in_domain (declared_tree x.declared) (told_value m.symbols value))
   pub numbered : IsNumbered m.symbols value

@@ -1,13 +1,13 @@
 //! The lists of bad states over all patterns of bits, and the lists of one model that were worked out by hand.
 ghost use Rattle.std.specs.Prelude.{◌≡◌, ◌↔◌, false, true, IsTrue, IfOk, All, length};
-ghost use Rattle.smv_scope.specs.Closed.{is_closed, bounds_of};
+ghost use Rattle.smv_scope.specs.ClosedModels.{is_closed, bounds_of};
 ghost use Rattle.smv_language.specs.ModelTree.{model_tree, flat_tree, role_of};
 ghost use Rattle.sat_encoding_laws.specs.Inputs.{is_input};
 ghost use Rattle.sat_encoding_laws.specs.Encodable.{IsEncodable, IsFitTop};
-ghost use Rattle.smv_evaluation.specs.Named.{IsEvaluable};
+ghost use Rattle.smv_evaluation.specs.EvaluableModels.{IsEvaluable};
 
 use crate::clauses::{holds_in, is_list_of};
-use crate::models::{Bits, Place, is_first, model_of, program_of, typed_of};
+use crate::models::{Bits, BitsPlace, is_first, model_of, program_of, typed_of};
 use base_values::{Dotted, FaultSet, OutOfMemory, SetList};
 use sat_clauses::clause::ClauseList;
 use sat_encoding::{bad_clauses, encode};
@@ -28,17 +28,17 @@ const SWITCHES: &[u8] =
 const BITS: u32 = 5;
 
 /// How these lie.
-const PLACES: &[Place] = &[
-    Place::Plain(4),
-    Place::Plain(2),
-    Place::Plain(2),
-    Place::Plain(2),
+const PLACES: &[BitsPlace] = &[
+    BitsPlace::Plain(4),
+    BitsPlace::Plain(2),
+    BitsPlace::Plain(2),
+    BitsPlace::Plain(2),
 ];
 
 /// A top event, the sets that are listed, each with a 0 after it, how many of the last bits are history and how many
 /// faults may have failed; and how many states are bad.
 #[derive(Clone, Copy)]
-struct Question<'a> {
+struct BadQuestion<'a> {
     top: &'a [u8],
     listed: &'a [u32],
     faults: u32,
@@ -153,7 +153,7 @@ fn has_failed(state: u32, faults: u32, number: u32) -> bool {
 }
 
 /// Whether all faults of some listed set have.
-fn has_failed_some(state: u32, q: &Question<'_>) -> bool {
+fn has_failed_some(state: u32, q: &BadQuestion<'_>) -> bool {
     let mut whole = true;
     for number in q.listed {
         if *number > 0 {
@@ -178,7 +178,7 @@ fn failed_in(state: u32, faults: u32) -> u32 {
 }
 
 /// Whether a state is within the size, and has failed none of the listed sets whole.
-fn is_open(state: u32, q: &Question<'_>) -> bool {
+fn is_open(state: u32, q: &BadQuestion<'_>) -> bool {
     failed_in(state, q.faults) <= q.size && !has_failed_some(state, q)
 }
 
@@ -187,7 +187,7 @@ fn is_open(state: u32, q: &Question<'_>) -> bool {
 fn has_bad_states(
     alloc: Global,
     event: &Typed,
-    q: &Question<'_>,
+    q: &BadQuestion<'_>,
     list: &ClauseList,
 ) -> Result<bool, OutOfMemory>
     requires encodable { IsEncodable (model_tree event.now.model) }
@@ -212,7 +212,7 @@ fn has_list(
     t: &Typed,
     event: &Typed,
     top: &Expr<Flat>,
-    q: &Question<'_>,
+    q: &BadQuestion<'_>,
 ) -> Result<bool, OutOfMemory>
     requires encodable { IsEncodable (model_tree t.now.model) }
     requires top { IsFitTop (model_tree t.now.model) (flat_tree top.now) }
@@ -228,7 +228,7 @@ fn has_list(
 }
 
 /// Whether the model of a question, with its top event, does.
-fn is_right(rt: &impl Abort, alloc: Global, q: &Question<'_>) -> Result<bool, Fail> {
+fn is_right(rt: &impl Abort, alloc: Global, q: &BadQuestion<'_>) -> Result<bool, Fail> {
     let p = program_of(rt, alloc, &[SWITCHES])?;
     let t = typed_of(rt, alloc, &p)?;
     let top = top_of(rt, alloc, &p, &t, q.top)?;
@@ -241,7 +241,7 @@ fn is_right(rt: &impl Abort, alloc: Global, q: &Question<'_>) -> Result<bool, Fa
 fn first_wrong(
     rt: &impl Abort,
     alloc: Global,
-    questions: &[Question<'_>],
+    questions: &[BadQuestion<'_>],
 ) -> Result<Option<usize>, Fail> {
     for (i, q) in questions.iter().enumerate() {
         if !is_right(rt, alloc, q)? {
@@ -251,30 +251,30 @@ fn first_wrong(
     Ok(None)
 }
 
-const QUESTIONS: &[Question<'static>] = &[
+const QUESTIONS: &[BadQuestion<'static>] = &[
     // as many as there are: nothing is asked
-    Question {
+    BadQuestion {
         top: b"x = 2 | a & c",
         listed: &[],
         faults: 3,
         size: 3,
         count: 10,
     },
-    Question {
+    BadQuestion {
         top: b"x = 2 | a & c",
         listed: &[],
         faults: 3,
         size: 2,
         count: 7,
     },
-    Question {
+    BadQuestion {
         top: b"x = 2 | a & c",
         listed: &[],
         faults: 3,
         size: 1,
         count: 2,
     },
-    Question {
+    BadQuestion {
         top: b"x = 2 | a & c",
         listed: &[],
         faults: 3,
@@ -282,14 +282,14 @@ const QUESTIONS: &[Question<'static>] = &[
         count: 0,
     },
     // the sets of one fault and of two
-    Question {
+    BadQuestion {
         top: b"x = 2 | a & c",
         listed: &[1, 0],
         faults: 3,
         size: 3,
         count: 2,
     },
-    Question {
+    BadQuestion {
         top: b"x = 2 | a & c",
         listed: &[1, 3, 0, 2, 0],
         faults: 3,
@@ -297,7 +297,7 @@ const QUESTIONS: &[Question<'static>] = &[
         count: 1,
     },
     // the empty set has failed whole in every state
-    Question {
+    BadQuestion {
         top: b"x = 2 | a & c",
         listed: &[0],
         faults: 3,
@@ -305,7 +305,7 @@ const QUESTIONS: &[Question<'static>] = &[
         count: 0,
     },
     // the last two bits alone are history
-    Question {
+    BadQuestion {
         top: b"x > 0",
         listed: &[1, 2, 0],
         faults: 2,
@@ -313,7 +313,7 @@ const QUESTIONS: &[Question<'static>] = &[
         count: 8,
     },
     // no history
-    Question {
+    BadQuestion {
         top: b"TRUE",
         listed: &[],
         faults: 0,

@@ -6,7 +6,7 @@ ghost use Rattle.smv_flat_laws.specs.Model.{IsFlatOf};
 ghost use Rattle.smv_language.specs.ModelTree.{model_tree};
 ghost use Rattle.sat_encoding_laws.specs.Encodable.{IsEncodable};
 ghost use Rattle.sat_encoding_laws.specs.Laws.{HasMember};
-ghost use Rattle.smv_evaluation.specs.Named.{IsEvaluable, IsLawful, IsFilled};
+ghost use Rattle.smv_evaluation.specs.EvaluableModels.{IsEvaluable, IsLawful, IsFilled};
 ghost use Rattle.test_encoding.specs.Values.{HasAt, IsKnownSymbol};
 
 use base_values::{Domain, OutOfMemory, Valuation, Value};
@@ -23,7 +23,7 @@ use std::test::Fail;
 /// The bits of a variable, by how many patterns they have: of a state variable, of one whose last bit is a sign, or of an
 /// input.
 #[derive(Clone, Copy)]
-pub enum Place {
+pub enum BitsPlace {
     Plain(u32),
     Signed(u32),
     Input(u32),
@@ -127,24 +127,25 @@ impl Bits {
     }
 
     /// Takes the lowest bits, which are those of the next variable, as a number without a sign.
-    fn take(&mut self, place: Place) -> u32 {
+    fn take(&mut self, place: BitsPlace) -> u32 {
         match place {
-            Place::Plain(patterns) | Place::Signed(patterns) => self.take_state(patterns),
-            Place::Input(patterns) => self.take_inputs(patterns),
+            BitsPlace::Plain(patterns) | BitsPlace::Signed(patterns) => self.take_state(patterns),
+            BitsPlace::Input(patterns) => self.take_inputs(patterns),
         }
     }
 }
 
 /// The number of bits in two's complement, where the last is a sign.
-fn number_of(place: Place, bits: u32) -> i64 {
+fn number_of(place: BitsPlace, bits: u32) -> i64 {
     match place {
-        Place::Signed(patterns) if bits >= patterns / 2 => i64::from(bits) - i64::from(patterns),
+        BitsPlace::Signed(patterns) if bits >= patterns / 2 => i64::from(bits)
+            - i64::from(patterns),
         _ => i64::from(bits),
     }
 }
 
 /// The value of such bits: FALSE is 0, and a symbol has its number.
-fn value_of(domain: &Domain, place: Place, bits: u32) -> Value {
+fn value_of(domain: &Domain, place: BitsPlace, bits: u32) -> Value {
     match domain {
         Domain::Boolean => Value::Bool(bits != 0),
         Domain::Symbols(_) => Value::Sym(bits),
@@ -153,7 +154,7 @@ fn value_of(domain: &Domain, place: Place, bits: u32) -> Value {
 }
 
 /// The value of a variable that has these bits, or FALSE where no variable has this number.
-fn value_at(t: &Typed, i: usize, place: Place, bits: u32) -> Value {
+fn value_at(t: &Typed, i: usize, place: BitsPlace, bits: u32) -> Value {
     if i < t.model().variables.len() {
         value_of(t.domain(i), place, bits)
     } else {
@@ -165,7 +166,7 @@ fn value_at(t: &Typed, i: usize, place: Place, bits: u32) -> Value {
 fn moment_of(
     alloc: Global,
     t: &Typed,
-    places: &[Place],
+    places: &[BitsPlace],
     bits: Bits,
 ) -> Result<Valuation, OutOfMemory> {
     let mut left = bits;
@@ -230,7 +231,7 @@ fn table_of(alloc: Global, t: &Typed, v: &Valuation) -> Result<Option<Table>, Ou
 fn table_at(
     alloc: Global,
     t: &Typed,
-    places: &[Place],
+    places: &[BitsPlace],
     bits: Bits,
 ) -> Result<Option<Table>, OutOfMemory>
     requires encodable { IsEncodable (model_tree t.now.model) }
@@ -242,7 +243,12 @@ fn table_at(
 }
 
 /// Whether the values of these bits are those of a first moment.
-pub fn is_first(alloc: Global, t: &Typed, places: &[Place], bits: Bits) -> Result<bool, OutOfMemory>
+pub fn is_first(
+    alloc: Global,
+    t: &Typed,
+    places: &[BitsPlace],
+    bits: Bits,
+) -> Result<bool, OutOfMemory>
     requires encodable { IsEncodable (model_tree t.now.model) }
     requires evaluable { IsEvaluable (model_tree t.now.model) }
 {
@@ -256,7 +262,7 @@ pub fn is_first(alloc: Global, t: &Typed, places: &[Place], bits: Bits) -> Resul
 pub fn is_step(
     alloc: Global,
     t: &Typed,
-    places: &[Place],
+    places: &[BitsPlace],
     from: Bits,
     to: Bits,
 ) -> Result<bool, OutOfMemory>

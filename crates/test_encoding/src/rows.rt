@@ -1,10 +1,10 @@
 //! The lists of small models over all patterns of bits: states, first states and steps.
 ghost use Rattle.smv_language.specs.ModelTree.{model_tree};
 ghost use Rattle.sat_encoding_laws.specs.Encodable.{IsEncodable};
-ghost use Rattle.smv_evaluation.specs.Named.{IsEvaluable};
+ghost use Rattle.smv_evaluation.specs.EvaluableModels.{IsEvaluable};
 
 use crate::clauses::{can_be_true, holds_in, push_bits};
-use crate::models::{Bits, Place, is_first, is_step, model_of};
+use crate::models::{Bits, BitsPlace, is_first, is_step, model_of};
 use base_values::OutOfMemory;
 use sat_clauses::System;
 use sat_clauses::clause::ClauseList;
@@ -21,7 +21,7 @@ use std::test::Fail;
 struct Row<'a> {
     still: &'a [u8],
     moves: &'a [u8],
-    places: &'a [Place],
+    places: &'a [BitsPlace],
     bits: u32,
     inputs: u32,
     counts: [u32; 3],
@@ -224,7 +224,11 @@ const TRUTHS_NUMBERS_SYMBOLS_AND_INPUTS: &[Row<'static>] = &[
     Row {
         still: b"MODULE main VAR a : boolean; b : boolean; c : boolean; INVAR a | b;",
         moves: b" INIT a xor b; INIT b <-> c; TRANS next(a) = (b & c | !a); TRANS next(b) <-> (c xnor a); TRANS next(c) -> a;",
-        places: &[Place::Plain(2), Place::Plain(2), Place::Plain(2)],
+        places: &[
+            BitsPlace::Plain(2),
+            BitsPlace::Plain(2),
+            BitsPlace::Plain(2),
+        ],
         bits: 3,
         inputs: 0,
         counts: [6, 2, 6],
@@ -233,7 +237,7 @@ const TRUTHS_NUMBERS_SYMBOLS_AND_INPUTS: &[Row<'static>] = &[
     Row {
         still: b"MODULE main VAR x : -3..2;",
         moves: b" ASSIGN init(x) := -3..-1; next(x) := x < 2 ? x + 1 : -x;",
-        places: &[Place::Signed(8)],
+        places: &[BitsPlace::Signed(8)],
         bits: 3,
         inputs: 0,
         counts: [6, 3, 6],
@@ -241,8 +245,9 @@ const TRUTHS_NUMBERS_SYMBOLS_AND_INPUTS: &[Row<'static>] = &[
     // symbols, of which the second type has the numbers 3 and 4
     Row {
         still: b"MODULE main VAR m : {red, amber, green}; lamp : {off, on};",
-        moves: b" ASSIGN init(m) := red; next(m) := case m = red : {red, green}; m = green : amber; TRUE : red; esac; next(lamp) := m = green ? on : off;",
-        places: &[Place::Plain(4), Place::Plain(8)],
+        moves: b" ASSIGN init(m) := red; next(m) := case m = red : {red, green}; m = green : amber; TRUE : red; esac; next(lamp) := m = \
+            green ? on : off;",
+        places: &[BitsPlace::Plain(4), BitsPlace::Plain(8)],
         bits: 5,
         inputs: 0,
         counts: [6, 2, 8],
@@ -251,7 +256,7 @@ const TRUTHS_NUMBERS_SYMBOLS_AND_INPUTS: &[Row<'static>] = &[
     Row {
         still: b"MODULE main IVAR k : 0..2; VAR x : 0..3;",
         moves: b" ASSIGN init(x) := 0; next(x) := k = 2 ? x : (x + k) mod 4;",
-        places: &[Place::Input(4), Place::Plain(4)],
+        places: &[BitsPlace::Input(4), BitsPlace::Plain(4)],
         bits: 2,
         inputs: 2,
         counts: [4, 1, 12],
@@ -270,7 +275,11 @@ const DEFINITIONS_CASES_AND_QUOTIENTS: &[Row<'static>] = &[
     Row {
         still: b"MODULE main VAR n : 0..3; a : boolean; IVAR i : boolean; DEFINE both := a & i; low := n < 2; INVAR low | a;",
         moves: b" INIT low; TRANS next(n) = (both ? 3 : n); TRANS next(low) | i;",
-        places: &[Place::Plain(4), Place::Plain(2), Place::Input(2)],
+        places: &[
+            BitsPlace::Plain(4),
+            BitsPlace::Plain(2),
+            BitsPlace::Input(2),
+        ],
         bits: 3,
         inputs: 1,
         counts: [6, 4, 16],
@@ -278,8 +287,9 @@ const DEFINITIONS_CASES_AND_QUOTIENTS: &[Row<'static>] = &[
     // cases
     Row {
         still: b"MODULE main VAR s : {idle, busy, done}; t : 0..3; INVAR s != idle | t < 3;",
-        moves: b" INIT s = idle & t = 0; TRANS next(s) in case s = idle : {idle, busy}; t = 3 : done; s = busy : busy; TRUE : idle; esac; TRANS next(t) = case s = busy : t < 3 ? t + 1 : 3; TRUE : 0; esac;",
-        places: &[Place::Plain(4), Place::Plain(4)],
+        moves: b" INIT s = idle & t = 0; TRANS next(s) in case s = idle : {idle, busy}; t = 3 : done; s = busy : busy; TRUE : idle; esac; \
+            TRANS next(t) = case s = busy : t < 3 ? t + 1 : 3; TRUE : 0; esac;",
+        places: &[BitsPlace::Plain(4), BitsPlace::Plain(4)],
         bits: 4,
         inputs: 0,
         counts: [11, 1, 14],
@@ -288,7 +298,7 @@ const DEFINITIONS_CASES_AND_QUOTIENTS: &[Row<'static>] = &[
     Row {
         still: b"MODULE main VAR x : -4..3; y : -2..1;",
         moves: b" INIT x / -2 = y; TRANS next(x) = x mod (y - 2) + y / 2; TRANS next(y) = (-(x / 3) - 1) mod 2;",
-        places: &[Place::Signed(8), Place::Signed(4)],
+        places: &[BitsPlace::Signed(8), BitsPlace::Signed(4)],
         bits: 5,
         inputs: 0,
         counts: [32, 7, 32],
@@ -307,7 +317,7 @@ const SUMS_AND_SETS: &[Row<'static>] = &[
     Row {
         still: b"MODULE main VAR x : 0..5; y : 0..3; INVAR x + y <= 7 & x * y != 6;",
         moves: b" INIT x - y >= 2 & x * y > 2; TRANS next(x) - x >= y - 2 & next(y) * 2 < x + 1 & -next(x) <= y - 4;",
-        places: &[Place::Plain(8), Place::Plain(4)],
+        places: &[BitsPlace::Plain(8), BitsPlace::Plain(4)],
         bits: 5,
         inputs: 0,
         counts: [21, 5, 97],
@@ -316,7 +326,7 @@ const SUMS_AND_SETS: &[Row<'static>] = &[
     Row {
         still: b"MODULE main VAR x : {1, 4, 6}; y : 0..3; INVAR x + y in (2 union 4..7);",
         moves: b" INIT y in {0, 2, 3} & !(x in {4}); TRANS next(y) in (y union x - 4); TRANS next(x) in (y < 2 ? {1, 4} : {6});",
-        places: &[Place::Plain(8), Place::Plain(4)],
+        places: &[BitsPlace::Plain(8), BitsPlace::Plain(4)],
         bits: 5,
         inputs: 0,
         counts: [8, 2, 13],
@@ -335,7 +345,7 @@ const FROZEN_VARIABLES_AND_COUNTERS: &[Row<'static>] = &[
     Row {
         still: b"MODULE main FROZENVAR f : boolean; VAR x : 0..2;",
         moves: b" INIT x = 1; INIT x = 2; TRANS next(x) = 2 | f;",
-        places: &[Place::Plain(2), Place::Plain(4)],
+        places: &[BitsPlace::Plain(2), BitsPlace::Plain(4)],
         bits: 3,
         inputs: 0,
         counts: [6, 0, 12],
@@ -344,7 +354,7 @@ const FROZEN_VARIABLES_AND_COUNTERS: &[Row<'static>] = &[
     Row {
         still: b"MODULE main VAR c : 0..7;",
         moves: b" ASSIGN init(c) := 0; next(c) := case c = 5 : 0; TRUE : c + 1; esac;",
-        places: &[Place::Plain(8)],
+        places: &[BitsPlace::Plain(8)],
         bits: 3,
         inputs: 0,
         counts: [8, 1, 7],

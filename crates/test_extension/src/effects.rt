@@ -8,14 +8,14 @@ use std::alloc::Global;
 
 /// The variable `x`, the slice `S` and its mode `m`.
 #[derive(Drop)]
-struct Names {
+struct EffectNames {
     x: Name,
     slice: Name,
     mode: Name,
 }
 
-fn made_names(alloc: Global) -> Result<Names, OutOfMemory> {
-    Ok(Names {
+fn made_names(alloc: Global) -> Result<EffectNames, OutOfMemory> {
+    Ok(EffectNames {
         x: Name::new(alloc, b"x")?,
         slice: Name::new(alloc, b"S")?,
         mode: Name::new(alloc, b"m")?,
@@ -64,7 +64,7 @@ fn offsets_ramps_and_frozen_values_have_their_texts(rt: HostRuntime) {
 
 /// An effect that is judged, as plain data.
 #[derive(Clone, Copy)]
-enum Judged {
+enum JudgedEffect {
     Erroneous,
     StuckAtNumber(i64),
     StuckAtTruth(bool),
@@ -73,14 +73,14 @@ enum Judged {
     Frozen,
 }
 
-fn effect_of(judged: Judged) -> Effect {
+fn effect_of(judged: JudgedEffect) -> Effect {
     match judged {
-        Judged::Erroneous => Effect::Erroneous,
-        Judged::StuckAtNumber(n) => Effect::StuckAt(Constant::Number(n)),
-        Judged::StuckAtTruth(b) => Effect::StuckAt(Constant::Truth(b)),
-        Judged::RampDown(step, floor) => Effect::RampDown(step, floor),
-        Judged::Offset(distance) => Effect::Offset(distance),
-        Judged::Frozen => Effect::Frozen,
+        JudgedEffect::Erroneous => Effect::Erroneous,
+        JudgedEffect::StuckAtNumber(n) => Effect::StuckAt(Constant::Number(n)),
+        JudgedEffect::StuckAtTruth(b) => Effect::StuckAt(Constant::Truth(b)),
+        JudgedEffect::RampDown(step, floor) => Effect::RampDown(step, floor),
+        JudgedEffect::Offset(distance) => Effect::Offset(distance),
+        JudgedEffect::Frozen => Effect::Frozen,
     }
 }
 
@@ -93,23 +93,31 @@ fn declared_of(range: Option<(i64, i64)>) -> Declared {
 }
 
 /// An effect, the range of the type that it is to stand at, and its fault where it has one.
-type Row = (Judged, Option<(i64, i64)>, Option<EffectFault>);
+type Row = (JudgedEffect, Option<(i64, i64)>, Option<EffectFault>);
 
 static ROWS: [Row; 7] = [
-    (Judged::Erroneous, Some((3, 3)), Some(OneValueOnly)),
-    (Judged::StuckAtNumber(4), Some((0, 3)), Some(Outside)),
-    (Judged::StuckAtTruth(true), Some((0, 3)), Some(WrongKind)),
-    (Judged::RampDown(0, 0), Some((0, 3)), Some(Outside)),
-    (Judged::Offset(2_147_483_647), Some((1, 2)), Some(Outside)),
+    (JudgedEffect::Erroneous, Some((3, 3)), Some(OneValueOnly)),
+    (JudgedEffect::StuckAtNumber(4), Some((0, 3)), Some(Outside)),
     (
-        Judged::RampDown(2_147_483_648, 2_147_483_647),
+        JudgedEffect::StuckAtTruth(true),
+        Some((0, 3)),
+        Some(WrongKind),
+    ),
+    (JudgedEffect::RampDown(0, 0), Some((0, 3)), Some(Outside)),
+    (
+        JudgedEffect::Offset(2_147_483_647),
+        Some((1, 2)),
+        Some(Outside),
+    ),
+    (
+        JudgedEffect::RampDown(2_147_483_648, 2_147_483_647),
         Some((2_147_483_647, 2_147_483_647)),
         Some(Outside),
     ),
-    (Judged::Frozen, None, None),
+    (JudgedEffect::Frozen, None, None),
 ];
 
-fn refusal(judged: Judged, range: Option<(i64, i64)>) -> Option<EffectFault> {
+fn refusal(judged: JudgedEffect, range: Option<(i64, i64)>) -> Option<EffectFault> {
     allowed(&effect_of(judged), &declared_of(range)).err()
 }
 

@@ -83,7 +83,8 @@ static CASES: [Case; 36] = [
         Some(ParseFault::Unexpected(72)),
     ),
     (
-        b"EXTENSION OF MODULE m SLICE s AFFECTS x WITH MODE d : Permanent StuckAt(red); SLICE t AFFECTS y WITH MODE d : Permanent StuckAtPick;",
+        b"EXTENSION OF MODULE m SLICE s AFFECTS x WITH MODE d : Permanent StuckAt(red); SLICE t AFFECTS y WITH MODE d : Permanent \
+            StuckAtPick;",
         None,
     ),
     (

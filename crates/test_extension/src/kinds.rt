@@ -65,9 +65,9 @@ fn types_and_formulas(rt: HostRuntime) {
 }
 
 /// An expression, its kind, whether it may stand as a value, and whether as a condition: 0, or the rule.
-type Single = (&'static [u8], Kind, u32, u32);
+type KindRow = (&'static [u8], Kind, u32, u32);
 
-static SINGLES: [Single; 5] = [
+static SINGLES: [KindRow; 5] = [
     (b"-7 / 2", Kind::Num(-3, -3), 0, 2),
     (b"-7 mod 2", Kind::Num(-1, 0), 0, 2),
     (b"x", Kind::Num(0, 3), 0, 2),
@@ -107,7 +107,7 @@ fn is_top(typed: &Typed, e: &Expr<Flat>, rule: u32) -> bool {
 }
 
 /// Whether an expression over the model of `x : 0..3` is judged as its row says.
-fn single_holds(alloc: Global, row: &Single) -> Option<bool> {
+fn single_holds(alloc: Global, row: &KindRow) -> Option<bool> {
     let program = program(alloc, b"0..3", b"TRUE")?;
     let typed = typed_of(alloc, &program)?;
     let e = over(alloc, &program, &typed, row.0)?;

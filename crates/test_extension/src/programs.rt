@@ -10,166 +10,194 @@ use std::test::Fail;
 
 /// What a text is read as.
 #[derive(Clone, Copy, Debug, PartialEq, Eq)]
-enum Kind {
+enum TextKind {
     Expression,
     List,
     Program,
 }
 
 /// A text, what it is read as, and its refusal where it has one.
-type Case = (Kind, &'static [u8], Option<ParseFault>);
+type Case = (TextKind, &'static [u8], Option<ParseFault>);
 
 static CASES: [Case; 56] = [
-    (Kind::Expression, b"a -> b -> c", None),
-    (Kind::Expression, b"a - b - c", None),
-    (Kind::Expression, b"!-1..3", None),
-    (Kind::Expression, b"!-1", Some(ParseFault::End(3))),
-    (Kind::Expression, b"!-x", Some(ParseFault::Unexpected(2))),
+    (TextKind::Expression, b"a -> b -> c", None),
+    (TextKind::Expression, b"a - b - c", None),
+    (TextKind::Expression, b"!-1..3", None),
+    (TextKind::Expression, b"!-1", Some(ParseFault::End(3))),
     (
-        Kind::Expression,
+        TextKind::Expression,
+        b"!-x",
+        Some(ParseFault::Unexpected(2)),
+    ),
+    (
+        TextKind::Expression,
         b"!-1 + 2",
         Some(ParseFault::Unexpected(4)),
     ),
-    (Kind::Expression, b"- -1..3", None),
+    (TextKind::Expression, b"- -1..3", None),
     (
-        Kind::Expression,
+        TextKind::Expression,
         b"1..3..5",
         Some(ParseFault::Unexpected(4)),
     ),
-    (Kind::Expression, b"1..", Some(ParseFault::End(3))),
-    (Kind::Expression, b"a ? b : c ? d : e", None),
-    (Kind::Expression, b"a ? b", Some(ParseFault::End(5))),
-    (Kind::Expression, b"a : b", Some(ParseFault::Unexpected(2))),
-    (Kind::Expression, b"case a : b; esac", None),
+    (TextKind::Expression, b"1..", Some(ParseFault::End(3))),
+    (TextKind::Expression, b"a ? b : c ? d : e", None),
+    (TextKind::Expression, b"a ? b", Some(ParseFault::End(5))),
     (
-        Kind::Expression,
+        TextKind::Expression,
+        b"a : b",
+        Some(ParseFault::Unexpected(2)),
+    ),
+    (TextKind::Expression, b"case a : b; esac", None),
+    (
+        TextKind::Expression,
         b"case esac",
         Some(ParseFault::Unexpected(5)),
     ),
     (
-        Kind::Expression,
+        TextKind::Expression,
         b"case a : b esac",
         Some(ParseFault::Unexpected(11)),
     ),
-    (Kind::Expression, b"{}", Some(ParseFault::Unexpected(1))),
-    (Kind::Expression, b"{a, 1..2} union b", None),
-    (Kind::Expression, b"next(a.b) in c", None),
-    (Kind::Expression, b"next a", Some(ParseFault::Unexpected(5))),
-    (Kind::Expression, b"a.self", Some(ParseFault::LeftOut(2))),
-    (Kind::Expression, b"FAIRNESS", Some(ParseFault::LeftOut(0))),
-    (Kind::Expression, b"init", Some(ParseFault::Unexpected(0))),
-    (Kind::Expression, b"(a", Some(ParseFault::End(2))),
-    (Kind::Expression, b"", Some(ParseFault::End(0))),
-    (Kind::List, b"a; b;", None),
-    (Kind::List, b"a;; b", Some(ParseFault::Unexpected(2))),
-    (Kind::List, b"", Some(ParseFault::End(0))),
-    (Kind::List, b"a;", None),
-    (Kind::List, b"a b", Some(ParseFault::Unexpected(2))),
-    (Kind::List, b"a; self", Some(ParseFault::LeftOut(3))),
-    (Kind::List, b"(a", Some(ParseFault::End(2))),
-    (Kind::Program, b"", None),
-    (Kind::Program, b"MODULE", Some(ParseFault::End(6))),
-    (Kind::Program, b"main", Some(ParseFault::Unexpected(0))),
-    (Kind::Program, b"MODULE main VAR x : boolean;", None),
+    (TextKind::Expression, b"{}", Some(ParseFault::Unexpected(1))),
+    (TextKind::Expression, b"{a, 1..2} union b", None),
+    (TextKind::Expression, b"next(a.b) in c", None),
     (
-        Kind::Program,
+        TextKind::Expression,
+        b"next a",
+        Some(ParseFault::Unexpected(5)),
+    ),
+    (
+        TextKind::Expression,
+        b"a.self",
+        Some(ParseFault::LeftOut(2)),
+    ),
+    (
+        TextKind::Expression,
+        b"FAIRNESS",
+        Some(ParseFault::LeftOut(0)),
+    ),
+    (
+        TextKind::Expression,
+        b"init",
+        Some(ParseFault::Unexpected(0)),
+    ),
+    (TextKind::Expression, b"(a", Some(ParseFault::End(2))),
+    (TextKind::Expression, b"", Some(ParseFault::End(0))),
+    (TextKind::List, b"a; b;", None),
+    (TextKind::List, b"a;; b", Some(ParseFault::Unexpected(2))),
+    (TextKind::List, b"", Some(ParseFault::End(0))),
+    (TextKind::List, b"a;", None),
+    (TextKind::List, b"a b", Some(ParseFault::Unexpected(2))),
+    (TextKind::List, b"a; self", Some(ParseFault::LeftOut(3))),
+    (TextKind::List, b"(a", Some(ParseFault::End(2))),
+    (TextKind::Program, b"", None),
+    (TextKind::Program, b"MODULE", Some(ParseFault::End(6))),
+    (TextKind::Program, b"main", Some(ParseFault::Unexpected(0))),
+    (TextKind::Program, b"MODULE main VAR x : boolean;", None),
+    (
+        TextKind::Program,
         b"MODULE main VAR x boolean;",
         Some(ParseFault::Unexpected(18)),
     ),
     (
-        Kind::Program,
+        TextKind::Program,
         b"MODULE main VAR x : boolean",
         Some(ParseFault::End(27)),
     ),
     (
-        Kind::Program,
+        TextKind::Program,
         b"MODULE main VAR process : boolean;",
         Some(ParseFault::LeftOut(16)),
     ),
     (
-        Kind::Program,
+        TextKind::Program,
         b"MODULE main IVAR x : m;",
         Some(ParseFault::Unexpected(21)),
     ),
-    (Kind::Program, b"MODULE main INIT TRUE VAR", None),
+    (TextKind::Program, b"MODULE main INIT TRUE VAR", None),
     (
-        Kind::Program,
+        TextKind::Program,
         b"MODULE main INIT TRUE; TRUE",
         Some(ParseFault::Unexpected(23)),
     ),
     (
-        Kind::Program,
+        TextKind::Program,
         b"MODULE main SPEC AG self process x; MODULE b",
         None,
     ),
     (
-        Kind::Program,
+        TextKind::Program,
         b"MODULE main SPEC x FAIRNESS y",
         Some(ParseFault::LeftOut(19)),
     ),
-    (Kind::Program, b"MODULE m() VAR a : m(); b : m(1, x);", None),
     (
-        Kind::Program,
+        TextKind::Program,
+        b"MODULE m() VAR a : m(); b : m(1, x);",
+        None,
+    ),
+    (
+        TextKind::Program,
         b"MODULE m(a, )",
         Some(ParseFault::Unexpected(12)),
     ),
     (
-        Kind::Program,
+        TextKind::Program,
         b"MODULE main ASSIGN init(x.y) := 1; next(z) := {1, 2}; w := z;",
         None,
     ),
     (
-        Kind::Program,
+        TextKind::Program,
         b"MODULE main ASSIGN init x := 1;",
         Some(ParseFault::Unexpected(24)),
     ),
-    (Kind::Program, b"MODULE main VAR x : {a, -1, 2};", None),
+    (TextKind::Program, b"MODULE main VAR x : {a, -1, 2};", None),
     (
-        Kind::Program,
+        TextKind::Program,
         b"MODULE main VAR x : {};",
         Some(ParseFault::Unexpected(21)),
     ),
     (
-        Kind::Program,
+        TextKind::Program,
         b"MODULE main VAR x : 1..y;",
         Some(ParseFault::Unexpected(23)),
     ),
-    (Kind::Program, b"MODULE main CONSTANTS a, b;", None),
+    (TextKind::Program, b"MODULE main CONSTANTS a, b;", None),
     (
-        Kind::Program,
+        TextKind::Program,
         b"MODULE main CONSTANTS ;",
         Some(ParseFault::Unexpected(22)),
     ),
     (
-        Kind::Program,
+        TextKind::Program,
         b"MODULE main DEFINE d := a + ;",
         Some(ParseFault::Unexpected(28)),
     ),
     (
-        Kind::Program,
+        TextKind::Program,
         b"MODULE main FROZENVAR f : -1..2; LTLSPEC G f",
         None,
     ),
     (
-        Kind::Program,
+        TextKind::Program,
         b"MODULE main TRANS next(x) = array",
         Some(ParseFault::LeftOut(28)),
     ),
     (
-        Kind::Program,
+        TextKind::Program,
         b"MODULE main ISA m",
         Some(ParseFault::LeftOut(12)),
     ),
 ];
 
 /// The refusal of a text that is read as this.
-fn refusal(alloc: Global, kind: Kind, text: &[u8]) -> Option<ParseFault>
+fn refusal(alloc: Global, kind: TextKind, text: &[u8]) -> Option<ParseFault>
     requires { length text.now < 2 ^ 32 }
 {
     match kind {
-        Kind::Expression => expression(alloc, text).err(),
-        Kind::List => expressions(alloc, text).err(),
-        Kind::Program => program(alloc, text).err(),
+        TextKind::Expression => expression(alloc, text).err(),
+        TextKind::List => expressions(alloc, text).err(),
+        TextKind::Program => program(alloc, text).err(),
     }
 }
 
@@ -186,7 +214,7 @@ fn stops_where_no_text_goes_on(rt: HostRuntime) -> Result<(), Fail> {
 /// What a text is read as, the text, and its refusal where it has one. The text is its front, so many times what
 /// opens, its middle, as many times what closes, and its back.
 type Repeated = (
-    Kind,
+    TextKind,
     &'static [u8],
     &'static [u8],
     usize,
@@ -196,9 +224,9 @@ type Repeated = (
 );
 
 static REPEATED: [Repeated; 13] = [
-    (Kind::Expression, b"", b"(", 1000, b")", b"", None),
+    (TextKind::Expression, b"", b"(", 1000, b")", b"", None),
     (
-        Kind::Expression,
+        TextKind::Expression,
         b"",
         b"(",
         1001,
@@ -207,7 +235,7 @@ static REPEATED: [Repeated; 13] = [
         Some(ParseFault::TooDeep),
     ),
     (
-        Kind::Expression,
+        TextKind::Expression,
         b"",
         b"(",
         1001,
@@ -215,9 +243,9 @@ static REPEATED: [Repeated; 13] = [
         b")",
         Some(ParseFault::Unexpected(2003)),
     ),
-    (Kind::Expression, b"", b"!", 999, b"", b"", None),
+    (TextKind::Expression, b"", b"!", 999, b"", b"", None),
     (
-        Kind::Expression,
+        TextKind::Expression,
         b"",
         b"!",
         1000,
@@ -226,7 +254,7 @@ static REPEATED: [Repeated; 13] = [
         Some(ParseFault::TooDeep),
     ),
     (
-        Kind::List,
+        TextKind::List,
         b"a; ",
         b"(",
         1001,
@@ -235,7 +263,7 @@ static REPEATED: [Repeated; 13] = [
         Some(ParseFault::TooDeep),
     ),
     (
-        Kind::List,
+        TextKind::List,
         b"a; ",
         b"(",
         1001,
@@ -244,7 +272,7 @@ static REPEATED: [Repeated; 13] = [
         Some(ParseFault::Unexpected(2007)),
     ),
     (
-        Kind::Program,
+        TextKind::Program,
         b"MODULE m INIT ",
         b"(",
         1000,
@@ -253,7 +281,7 @@ static REPEATED: [Repeated; 13] = [
         None,
     ),
     (
-        Kind::Program,
+        TextKind::Program,
         b"MODULE m INIT ",
         b"(",
         1001,
@@ -262,7 +290,7 @@ static REPEATED: [Repeated; 13] = [
         Some(ParseFault::TooDeep),
     ),
     (
-        Kind::Expression,
+        TextKind::Expression,
         b"",
         b"(",
         1000000,
@@ -271,7 +299,7 @@ static REPEATED: [Repeated; 13] = [
         Some(ParseFault::TooDeep),
     ),
     (
-        Kind::Expression,
+        TextKind::Expression,
         b"",
         b"!",
         1000000,
@@ -280,7 +308,7 @@ static REPEATED: [Repeated; 13] = [
         Some(ParseFault::TooDeep),
     ),
     (
-        Kind::Expression,
+        TextKind::Expression,
         b"",
         b"a+",
         1000000,
@@ -289,7 +317,7 @@ static REPEATED: [Repeated; 13] = [
         Some(ParseFault::TooDeep),
     ),
     (
-        Kind::Program,
+        TextKind::Program,
         b"MODULE m INIT ",
         b"a+",
         1000000,

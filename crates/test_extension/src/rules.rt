@@ -2,84 +2,84 @@
 use crate::texts::{instructions_of, joined, program_of};
 use base_values::{Name, OutOfMemory};
 use fault_instructions::{EffectFault, Instructions};
-use fault_rules::{Rule, RuleFault, judge_counts, placed_slices};
+use fault_rules::{InstructionRule, RuleFault, judge_counts, placed_slices};
 use std::alloc::Global;
 
 static MODEL: &[u8] = b"MODULE main VAR on : boolean; VAR up : boolean; IVAR key : boolean;";
 
 /// The beginning of instructions, so many more modes and the end, with the rule that is broken first, and
 /// its item.
-type Row = (&'static [u8], u16, &'static [u8], Rule, u32);
+type Row = (&'static [u8], u16, &'static [u8], InstructionRule, u32);
 
 static ROWS: [Row; 10] = [
     (
         b"EXTENSION OF MODULE M SLICE Lamp AFFECTS on WITH MODE dark : Permanent StuckAt(FALSE);",
         0,
         b"SLICE S AFFECTS up INITIALLY ANY WITH MODE low : Permanent Inverted;",
-        Rule::NoSuchModule,
+        InstructionRule::NoSuchModule,
         1,
     ),
     (
         b"EXTENSION OF MODULE main SLICE Lamp AFFECTS z WITH MODE dark : Permanent StuckAt(FALSE);",
         0,
         b"SLICE S AFFECTS up INITIALLY ANY WITH MODE low : Permanent Inverted;",
-        Rule::NoSuchVariable,
+        InstructionRule::NoSuchVariable,
         2,
     ),
     (
         b"EXTENSION OF MODULE main SLICE Lamp AFFECTS key WITH MODE dark : Permanent StuckAt(FALSE);",
         0,
         b"SLICE S AFFECTS up INITIALLY ANY WITH MODE low : Permanent Inverted;",
-        Rule::NotAStateVariable,
+        InstructionRule::NotAStateVariable,
         2,
     ),
     (
         b"EXTENSION OF MODULE main SLICE Lamp AFFECTS on WITH MODE dark : Permanent StuckAt(FALSE);",
         0,
         b"SLICE Lamp AFFECTS up INITIALLY ANY WITH MODE low : Permanent Inverted;",
-        Rule::DoubleSlice,
+        InstructionRule::DoubleSlice,
         4,
     ),
     (
         b"EXTENSION OF MODULE main SLICE Lamp AFFECTS on WITH MODE aaa : Permanent StuckAt(FALSE);",
         1,
         b"SLICE S AFFECTS up INITIALLY ANY WITH MODE low : Permanent Inverted;",
-        Rule::DoubleMode,
+        InstructionRule::DoubleMode,
         4,
     ),
     (
         b"EXTENSION OF MODULE main SLICE Lamp AFFECTS on WITH MODE dark : Permanent StuckAt(FALSE);",
         0,
         b"SLICE S AFFECTS on INITIALLY ANY WITH MODE low : Permanent Inverted;",
-        Rule::VariableTaken,
+        InstructionRule::VariableTaken,
         4,
     ),
     (
         b"EXTENSION OF MODULE main SLICE Lamp AFFECTS on WITH MODE dark : Permanent Offset(1);",
         0,
         b"SLICE S AFFECTS up INITIALLY ANY WITH MODE low : Permanent Inverted;",
-        Rule::Effect(EffectFault::WrongKind),
+        InstructionRule::Effect(EffectFault::WrongKind),
         3,
     ),
     (
         b"EXTENSION OF MODULE main SLICE on AFFECTS on WITH MODE dark : Permanent StuckAt(FALSE);",
         0,
         b"SLICE S AFFECTS up INITIALLY ANY WITH MODE low : Permanent Inverted;",
-        Rule::NameTaken,
+        InstructionRule::NameTaken,
         2,
     ),
     (
         b"EXTENSION OF MODULE main SLICE Lamp AFFECTS on WITH MODE nominal : Permanent StuckAt(FALSE);",
         0,
         b"SLICE S AFFECTS up INITIALLY ANY WITH MODE low : Permanent Inverted;",
-        Rule::NameTaken,
+        InstructionRule::NameTaken,
         3,
     ),
     (
         b"EXTENSION OF MODULE main SLICE Lamp AFFECTS on WITH MODE dark : Permanent StuckAt(FALSE);",
         256,
         b"SLICE S AFFECTS up INITIALLY ANY WITH MODE low : Permanent Inverted;",
-        Rule::TooManyFaults,
+        InstructionRule::TooManyFaults,
         259,
     ),
 ];

@@ -5,10 +5,10 @@ use std::alloc::Global;
 use std::test::Fail;
 
 /// A token's kind, its first place and the place behind it.
-type Spot = (TokenKind, u32, u32);
+type TokenSpot = (TokenKind, u32, u32);
 
 /// A text, and its tokens or its fault.
-type Case = (&'static str, &'static [Spot], Option<LexFault>);
+type Case = (&'static str, &'static [TokenSpot], Option<LexFault>);
 
 static CASES: [Case; 16] = [
     ("", &[], None),
@@ -45,7 +45,7 @@ static CASES: [Case; 16] = [
     ("\u{b}", &[], Some(LexFault::BadByte(0))),
 ];
 
-fn are_at(list: &TokenList, spots: &[Spot]) -> bool {
+fn are_at(list: &TokenList, spots: &[TokenSpot]) -> bool {
     if list.len() != spots.len() {
         return false;
     }

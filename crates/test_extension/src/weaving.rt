@@ -1,6 +1,6 @@
 //! The order of a woven program's faults with the variables and symbols of their modes, and how guards are judged.
 use crate::texts::{instructions_of, joined, model_of, program_of};
-use fault_extend::{Cause, WeaveFault, Woven, weave};
+use fault_extend::{WeaveCause, WeaveFault, Woven, weave};
 use fault_instructions::Instructions;
 use smv_flat::FlatFault;
 use smv_language::model::FlatModel;
@@ -8,7 +8,8 @@ use smv_types::TypeFault;
 use std::alloc::Global;
 
 static LEFT_AND_RIGHT: &[u8] =
-    b"MODULE Left VAR out : boolean; ASSIGN out := TRUE; MODULE Right VAR out : boolean; ASSIGN out := TRUE; MODULE main VAR a : Left; VAR b : Right;";
+    b"MODULE Left VAR out : boolean; ASSIGN out := TRUE; MODULE Right VAR out : boolean; ASSIGN out := TRUE; MODULE main VAR a : Left; \
+        VAR b : Right;";
 
 /// The slices SB on `out` of Right, with a guard where there is one, and SA on `out` of Left.
 fn both_off(alloc: Global, guard: &[u8]) -> Option<Instructions> {
@@ -99,18 +100,18 @@ fn faults_stand_by_instances(rt: HostRuntime) {
     assert_eq!(rt; woven_faults(rt.alloc()), Some((2, 2)));
 }
 
-static GUARDS: [(&[u8], Cause); 2] = [
+static GUARDS: [(&[u8], WeaveCause); 2] = [
     (
         b"WHEN z",
-        Cause::Flat(FlatFault {
-            rule: smv_flat::Rule::NoSuchName,
+        WeaveCause::Flat(FlatFault {
+            rule: smv_flat::FlatRule::NoSuchName,
             item: 0,
         }),
     ),
     (
         b"WHEN 3",
-        Cause::Kinds(TypeFault {
-            rule: smv_types::Rule::NotBoolean,
+        WeaveCause::Kinds(TypeFault {
+            rule: smv_types::TypeRule::NotBoolean,
             item: 0,
         }),
     ),

@@ -1,9 +1,8 @@
-// Advisers that count show that each verb that searches asks them, and tells them what was learned; and others that an analysis tells
-// them how far it is.
-//
-// A run owns its advisers, so what they counted is shown by how it ends: an adviser that has no room for a further search once it was
-// asked, or once it was told, ends the run with want of memory. One that was neither would not. The same holds of what one has heard.
-
+//! Advisers that count show that each verb that searches asks them, and tells them what was learned; and others that an analysis tells
+//! them how far it is.
+//!
+//! A run owns its advisers, so what they counted is shown by how it ends: an adviser that has no room for a further search once it was
+//! asked, or once it was told, ends the run with want of memory. One that was neither would not. The same holds of what one has heard.
 use crate::desks::{BOTH, File, PAIR, SWITCHES, desk_of, joined, ran};
 use base_values::OutOfMemory;
 use sat_adviser::{Active, Adviser, InOrder, News};
@@ -61,11 +60,13 @@ impl Adviser for Counting {
 const SURGE: &[u8] = b"CAUSE Surge WITHIN 0..0 STRIKES A.on, B.on;";
 
 const MARKED: &[u8] =
-    b"EXTENSION OF MODULE main SLICE A AFFECTS a WITH MODE on {0.1} : Permanent StuckAt(TRUE); SLICE B AFFECTS b WITH MODE on {0.25} : Permanent StuckAt(TRUE);";
+    b"EXTENSION OF MODULE main SLICE A AFFECTS a WITH MODE on {0.1} : Permanent StuckAt(TRUE); SLICE B AFFECTS b WITH MODE on {0.25} : \
+        Permanent StuckAt(TRUE);";
 
 /// The switch b may be stuck only where a is.
 const AFTER: &[u8] =
-    b"EXTENSION OF MODULE main SLICE A AFFECTS a WITH MODE on : Permanent StuckAt(TRUE); SLICE B AFFECTS b WITH MODE on : Permanent StuckAt(TRUE) WHEN a;";
+    b"EXTENSION OF MODULE main SLICE A AFFECTS a WITH MODE on : Permanent StuckAt(TRUE); SLICE B AFFECTS b WITH MODE on : Permanent \
+        StuckAt(TRUE) WHEN a;";
 
 static GIVEN: [File; 3] = [
     ("m", Some(PAIR)),
@@ -369,7 +370,8 @@ const FOUR: &[u8] =
     b"MODULE main VAR a : boolean; b : boolean; c : boolean; d : boolean; ASSIGN a := FALSE; b := FALSE; c := FALSE; d := FALSE;";
 
 const ON: &[u8] =
-    b"EXTENSION OF MODULE main SLICE A AFFECTS a WITH MODE on : Permanent StuckAt(TRUE); SLICE B AFFECTS b WITH MODE on : Permanent StuckAt(TRUE); SLICE C AFFECTS c WITH MODE on : Permanent StuckAt(TRUE); SLICE D AFFECTS d WITH MODE on : Permanent StuckAt(TRUE);";
+    b"EXTENSION OF MODULE main SLICE A AFFECTS a WITH MODE on : Permanent StuckAt(TRUE); SLICE B AFFECTS b WITH MODE on : Permanent \
+        StuckAt(TRUE); SLICE C AFFECTS c WITH MODE on : Permanent StuckAt(TRUE); SLICE D AFFECTS d WITH MODE on : Permanent StuckAt(TRUE);";
 
 static TURNED_ON: [File; 2] = [("m", Some(FOUR)), ("f", Some(ON))];
 

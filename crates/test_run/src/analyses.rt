@@ -1,6 +1,5 @@
-// Rows of analyses, tables and generated cases over desks in memory: how each run ends, and what it says but for the traces, which
-// are free.
-
+//! Rows of analyses, tables and generated cases over desks in memory: how each run ends, and what it says but for the traces, which
+//! are free.
 use crate::desks::{BOTH, GLITCH, LAMP, PAIR, PULSE, desk_of, ends, ran};
 use base_files::MemoryDesk;
 use base_values::OutOfMemory;
@@ -225,7 +224,8 @@ static SAID: [Said; 3] = [
         b"a & b; n = 3",
         &TABLE,
         0,
-        b"faults 2\nfault 1 A.on\nfault 2 B.on\ntops 2\ntop 1 complete\ntop 2 complete\nrow : no no\nrow 1 : no yes\nrow 2 : no no\nrow 1 2 : yes yes\n",
+        b"faults 2\nfault 1 A.on\nfault 2 B.on\ntops 2\ntop 1 complete\ntop 2 complete\nrow : no no\nrow 1 : no yes\nrow 2 : no no\nrow 1 \
+            2 : yes yes\n",
     ),
     (b"a & b; next(a)", &TABLE, 5, b"refused top flat 12 at 2\n"),
     (

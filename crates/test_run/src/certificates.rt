@@ -1,5 +1,4 @@
-// Rows of certificates that are judged, over desks in memory.
-
+//! Rows of certificates that are judged, over desks in memory.
 use crate::desks::{DARK, LAMP, TINY, ends, joined, written};
 use base_values::OutOfMemory;
 use std::alloc::Global;
@@ -57,19 +56,19 @@ const BAD: &[u8] = b"step : 2 3\n";
 const END: &[u8] = b"end\n";
 
 /// The pieces of a certificate, and how a check of it ends: its number, and what it says.
-struct Judged {
+struct JudgedCertificate {
     pieces: [&'static [u8]; 7],
     number: i32,
     said: &'static [u8],
 }
 
-static JUDGED: [Judged; 10] = [
-    Judged {
+static JUDGED: [JudgedCertificate; 10] = [
+    JudgedCertificate {
         pieces: [HEAD, BITS, CLAUSES, FIRST, NEXT, BAD, END],
         number: 0,
         said: b"accepted\n",
     },
-    Judged {
+    JudgedCertificate {
         pieces: [
             b"xsap-certificate 2\n",
             b"bits 1 faults 0 size 0\n",
@@ -82,12 +81,12 @@ static JUDGED: [Judged; 10] = [
         number: 0,
         said: b"accepted\n",
     },
-    Judged {
+    JudgedCertificate {
         pieces: [HEAD, BITS, CLAUSES, b"step -2 : 6 4\n", NEXT, BAD, END],
         number: 6,
         said: b"not accepted line 7 rule 10\n",
     },
-    Judged {
+    JudgedCertificate {
         pieces: [
             HEAD,
             BITS,
@@ -100,7 +99,7 @@ static JUDGED: [Judged; 10] = [
         number: 0,
         said: b"accepted\n",
     },
-    Judged {
+    JudgedCertificate {
         pieces: [
             HEAD,
             BITS,
@@ -113,27 +112,27 @@ static JUDGED: [Judged; 10] = [
         number: 6,
         said: b"not accepted line 8 rule 9\n",
     },
-    Judged {
+    JudgedCertificate {
         pieces: [HEAD, BITS, CLAUSES, FIRST, NEXT, b"ste", b""],
         number: 6,
         said: b"refused cert read 1 at 11\n",
     },
-    Judged {
+    JudgedCertificate {
         pieces: [HEAD, BITS, CLAUSES, FIRST, NEXT, BAD, b""],
         number: 6,
         said: b"refused cert read 2 at 12\n",
     },
-    Judged {
+    JudgedCertificate {
         pieces: [HEAD, BITS, CLAUSES, FIRST, NEXT, b"step : 3\n", END],
         number: 6,
         said: b"not accepted line 11 rule 10\n",
     },
-    Judged {
+    JudgedCertificate {
         pieces: [HEAD, BITS, CLAUSES, FIRST, NEXT, b"step 2 : 2\n", END],
         number: 6,
         said: b"not accepted line 12 rule 11\n",
     },
-    Judged {
+    JudgedCertificate {
         pieces: [HEAD, b"bits 2 faults 0\n", CLAUSES, FIRST, NEXT, BAD, END],
         number: 6,
         said: b"not accepted line 2 rule 1\n",
@@ -145,7 +144,7 @@ static CHECK_TINY: [&str; 9] = [
 ];
 
 /// Whether the check ends as its row says.
-fn is_judged(alloc: Global, row: &Judged) -> Result<bool, OutOfMemory> {
+fn is_judged(alloc: Global, row: &JudgedCertificate) -> Result<bool, OutOfMemory> {
     let bytes = joined(alloc, &row.pieces)?;
     let given = [
         ("m", Some(TINY)),

@@ -3,7 +3,6 @@
 //! The proof of a test shows only that it is safe, and each call leaves what it promises to all that follows. The promise
 //! of `run` is long, so it is called in one place, by a function that promises nothing; and the rows are tables of
 //! plain data, each walked by one short loop.
-
 use base_files::{Fail, FailList, FileList, MemoryDesk, NamedFile};
 use base_values::OutOfMemory;
 use sat_adviser::Adviser;
@@ -28,7 +27,8 @@ pub const PAIR: &[u8] =
     b"MODULE main VAR a : boolean; b : boolean; n : 0..3; ASSIGN a := FALSE; b := FALSE; init(n) := 0; next(n) := a & n < 3 ? n + 1 : n;";
 
 pub const BOTH: &[u8] =
-    b"EXTENSION OF MODULE main SLICE A AFFECTS a WITH MODE on : Permanent StuckAt(TRUE); SLICE B AFFECTS b WITH MODE on : Permanent StuckAt(TRUE);";
+    b"EXTENSION OF MODULE main SLICE A AFFECTS a WITH MODE on : Permanent StuckAt(TRUE); SLICE B AFFECTS b WITH MODE on : Permanent \
+        StuckAt(TRUE);";
 
 /// The two switches alone.
 pub const SWITCHES: &[u8] =

@@ -1,4 +1,4 @@
-// Rows of extensions, of every kind of refusal, and of desks that fail on the way.
+//! Rows of extensions, of every kind of refusal, and of desks that fail on the way.
 ghost use Rattle.std.specs.Prelude.{◌<◌, ◌^◌, length};
 
 use crate::desks::{DARK, LAMP, declared, desk_of, joined, ran, rest_from};
@@ -9,14 +9,21 @@ use smv_language::print_expr;
 use std::alloc::Global;
 
 const EXTENDED: &[u8] =
-    b"MODULE main\nVAR\n  on : boolean;\nASSIGN\n  init(on#nominal) := TRUE;\n  next(on#nominal) := on;\nVAR\n  on#nominal : boolean;\n  Lamp#mode : {Lamp#nominal, Lamp#dark};\nASSIGN\n  init(Lamp#mode) := Lamp#nominal;\n  next(Lamp#mode) := case (Lamp#mode = Lamp#dark) : Lamp#dark; TRUE : ({Lamp#nominal} union (TRUE ? {Lamp#dark} : {Lamp#nominal})); esac;\n  on := case (Lamp#mode = Lamp#dark) : FALSE; TRUE : on#nominal; esac;\n";
+    b"MODULE main\nVAR\n  on : boolean;\nASSIGN\n  init(on#nominal) := TRUE;\n  next(on#nominal) := on;\nVAR\n  on#nominal : boolean;\n  \
+        Lamp#mode : {Lamp#nominal, Lamp#dark};\nASSIGN\n  init(Lamp#mode) := Lamp#nominal;\n  next(Lamp#mode) := case (Lamp#mode = \
+        Lamp#dark) : Lamp#dark; TRUE : ({Lamp#nominal} union (TRUE ? {Lamp#dark} : {Lamp#nominal})); esac;\n  on := case (Lamp#mode = \
+        Lamp#dark) : FALSE; TRUE : on#nominal; esac;\n";
 
 /// A lamp that may be frozen from the first moment on, and its extension.
 const HOLDING: &[u8] =
     b"EXTENSION OF MODULE main SLICE Lamp AFFECTS on INITIALLY ANY WITH MODE hold : Permanent Frozen;";
 
 const HELD: &[u8] =
-    b"MODULE main\nVAR\n  on : boolean;\nASSIGN\n  init(on#nominal) := TRUE;\n  next(on#nominal) := on;\nVAR\n  on#nominal : boolean;\n  Lamp#mode : {Lamp#nominal, Lamp#hold};\nASSIGN\n  init(Lamp#mode) := {Lamp#nominal, Lamp#hold};\n  next(Lamp#mode) := case (Lamp#mode = Lamp#hold) : Lamp#hold; TRUE : ({Lamp#nominal} union (TRUE ? {Lamp#hold} : {Lamp#nominal})); esac;\n  on := case (Lamp#mode = Lamp#hold) : {FALSE, TRUE}; TRUE : on#nominal; esac;\nTRANS\n  ((next(Lamp#mode) = Lamp#hold) -> (next(on) = on));\nINIT\n  ((Lamp#mode = Lamp#hold) -> (on = on#nominal));\n";
+    b"MODULE main\nVAR\n  on : boolean;\nASSIGN\n  init(on#nominal) := TRUE;\n  next(on#nominal) := on;\nVAR\n  on#nominal : boolean;\n  \
+        Lamp#mode : {Lamp#nominal, Lamp#hold};\nASSIGN\n  init(Lamp#mode) := {Lamp#nominal, Lamp#hold};\n  next(Lamp#mode) := case \
+        (Lamp#mode = Lamp#hold) : Lamp#hold; TRUE : ({Lamp#nominal} union (TRUE ? {Lamp#hold} : {Lamp#nominal})); esac;\n  on := case \
+        (Lamp#mode = Lamp#hold) : {FALSE, TRUE}; TRUE : on#nominal; esac;\nTRANS\n  ((next(Lamp#mode) = Lamp#hold) -> (next(on) = on));\n\
+        INIT\n  ((Lamp#mode = Lamp#hold) -> (on = on#nominal));\n";
 
 /// A number that may fall from the first moment on.
 const FALLING: &[u8] =
@@ -26,28 +33,45 @@ const FALLS: &[u8] =
     b"INIT\n  ((S#mode = S#m) -> (x = (((x#nominal - 4) > 1) ? (x#nominal - 4) : 1)));\n";
 
 const SIDES: &[u8] =
-    b"MODULE Left VAR out : boolean; ASSIGN out := TRUE; MODULE Right VAR out : boolean; ASSIGN out := TRUE; MODULE main VAR a : Left; b : Right;";
+    b"MODULE Left VAR out : boolean; ASSIGN out := TRUE; MODULE Right VAR out : boolean; ASSIGN out := TRUE; MODULE main VAR a : Left; b \
+        : Right;";
 
 const SIDES_OFF: &[u8] =
-    b"EXTENSION OF MODULE Left SLICE SA AFFECTS out WITH MODE off : Permanent StuckAt(FALSE); EXTENSION OF MODULE Right SLICE SB AFFECTS out WITH MODE off : Permanent StuckAt(FALSE);";
+    b"EXTENSION OF MODULE Left SLICE SA AFFECTS out WITH MODE off : Permanent StuckAt(FALSE); EXTENSION OF MODULE Right SLICE SB AFFECTS \
+        out WITH MODE off : Permanent StuckAt(FALSE);";
 
 const SIDES_EXTENDED: &[u8] =
-    b"MODULE Left\nVAR\n  out : boolean;\nASSIGN\n  out#nominal := TRUE;\nVAR\n  out#nominal : boolean;\n  SA#mode : {SA#nominal, SA#off};\nASSIGN\n  init(SA#mode) := SA#nominal;\n  next(SA#mode) := case (SA#mode = SA#off) : SA#off; TRUE : ({SA#nominal} union (TRUE ? {SA#off} : {SA#nominal})); esac;\n  out := case (SA#mode = SA#off) : FALSE; TRUE : out#nominal; esac;\nMODULE Right\nVAR\n  out : boolean;\nASSIGN\n  out#nominal := TRUE;\nVAR\n  out#nominal : boolean;\n  SB#mode : {SB#nominal, SB#off};\nASSIGN\n  init(SB#mode) := SB#nominal;\n  next(SB#mode) := case (SB#mode = SB#off) : SB#off; TRUE : ({SB#nominal} union (TRUE ? {SB#off} : {SB#nominal})); esac;\n  out := case (SB#mode = SB#off) : FALSE; TRUE : out#nominal; esac;\nMODULE main\nVAR\n  a : Left;\n  b : Right;\n";
+    b"MODULE Left\nVAR\n  out : boolean;\nASSIGN\n  out#nominal := TRUE;\nVAR\n  out#nominal : boolean;\n  SA#mode : {SA#nominal, SA#off};\
+        \nASSIGN\n  init(SA#mode) := SA#nominal;\n  next(SA#mode) := case (SA#mode = SA#off) : SA#off; TRUE : ({SA#nominal} union (TRUE ? \
+        {SA#off} : {SA#nominal})); esac;\n  out := case (SA#mode = SA#off) : FALSE; TRUE : out#nominal; esac;\nMODULE Right\nVAR\n  out : \
+        boolean;\nASSIGN\n  out#nominal := TRUE;\nVAR\n  out#nominal : boolean;\n  SB#mode : {SB#nominal, SB#off};\nASSIGN\n  \
+        init(SB#mode) := SB#nominal;\n  next(SB#mode) := case (SB#mode = SB#off) : SB#off; TRUE : ({SB#nominal} union (TRUE ? {SB#off} : \
+        {SB#nominal})); esac;\n  out := case (SB#mode = SB#off) : FALSE; TRUE : out#nominal; esac;\nMODULE main\nVAR\n  a : Left;\n  b : \
+        Right;\n";
 
 const POWER: &[u8] =
-    b"MODULE Generator\nVAR live : boolean;\nASSIGN live := TRUE;\nMODULE Battery\nVAR charge : 0..3;\nASSIGN init(charge) := 3; next(charge) := charge;\nMODULE Sensor(line)\nVAR seen : boolean;\nASSIGN seen := line;\nMODULE main\nVAR g1 : Generator; g2 : Generator; b1 : Battery; b2 : Battery;\n    v1 : Sensor(feed1); use2 : boolean;\nDEFINE feed1 := g1.live | b1.charge > 0;\n  feed2 := g2.live | b2.charge > 0;\n  bus := use2 ? feed2 : feed1;\nASSIGN init(use2) := FALSE; next(use2) := !v1.seen;\nCTLSPEC AG bus\n";
+    b"MODULE Generator\nVAR live : boolean;\nASSIGN live := TRUE;\nMODULE Battery\nVAR charge : 0..3;\nASSIGN init(charge) := 3; \
+        next(charge) := charge;\nMODULE Sensor(line)\nVAR seen : boolean;\nASSIGN seen := line;\nMODULE main\nVAR g1 : Generator; g2 : \
+        Generator; b1 : Battery; b2 : Battery;\n    v1 : Sensor(feed1); use2 : boolean;\nDEFINE feed1 := g1.live | b1.charge > 0;\n  \
+        feed2 := g2.live | b2.charge > 0;\n  bus := use2 ? feed2 : feed1;\nASSIGN init(use2) := FALSE; next(use2) := !v1.seen;\nCTLSPEC \
+        AG bus\n";
 
 const POWER_FAULTS: &[u8] =
-    b"FAULT EXTENSION Power\nEXTENSION OF MODULE Generator\n  SLICE Gen AFFECTS live WITH MODE off : Permanent StuckAt(FALSE);\nEXTENSION OF MODULE Battery\n  SLICE Cell AFFECTS charge WITH MODE drain : Permanent RampDown(1, 0);\nEXTENSION OF MODULE Sensor\n  SLICE Eye AFFECTS seen WITH\n    MODE wild {0.001} : Transient Random;\n    MODE hold : Permanent Frozen;\n";
+    b"FAULT EXTENSION Power\nEXTENSION OF MODULE Generator\n  SLICE Gen AFFECTS live WITH MODE off : Permanent StuckAt(FALSE);\nEXTENSION \
+        OF MODULE Battery\n  SLICE Cell AFFECTS charge WITH MODE drain : Permanent RampDown(1, 0);\nEXTENSION OF MODULE Sensor\n  SLICE \
+        Eye AFFECTS seen WITH\n    MODE wild {0.001} : Transient Random;\n    MODE hold : Permanent Frozen;\n";
 
 const POWER_SAID: &[u8] =
-    b"faults 6\nfault 1 g1.Gen.off\nfault 2 g2.Gen.off\nfault 3 b1.Cell.drain\nfault 4 b2.Cell.drain\nfault 5 v1.Eye.wild\nfault 6 v1.Eye.hold\nextended\n";
+    b"faults 6\nfault 1 g1.Gen.off\nfault 2 g2.Gen.off\nfault 3 b1.Cell.drain\nfault 4 b2.Cell.drain\nfault 5 v1.Eye.wild\nfault 6 \
+        v1.Eye.hold\nextended\n";
 
 const TWO_SLICES: &[u8] =
-    b"EXTENSION OF MODULE main SLICE Lamp AFFECTS on WITH MODE dark : Permanent StuckAt(FALSE); SLICE Light AFFECTS on WITH MODE dark : Permanent StuckAt(FALSE);";
+    b"EXTENSION OF MODULE main SLICE Lamp AFFECTS on WITH MODE dark : Permanent StuckAt(FALSE); SLICE Light AFFECTS on WITH MODE dark : \
+        Permanent StuckAt(FALSE);";
 
 const ONE_SLICE_TWICE: &[u8] =
-    b"EXTENSION OF MODULE main SLICE Lamp AFFECTS on WITH MODE dark : Permanent StuckAt(FALSE); SLICE Lamp AFFECTS on WITH MODE dark : Permanent StuckAt(FALSE);";
+    b"EXTENSION OF MODULE main SLICE Lamp AFFECTS on WITH MODE dark : Permanent StuckAt(FALSE); SLICE Lamp AFFECTS on WITH MODE dark : \
+        Permanent StuckAt(FALSE);";
 
 /// Instructions that add two variables.
 const TWO_MORE: &[u8] =
@@ -55,7 +79,11 @@ const TWO_MORE: &[u8] =
 
 /// The module of the sensors with its faults, as it stands in the extension.
 const SENSOR: &[u8] =
-    b"MODULE Sensor(line)\nVAR\n  seen : boolean;\nASSIGN\n  seen#nominal := line;\nVAR\n  seen#nominal : boolean;\n  Eye#mode : {Eye#nominal, Eye#wild, Eye#hold};\nASSIGN\n  init(Eye#mode) := Eye#nominal;\n  next(Eye#mode) := case (Eye#mode = Eye#wild) : {Eye#wild, Eye#nominal}; (Eye#mode = Eye#hold) : Eye#hold; TRUE : (({Eye#nominal} union (TRUE ? {Eye#wild} : {Eye#nominal})) union (TRUE ? {Eye#hold} : {Eye#nominal})); esac;\n  seen := case (Eye#mode = Eye#wild) : {FALSE, TRUE}; (Eye#mode = Eye#hold) : {FALSE, TRUE}; TRUE : seen#nominal; esac;\nTRANS\n  ((next(Eye#mode) = Eye#hold) -> (next(seen) = seen));\n";
+    b"MODULE Sensor(line)\nVAR\n  seen : boolean;\nASSIGN\n  seen#nominal := line;\nVAR\n  seen#nominal : boolean;\n  Eye#mode : \
+        {Eye#nominal, Eye#wild, Eye#hold};\nASSIGN\n  init(Eye#mode) := Eye#nominal;\n  next(Eye#mode) := case (Eye#mode = Eye#wild) : \
+        {Eye#wild, Eye#nominal}; (Eye#mode = Eye#hold) : Eye#hold; TRUE : (({Eye#nominal} union (TRUE ? {Eye#wild} : {Eye#nominal})) \
+        union (TRUE ? {Eye#hold} : {Eye#nominal})); esac;\n  seen := case (Eye#mode = Eye#wild) : {FALSE, TRUE}; (Eye#mode = Eye#hold) : \
+        {FALSE, TRUE}; TRUE : seen#nominal; esac;\nTRANS\n  ((next(Eye#mode) = Eye#hold) -> (next(seen) = seen));\n";
 
 const LOOP_OF_FORMALS: &[u8] =
     b"MODULE M(p) VAR x : boolean; ASSIGN x := p; MODULE main VAR a : M(b.p); b : M(a.p);";
@@ -138,9 +166,9 @@ static LAMP_EXTENDED: Row = Row {
 };
 
 /// A first call that fails with the bytes that it keeps, and the file that it leaves, if any.
-type Stop = (CallKind, u64, Option<&'static [u8]>);
+type StoppedCall = (CallKind, u64, Option<&'static [u8]>);
 
-static STOPS: [Stop; 4] = [
+static STOPS: [StoppedCall; 4] = [
     (CallKind::Read, 0, None),
     (CallKind::Start, 0, None),
     (CallKind::Append, 10, Some(b"MODULE mai")),
@@ -148,7 +176,7 @@ static STOPS: [Stop; 4] = [
 ];
 
 /// Whether a run over the lamp whose call fails says nothing and leaves its file.
-fn stops(alloc: Global, stop: &Stop) -> Result<bool, OutOfMemory> {
+fn stops(alloc: Global, stop: &StoppedCall) -> Result<bool, OutOfMemory> {
     let fail = Fail {
         call: stop.0,
         nth: 1,
@@ -331,16 +359,16 @@ fn long_files_and_wide_models_are_refused(rt: HostRuntime) -> Result<(), OutOfMe
 }
 
 /// A model, its instructions, what a run over them says, and a part of what it writes.
-type Part = (&'static [u8], &'static [u8], &'static [u8], &'static [u8]);
+type WrittenPart = (&'static [u8], &'static [u8], &'static [u8], &'static [u8]);
 
-static FALLING_PART: Part = (
+static FALLING_PART: WrittenPart = (
     b"MODULE main VAR x : 0..9;",
     FALLING,
     b"faults 1\nfault 1 S.m\nextended\n",
     FALLS,
 );
 
-static SENSOR_PART: Part = (POWER, POWER_FAULTS, POWER_SAID, SENSOR);
+static SENSOR_PART: WrittenPart = (POWER, POWER_FAULTS, POWER_SAID, SENSOR);
 
 /// Whether a part stands in a file, if there is one.
 fn contains(file: Option<&[u8]>, part: &[u8]) -> bool {
@@ -350,7 +378,7 @@ fn contains(file: Option<&[u8]>, part: &[u8]) -> bool {
     }
 }
 
-fn has_part(alloc: Global, row: &Part) -> Result<bool, OutOfMemory> {
+fn has_part(alloc: Global, row: &WrittenPart) -> Result<bool, OutOfMemory> {
     let mut desk = desk_of(alloc, &[("m", Some(row.0)), ("f", Some(row.1))], &[])?;
     let number = ran(alloc, &WORDS, &mut desk, Vec::new(alloc));
     Ok(number == 0 && desk.said() == row.2 && contains(desk.file("x"), row.3))

@@ -1,5 +1,4 @@
-// Each verb ends as one whose desk failed, and not for want of memory, wherever a read, a start, an append or a say fails.
-
+//! Each verb ends as one whose desk failed, and not for want of memory, wherever a read, a start, an append or a say fails.
 use crate::desks::{FLASH, File, LAMP, SWITCHES, desk_of, ran};
 use base_files::{CallKind, Fail};
 use base_values::OutOfMemory;
@@ -7,7 +6,8 @@ use std::alloc::Global;
 
 /// The switch b may be stuck only where a is, and both modes have a mark.
 const MARKED: &[u8] =
-    b"EXTENSION OF MODULE main SLICE A AFFECTS a WITH MODE on {0.1} : Permanent StuckAt(TRUE); SLICE B AFFECTS b WITH MODE on {0.25} : Permanent StuckAt(TRUE) WHEN a;";
+    b"EXTENSION OF MODULE main SLICE A AFFECTS a WITH MODE on {0.1} : Permanent StuckAt(TRUE); SLICE B AFFECTS b WITH MODE on {0.25} : \
+        Permanent StuckAt(TRUE) WHEN a;";
 
 /// The instructions of the lamp, with a mark.
 const DIM: &[u8] =

@@ -1,6 +1,5 @@
-// Rows of common causes, orders of two faults and odds over desks in memory: how each run ends and what it says, that what it has
-// written is accepted, and what stands where a call of the desk fails.
-
+//! Rows of common causes, orders of two faults and odds over desks in memory: how each run ends and what it says, that what it has
+//! written is accepted, and what stands where a call of the desk fails.
 use crate::desks::{BOTH, DARK, FLASH, File, LAMP, SWITCHES, desk_of, ran, shows, written};
 use base_files::{CallKind, Fail, write_whole};
 use base_values::OutOfMemory;
@@ -8,13 +7,16 @@ use std::alloc::Global;
 
 /// The switch b may be stuck only where a is.
 const AFTER: &[u8] =
-    b"EXTENSION OF MODULE main SLICE A AFFECTS a WITH MODE on : Permanent StuckAt(TRUE); SLICE B AFFECTS b WITH MODE on : Permanent StuckAt(TRUE) WHEN a;";
+    b"EXTENSION OF MODULE main SLICE A AFFECTS a WITH MODE on : Permanent StuckAt(TRUE); SLICE B AFFECTS b WITH MODE on : Permanent \
+        StuckAt(TRUE) WHEN a;";
 
 const MARKED: &[u8] =
-    b"EXTENSION OF MODULE main SLICE A AFFECTS a WITH MODE on {0.1} : Permanent StuckAt(TRUE); SLICE B AFFECTS b WITH MODE on {0.25} : Permanent StuckAt(TRUE);";
+    b"EXTENSION OF MODULE main SLICE A AFFECTS a WITH MODE on {0.1} : Permanent StuckAt(TRUE); SLICE B AFFECTS b WITH MODE on {0.25} : \
+        Permanent StuckAt(TRUE);";
 
 const SMALL: &[u8] =
-    b"EXTENSION OF MODULE main SLICE A AFFECTS a WITH MODE on {0.000000000000000001} : Permanent StuckAt(TRUE); SLICE B AFFECTS b WITH MODE on {0.5} : Permanent StuckAt(TRUE);";
+    b"EXTENSION OF MODULE main SLICE A AFFECTS a WITH MODE on {0.000000000000000001} : Permanent StuckAt(TRUE); SLICE B AFFECTS b WITH \
+        MODE on {0.5} : Permanent StuckAt(TRUE);";
 
 const CERTAIN: &[u8] =
     b"FAULT EXTENSION F EXTENSION OF MODULE main SLICE Lamp AFFECTS on WITH MODE dark {1.0} : Permanent StuckAt(FALSE);";
@@ -220,14 +222,16 @@ static ROWS: [Row; 13] = [
         &MARKS,
         &ODDS,
         0,
-        b"faults 2\nfault 1 A.on\nfault 2 B.on\nsets 1\nset 1 2\nodds 1 0.025000000000000000\nsum 0.025000000000000000 within 1\ncomplete\n",
+        b"faults 2\nfault 1 A.on\nfault 2 B.on\nsets 1\nset 1 2\nodds 1 0.025000000000000000\nsum 0.025000000000000000 within 1\n\
+            complete\n",
         b"complete\n",
     ),
     (
         &SMALL_MARKS,
         &ODDS,
         0,
-        b"faults 2\nfault 1 A.on\nfault 2 B.on\nsets 1\nset 1 2\nodds 1 0.000000000000000001\nsum 0.000000000000000001 within 1\ncomplete\n",
+        b"faults 2\nfault 1 A.on\nfault 2 B.on\nsets 1\nset 1 2\nodds 1 0.000000000000000001\nsum 0.000000000000000001 within 1\n\
+            complete\n",
         b"complete\n",
     ),
     (

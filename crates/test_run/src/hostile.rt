@@ -1,6 +1,5 @@
-// Hostile use over desks in memory: desks that fail on the way of an analysis, files that are cut or stand at a limit, and
-// certificates that were altered.
-
+//! Hostile use over desks in memory: desks that fail on the way of an analysis, files that are cut or stand at a limit, and
+//! certificates that were altered.
 use crate::desks::{
     DARK, File, GLITCH, LAMP, PULSE, TINY, declared, desk_of, ends, joined, ran, rest_from, spaces,
     written,
@@ -290,11 +289,13 @@ fn altered_certificates_are_not_accepted(rt: HostRuntime) -> Result<(), OutOfMem
 
 /// A certificate of the lamp with a set that contains another.
 const CONTAINING: &[u8] =
-    b"xsap-certificate 2\nbits 4 faults 1 size 1\nsets 2\nset\ntrace 4\nmoment 0\non = TRUE\non#nominal = TRUE\nLamp#mode = Lamp#nominal\nset 1\ntrace 1\nany\ninvariant 0\nfirst 0\nnext 0\nbad 0\nend\n";
+    b"xsap-certificate 2\nbits 4 faults 1 size 1\nsets 2\nset\ntrace 4\nmoment 0\non = TRUE\non#nominal = TRUE\nLamp#mode = Lamp#nominal\n\
+        set 1\ntrace 1\nany\ninvariant 0\nfirst 0\nnext 0\nbad 0\nend\n";
 
 /// A certificate of the model that stays FALSE whose clause is not true in the first states.
 const FLIPPED: &[u8] =
-    b"xsap-certificate 1\nbits 1 faults 0\nsets 0\ninvariant 1\nclause 1\nfirst 1\nstep -2 : 1 6 4\nnext 1\nstep -3 : 6 4 7\nbad 1\nstep : 2 3\nend\n";
+    b"xsap-certificate 1\nbits 1 faults 0\nsets 0\ninvariant 1\nclause 1\nfirst 1\nstep -2 : 1 6 4\nnext 1\nstep -3 : 6 4 7\nbad 1\nstep \
+        : 2 3\nend\n";
 
 static CONTAINING_FILES: [File; 3] = [
     ("m", Some(LAMP)),

@@ -1,5 +1,4 @@
-// Rows of replays, of top events and of words that are refused, over desks in memory.
-
+//! Rows of replays, of top events and of words that are refused, over desks in memory.
 use crate::desks::{DARK, GLITCH, LAMP, PULSE, ends, joined};
 use base_values::OutOfMemory;
 use std::alloc::Global;
@@ -16,9 +15,9 @@ const SEEN: &[u8] =
     b"moment 2\npulse = FALSE\nseen = TRUE\npulse#nominal = FALSE\nP#mode = P#nominal\n";
 
 /// The file of a trace in three pieces.
-type Trace = [&'static [u8]; 3];
+type TracePieces = [&'static [u8]; 3];
 
-static REACHING: [Trace; 2] = [
+static REACHING: [TracePieces; 2] = [
     [QUIET, RAISED, SEEN],
     [
         QUIET,
@@ -28,7 +27,7 @@ static REACHING: [Trace; 2] = [
 ];
 
 /// Traces that are not accepted, or whose texts are refused, and what is said.
-static REFUSED: [(Trace, &[u8]); 10] = [
+static REFUSED: [(TracePieces, &[u8]); 10] = [
     (
         [
             QUIET,
@@ -89,7 +88,7 @@ static REPLAY: [&str; 9] = [
 /// Whether the replay of a trace ends with this number and says this text.
 fn is_replayed(
     alloc: Global,
-    pieces: &Trace,
+    pieces: &TracePieces,
     number: i32,
     said: &[u8],
 ) -> Result<bool, OutOfMemory> {

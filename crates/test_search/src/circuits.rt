@@ -24,7 +24,7 @@ fn are_all(clauses: &ClauseList, wanted: &[&[i64]]) -> bool {
 
 // A gate, that of choice with the number of the literal that chooses.
 #[derive(Clone, Copy)]
-enum Kind {
+enum GateKind {
     And,
     Or,
     Xor,
@@ -42,15 +42,15 @@ fn may_take(gates: &Gates, a: Lit, b: Lit) -> bool
 }
 
 // The literal of a gate, or else that of 1.
-fn made(gates: &mut Gates, kind: Kind, a: Lit, b: Lit) -> Result<Lit, OutOfMemory> {
+fn made(gates: &mut Gates, kind: GateKind, a: Lit, b: Lit) -> Result<Lit, OutOfMemory> {
     if !may_take(gates, a, b) {
         return Ok(literal(1));
     }
     match kind {
-        Kind::And => gates.and(a, b),
-        Kind::Or => gates.or(a, b),
-        Kind::Xor => gates.xor(a, b),
-        Kind::Mux(number) => chosen(gates, literal(number), a, b),
+        GateKind::And => gates.and(a, b),
+        GateKind::Or => gates.or(a, b),
+        GateKind::Xor => gates.xor(a, b),
+        GateKind::Mux(number) => chosen(gates, literal(number), a, b),
     }
 }
 
@@ -63,7 +63,7 @@ fn chosen(gates: &mut Gates, choice: Lit, a: Lit, b: Lit) -> Result<Lit, OutOfMe
 }
 
 // The number of the literal of a gate over those of these numbers.
-fn gate(gates: &mut Gates, kind: Kind, a: i64, b: i64) -> Result<i64, OutOfMemory> {
+fn gate(gates: &mut Gates, kind: GateKind, a: i64, b: i64) -> Result<i64, OutOfMemory> {
     let lit = made(gates, kind, literal(a), literal(b))?;
     Ok(number_of(lit))
 }
@@ -71,7 +71,7 @@ fn gate(gates: &mut Gates, kind: Kind, a: i64, b: i64) -> Result<i64, OutOfMemor
 #[test]
 fn a_gate_takes_the_next_variable_and_appends_its_clauses(rt: HostRuntime) -> Result<(), Fail> {
     let mut gates = Gates::new(rt.alloc(), 4)?;
-    assert_eq!(rt; gate(&mut gates, Kind::And, 2, 3)?, 4);
+    assert_eq!(rt; gate(&mut gates, GateKind::And, 2, 3)?, 4);
     let wanted: [&[i64]; 4] = [&[1], &[-4, 2], &[-4, 3], &[4, -2, -3]];
     assert!(rt; are_all(gates.clauses(), &wanted));
     Ok(())
@@ -81,10 +81,10 @@ fn a_gate_takes_the_next_variable_and_appends_its_clauses(rt: HostRuntime) -> Re
 // variable.
 fn gates_of_gates(alloc: Global) -> Result<(i64, i64, u64), OutOfMemory> {
     let mut gates = Gates::new(alloc, 4)?;
-    let both = gate(&mut gates, Kind::And, 2, 3)?;
-    let either = gate(&mut gates, Kind::Or, 2, both)?;
-    let choice = gate(&mut gates, Kind::Mux(2), 3, either)?;
-    let differ = gate(&mut gates, Kind::Xor, choice, 3)?;
+    let both = gate(&mut gates, GateKind::And, 2, 3)?;
+    let either = gate(&mut gates, GateKind::Or, 2, both)?;
+    let choice = gate(&mut gates, GateKind::Mux(2), 3, either)?;
+    let differ = gate(&mut gates, GateKind::Xor, choice, 3)?;
     gates.assert_true(literal(differ))?;
     Ok((either, differ, gates.free()))
 }

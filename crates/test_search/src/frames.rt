@@ -12,7 +12,7 @@ use std::test::Fail;
 
 // How a search through frames ends.
 #[derive(Drop)]
-enum Ending {
+enum FramesEnding {
     Reached(StepList),
     // Two frames are equal, at a frontier of this number.
     Never(usize),
@@ -152,26 +152,30 @@ fn has_numbers(path: &StepList, bits: u32, inputs: u32, numbers: &[u64]) -> bool
 }
 
 // A path, where the frontier's frame has a bad state, or nothing more.
-fn clear(frames: &mut Frames, panel: &mut Panel) -> Result<Option<Ending>, OutOfMemory> {
+fn clear(frames: &mut Frames, panel: &mut Panel) -> Result<Option<FramesEnding>, OutOfMemory> {
     match frames.clear(&[], panel)? {
-        Cleared::Path(path) => Ok(Some(Ending::Reached(path))),
+        Cleared::Path(path) => Ok(Some(FramesEnding::Reached(path))),
         Cleared::Clear => Ok(None),
     }
 }
 
 // Whether two frames are equal.
-fn advance(frames: &mut Frames, panel: &mut Panel) -> Result<Option<Ending>, OutOfMemory> {
+fn advance(frames: &mut Frames, panel: &mut Panel) -> Result<Option<FramesEnding>, OutOfMemory> {
     match frames.advance(panel)? {
-        Advanced::Fixed(_) => Ok(Some(Ending::Never(frames.frontier()))),
+        Advanced::Fixed(_) => Ok(Some(FramesEnding::Never(frames.frontier()))),
         Advanced::Further => Ok(None),
     }
 }
 
 // Clears and advances up to a depth.
-fn explore(alloc: Global, frames: &mut Frames, bad: ClauseList) -> Result<Ending, OutOfMemory> {
+fn explore(
+    alloc: Global,
+    frames: &mut Frames,
+    bad: ClauseList,
+) -> Result<FramesEnding, OutOfMemory> {
     let mut panel = Panel::new(Vec::new(alloc));
     if !frames.can_clear(&bad) {
-        return Ok(Ending::Open);
+        return Ok(FramesEnding::Open);
     }
     frames.ask_about(bad, &mut panel)?;
     for _ in 0..10 {
@@ -182,13 +186,13 @@ fn explore(alloc: Global, frames: &mut Frames, bad: ClauseList) -> Result<Ending
             return Ok(ending);
         }
     }
-    Ok(Ending::Open)
+    Ok(FramesEnding::Open)
 }
 
 // How the search through the frames of a system ends.
-fn explored(alloc: Global, system: System, bad: ClauseList) -> Result<Ending, OutOfMemory> {
+fn explored(alloc: Global, system: System, bad: ClauseList) -> Result<FramesEnding, OutOfMemory> {
     if !can_frame(&system) {
-        return Ok(Ending::Open);
+        return Ok(FramesEnding::Open);
     }
     let mut frames = Frames::new(alloc, system)?;
     explore(alloc, &mut frames, bad)
@@ -203,12 +207,12 @@ fn ends(
 ) -> Result<bool, OutOfMemory> {
     let (bits, inputs) = (system.state_bits, system.input_bits);
     match explored(alloc, system, bad)? {
-        Ending::Reached(path) => {
+        FramesEnding::Reached(path) => {
             let copy = path.copy()?;
             Ok(copy.len() == path.len() && has_numbers(&path, bits, inputs, wanted.path))
         }
-        Ending::Never(frontier) => Ok(wanted.path.is_empty() && frontier <= wanted.most),
-        Ending::Open => Ok(false),
+        FramesEnding::Never(frontier) => Ok(wanted.path.is_empty() && frontier <= wanted.most),
+        FramesEnding::Open => Ok(false),
     }
 }
 

@@ -12,13 +12,13 @@ use std::test::Fail;
 // Picks no literal, but tells by its picks what it heard: the mix of all literals, and one more for each
 // clause.
 #[derive(Drop)]
-struct Hearing {
+struct HearingLessons {
     told: u64,
     asked: u64,
     mix: u64,
 }
 
-impl Adviser for Hearing {
+impl Adviser for HearingLessons {
     ghost told = { λ h. h.told };
 
     ghost asked = { λ h. h.asked };
@@ -58,7 +58,7 @@ fn mixed(mix: u64, lits: &[Lit]) -> u64 {
 // A panel of one adviser, which heard nothing.
 fn panel_of_hearing(alloc: Global) -> Result<Panel, OutOfMemory> {
     let mut advisers: Vec<Box<dyn Adviser>> = Vec::new(alloc);
-    let hearing = Hearing {
+    let hearing = HearingLessons {
         told: 0,
         asked: 0,
         mix: 0,

@@ -24,12 +24,12 @@ use std::test::Fail;
 
 // Picks no literal, but tells by its picks how often it was asked and told.
 #[derive(Drop)]
-struct Counting {
+struct CountingSearch {
     asked: u64,
     told: u64,
 }
 
-impl Adviser for Counting {
+impl Adviser for CountingSearch {
     ghost told = { λ c. c.told };
 
     ghost asked = { λ c. c.asked };
@@ -239,7 +239,7 @@ fn ends(alloc: Global, panel: &mut Panel) -> Result<(usize, usize), OutOfMemory>
 // A panel of an adviser that counts and one that answers the variables in order.
 fn panel_of_two(alloc: Global) -> Result<Panel, OutOfMemory> {
     let mut advisers: Vec<Box<dyn Adviser>> = Vec::new(alloc);
-    advisers.push(Box::new(alloc, Counting { asked: 0, told: 0 })?)?;
+    advisers.push(Box::new(alloc, CountingSearch { asked: 0, told: 0 })?)?;
     add_in_order(alloc, &mut advisers)?;
     Ok(Panel::new(advisers))
 }

@@ -1,5 +1,4 @@
 //! The model of eight stages, the instructions and the top event, as they are printed.
-
 use fault_generator::{generated_instructions, generated_model, generated_top};
 use fault_instructions::print_instructions;
 use smv_language::{print_expr, print_program};
@@ -7,7 +6,9 @@ use std::alloc::Global;
 
 /// Of number 1, stages 1, 2 and 7 are on rail A, and the others on rail B.
 const EIGHT_STAGES: &[u8] =
-    b"MODULE Relay(feed)\nVAR\n  out : boolean;\nASSIGN\n  out := feed;\nMODULE main\nVAR\n  r1 : Relay(TRUE);\n  r2 : Relay(r1.out);\n  r3 : Relay(TRUE);\n  r4 : Relay(r3.out);\n  r5 : Relay(r4.out);\n  r6 : Relay(r5.out);\n  r7 : Relay(r2.out);\n  r8 : Relay(r6.out);\nDEFINE\n  dead := ((!r7.out) & (!r8.out));\n";
+    b"MODULE Relay(feed)\nVAR\n  out : boolean;\nASSIGN\n  out := feed;\nMODULE main\nVAR\n  r1 : Relay(TRUE);\n  r2 : Relay(r1.out);\n  \
+        r3 : Relay(TRUE);\n  r4 : Relay(r3.out);\n  r5 : Relay(r4.out);\n  r6 : Relay(r5.out);\n  r7 : Relay(r2.out);\n  r8 : \
+        Relay(r6.out);\nDEFINE\n  dead := ((!r7.out) & (!r8.out));\n";
 
 const FAULTS: &[u8] =
     b"EXTENSION OF MODULE Relay\n  SLICE R AFFECTS out WITH\n    MODE off : Permanent StuckAt(FALSE);\n";

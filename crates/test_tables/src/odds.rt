@@ -1,5 +1,4 @@
 //! The bounds of two sets, and their sum.
-
 use base_values::{FaultSet, SetList};
 use fault_odds::{OddsList, bound, print_odds};
 use std::test::Fail;

@@ -1,5 +1,4 @@
 //! The table of two columns over two faults.
-
 ghost use Rattle.std.specs.Prelude.{◌≡◌, [], ◌∷◌, IfOk};
 
 use base_values::{Ending, FaultSet, OutOfMemory, SetList};

@@ -17,16 +17,16 @@ use Rattle.cut_search_laws.specs.Problem.{problem_of}
 use Rattle.cut_search.specs.Answer.{IsEnd}
 use Rattle.cut_search.specs.declared.answer.End.{End}
 use Rattle.cut_search.specs.declared.answer.End.TheVariants.{Complete, Bounded}
-use Rattle.cut_report_laws.specs.Answered.{ending_of}
+use Rattle.cut_report_laws.specs.SearchAnswer.{ending_of}
 use Rattle.cert_laws.specs.Certificate.{Certificate}
 use Rattle.fault_cause_laws.specs.Causes.{CommonCause}
-use Rattle.fault_cause_laws.specs.Staged.{with_causes, events_of}
+use Rattle.fault_cause_laws.specs.StagedModel.{with_causes, events_of}
 use Rattle.fault_cause_laws.specs.KindLaws.{AreOfKinds, IsShortCause}
 use Rattle.fault_cause_laws.proofs.StagedKinds.{staged_size_alone}
 use Rattle.fault_causes_reader.specs.declared.fault.CauseFault.{CauseFault}
 use Rattle.fault_causes_reader.specs.declared.fault.CauseFault.TheVariants as cause_fault
-use Rattle.fault_causes_reader.specs.Broken.{rule_of}
-use Rattle.fault_causes_reader.specs.Read.{AreRead, FaultSays}
+use Rattle.fault_causes_reader.specs.BrokenRules.{rule_of}
+use Rattle.fault_causes_reader.specs.CausesFile.{AreRead, FaultSays}
 use Rattle.verb_loading.specs.declared.loaded.LoadedCase.{LoadedCase}
 use Rattle.verb_loading.specs.declared.status.InputFault.{InputFault}
 use Rattle.verb_loading.specs.declared.status.Refusal.{Refusal}
@@ -40,9 +40,9 @@ use Rattle.verb_loading.specs.Wholes.{BreaksKinds}
 use Rattle.verb_loading.specs.Inputs.{RefusesModel, HoldsModel, RefusesFaults}
 use Rattle.verb_loading.specs.Cases.{Case, extension_of, HoldsCase, IsTopWord, IsWrongWord}
 use Rattle.verb_loading.specs.Tasks.{HasAtMost}
-use Rattle.verb_loading.specs.Loaded.{case_of, IsLoaded}
+use Rattle.verb_loading.specs.LoadedCases.{case_of, IsLoaded}
 use Rattle.verb_loading.specs.LoadedEvents.{case_in}
-use Rattle.verb_loading.specs.Answered.{told_maybe, Told, Said}
+use Rattle.verb_loading.specs.CaseAnswers.{told_maybe, Told, Said}
 use Rattle.cert_file.specs.CertificateFiles.{RefusesCertificate, HoldsCertificate}
 use Rattle.verb_loading.proofs.SaidLaws.{says_in_part}
 use Rattle.cut_model_search.proofs.CaseKinds.{case_kinds, size_told}

@@ -8,19 +8,19 @@ use Rattle.smv_language.specs.ModelTree.{flat_tree}
 use Rattle.smv_language.specs.Flat.{FlatLeaf, FlatModel}
 use Rattle.smv_flat_laws.specs.FlatTrace.{IsFlatTrace}
 use Rattle.smv_flat_laws.specs.History.{Mode, with_history}
-use Rattle.smv_type_laws.specs.Judged.{too_large}
+use Rattle.smv_type_laws.specs.ExpressionKinds.{too_large}
 use Rattle.smv_type_laws.proofs.Typed.{typed_has_none}
 use Rattle.sat_encoding_laws.specs.FlatTraces.{ReachesTop, HasFailedNumber}
 use Rattle.fault_weave.specs.Faults.{Fault}
-use Rattle.cut_text_laws.specs.Given.{GivesTrace}
+use Rattle.cut_text_laws.specs.TraceOfText.{GivesTrace}
 use Rattle.cert_laws.specs.Certificate.{Certificate}
-use Rattle.cert_laws.specs.Accepted.{number_of}
+use Rattle.cert_laws.specs.Acceptance.{number_of}
 use Rattle.cert_laws.proofs.Objections.{one_objection}
 use Rattle.cert_laws.specs.Subject.{subject_of}
 use Rattle.fault_cause_laws.specs.Causes.{CommonCause}
-use Rattle.fault_cause_laws.specs.Staged.{with_causes, events_of}
-use Rattle.fault_causes_reader.specs.CausesRead.{IsCauses}
-use Rattle.fault_causes_reader.specs.Read.{AreRead}
+use Rattle.fault_cause_laws.specs.StagedModel.{with_causes, events_of}
+use Rattle.fault_causes_reader.specs.CauseStages.{IsCauses}
+use Rattle.fault_causes_reader.specs.CausesFile.{AreRead}
 use Rattle.fault_causes_reader.proofs.OneReading.{one_reading, one_broken, read_unbroken}
 use Rattle.verb_loading.specs.declared.status.InputFault.{InputFault}
 use Rattle.verb_loading.specs.declared.status.Objection.TheVariants as objection

@@ -28,31 +28,31 @@ use Rattle.fault_extend.specs.WovenFaults.{fault_tree}
 use Rattle.fault_extend.specs.NumberedFaults.{parts_of, AreNumbered}
 use Rattle.fault_extend.specs.declared.faults.WovenFault.{WovenFault}
 use Rattle.cut_text_laws.specs.Laws.{IsNamed}
-use Rattle.cut_text_laws.specs.Given.{GivesTrace}
+use Rattle.cut_text_laws.specs.TraceOfText.{GivesTrace}
 use Rattle.cut_text_laws.proofs.FlatNames.{flat_models_named}
 use Rattle.cut_text_laws.proofs.Named.{named_is_printable}
 use Rattle.cert_laws.specs.Certificate.{Certificate}
-use Rattle.cert_laws.specs.Accepted.{Subject, IsAccepted as Accepts, IsObjection}
+use Rattle.cert_laws.specs.Acceptance.{Subject, IsAccepted as Accepts, IsObjection}
 use Rattle.cert_laws.proofs.Objections.{accepted_has_none}
-use Rattle.cert_laws.specs.Certified.{IsSubjectOf, IsCertified}
+use Rattle.cert_laws.specs.Certification.{IsSubjectOf, IsCertified}
 use Rattle.cert_laws.specs.Subject.{subject_of}
 use Rattle.cert_laws.proofs.Subjects.{subjects_right}
 use Rattle.cert_check.specs.Matter.{matter_of, IsAcceptedIn}
-use Rattle.cert_check.specs.Found.{IsObjectionOf}
+use Rattle.cert_check.specs.SiteFindings.{IsObjectionOf}
 use Rattle.cert_check.specs.Fit.{IsFit, IsCheckable}
 use Rattle.fault_woven_laws.specs.Tops.{IsReadAs, IsTopOf}
 use Rattle.fault_woven_laws.proofs.Fits.{tops_fit}
 use Rattle.fault_cause_laws.specs.Causes.{CommonCause}
 use Rattle.fault_cause_laws.specs.CauseRules.{fault_path}
-use Rattle.fault_cause_laws.specs.Staged.{with_causes, events_of}
+use Rattle.fault_cause_laws.specs.StagedModel.{with_causes, events_of}
 use Rattle.fault_cause_laws.specs.KindLaws.{IsShortCause}
 use Rattle.fault_cause_laws.proofs.ShortCauses.{short_causes}
 use Rattle.fault_staging.specs.declared.cause.Cause.{Cause}
 use Rattle.fault_staging.specs.CauseOf.{cause_of, told_cause}
 use Rattle.fault_causes_reader.specs.FaultPaths.{paths_of}
-use Rattle.fault_causes_reader.specs.Read.{AreNamed as AreFaultNames}
+use Rattle.fault_causes_reader.specs.CausesFile.{AreNamed as AreFaultNames}
 use Rattle.cut_reach_laws.specs.CausedLaws.{CanHaveCauses, IsSearchableStaged, AreNamed}
-use Rattle.cut_reach_laws.specs.Shown.{IsCausedAnalysis}
+use Rattle.cut_reach_laws.specs.CausedAnalyses.{IsCausedAnalysis}
 use Rattle.cut_reach_laws.proofs.Events.{caused_searchable}
 use Rattle.cut_reach_laws.proofs.Loaded.{state_modes, history_inputs, staged_symbols}
 use Rattle.cut_reach_laws.proofs.NamedLaws.{caused_named, spelled_words}
@@ -62,7 +62,7 @@ use Rattle.verb_loading.specs.declared.loaded.LoadedCase.{LoadedCase}
 use Rattle.verb_loading.specs.declared.status.Objection.TheVariants as objection
 use Rattle.verb_loading.specs.declared.status.Refusal.TheVariants as refusal
 use Rattle.verb_loading.specs.Cases.{Case, extension_of}
-use Rattle.verb_loading.specs.Loaded.{case_of, IsLoaded}
+use Rattle.verb_loading.specs.LoadedCases.{case_of, IsLoaded}
 use Rattle.cut_model_search.specs.Searches.{IsSearched}
 use Rattle.cut_model_search.proofs.Analysable.{model_of_case, case_searchable}
 use Rattle.verb_loading.proofs.FlatLimits.{flat_typed}

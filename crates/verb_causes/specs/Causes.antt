@@ -15,41 +15,41 @@ use Rattle.sat_encoding_laws.specs.FlatTraces.{ReachesTop, HasFailedNumber}
 use Rattle.smv_type_laws.specs.Models.{IsTyped}
 use Rattle.fault_weave.specs.Faults.{Fault}
 use Rattle.fault_extend.specs.WovenFaults.{fault_tree}
-use Rattle.cut_text_laws.specs.Given.{GivesTrace}
+use Rattle.cut_text_laws.specs.TraceOfText.{GivesTrace}
 use Rattle.cert_laws.specs.Certificate.{Certificate}
-use Rattle.cert_laws.specs.Accepted.{Rule, IsObjection}
+use Rattle.cert_laws.specs.Acceptance.{Rule, IsObjection}
 use Rattle.cert_laws.specs.Subject.{subject_of}
 use Rattle.cut_search.specs.declared.answer.Analysis.{Analysis as Searched}
-use Rattle.cut_report_laws.specs.Answered.{ending_of}
+use Rattle.cut_report_laws.specs.SearchAnswer.{ending_of}
 use Rattle.cut_text_laws.specs.AnalysisText.{size_line, analysis_text}
-use Rattle.cut_report.specs.Analysed.{told_analysis}
+use Rattle.cut_report.specs.AnalysisView.{told_analysis}
 use Rattle.cut_text_laws.specs.Analysis.{told_ending}
 use Rattle.cut_report.specs.FaultText.{faults_text}
 use Rattle.smv_type_laws.specs.Costs.{state_bits}
 use Rattle.fault_cause_laws.specs.Causes.{CommonCause}
 use Rattle.fault_cause_laws.specs.CauseRules.{fault_path}
-use Rattle.fault_cause_laws.specs.Staged.{with_causes, events_of}
+use Rattle.fault_cause_laws.specs.StagedModel.{with_causes, events_of}
 use Rattle.fault_staging.specs.CauseOf.{cause_of}
-use Rattle.fault_causes_reader.specs.Read.{AreRead}
+use Rattle.fault_causes_reader.specs.CausesFile.{AreRead}
 use Rattle.cut_reach_laws.specs.CausedLaws.{AreNamed}
-use Rattle.cut_reach_laws.specs.Shown.{CertifiesCauses, IsCausedAnalysis}
+use Rattle.cut_reach_laws.specs.CausedAnalyses.{CertifiesCauses, IsCausedAnalysis}
 use Rattle.verb_loading.specs.declared.loaded.LoadedCase.{LoadedCase}
 use Rattle.verb_loading.specs.declared.status.InputFault.{InputFault}
 use Rattle.verb_loading.specs.declared.wrong.Wrong.{Wrong}
 use Rattle.verb_loading.specs.declared.wrong.Wrong.TheVariants as wrong
 use Rattle.verb_loading.specs.Cases.{Case, extension_of, HoldsCase, IsTopWord}
 use Rattle.verb_loading.specs.Tasks.{HasAtMost}
-use Rattle.verb_loading.specs.Loaded.{IsLoaded}
+use Rattle.verb_loading.specs.LoadedCases.{IsLoaded}
 use Rattle.verb_loading.specs.Models.{IsLawful}
 use Rattle.verb_loading.specs.LoadedEvents.{case_in, IsEvent}
 use Rattle.cut_model_search.specs.Searches.{IsSearched, HasCertificate}
-use Rattle.verb_loading.specs.Answered.{told_maybe, Told, Said}
+use Rattle.verb_loading.specs.CaseAnswers.{told_maybe, Told, Said}
 use Rattle.cert_file.specs.CertificateFiles.{HoldsCertificate}
 use Rattle.verb_loading.specs.declared.status.Part.TheVariants as part
 use Rattle.verb_loading.specs.declared.status.Refusal.TheVariants as refusal
 use Rattle.verb_loading.specs.declared.input.Stop.{Stop}
 use Rattle.verb_loading.specs.declared.input.Stop.TheVariants as stop
-use Rattle.verb_causes.specs.declared.staged.StagedCase.{StagedCase}
+use Rattle.verb_causes.specs.declared.staged.CausesCase.{CausesCase}
 use Rattle.verb_causes.specs.declared.staged.StagedEvent.{StagedEvent}
 use Rattle.cert_file.specs.declared.conclusion.Conclusion.{Conclusion}
 use Rattle.cert_file.specs.Conclusions.{ConcludesInPart}
@@ -86,10 +86,11 @@ abbrev pub AreCausesOf : LoadedCase → List ℕ → List CommonCause → Type 0
 AreCausesOf case bytes causes = AreRead (faults_in case) (extension_in case) bytes causes
 
 -- the file has bytes that spell causes which break no rule of these faults of a woven program, and these are they
-pub record HoldsCauses (files : List NamedFile) (name : Text) (faults : List Fault) (w : ProgramTree) (causes : List CommonCause) : Type 0 where
-  pub bytes : List ℕ
-  pub has : HasAtMost 1048576 files name bytes
-  pub are : AreRead faults w bytes causes
+pub record HoldsCauses (files : List NamedFile) (name : Text) (faults : List Fault) (w : ProgramTree) (causes : List CommonCause) : Type 0
+  where
+    pub bytes : List ℕ
+    pub has : HasAtMost 1048576 files name bytes
+    pub are : AreRead faults w bytes causes
 
 -- the file has causes of the case
 abbrev pub HasCauses : List NamedFile → Text → Case → List CommonCause → Type 0
@@ -113,7 +114,7 @@ abbrev pub AreToldEvents : List Fault → List CommonCause → List Event → Ty
 AreToldEvents faults causes events = map name_of_fault events ≡ map fault_path faults ++ map cause_path causes
 
 -- the extension in memory with its causes, and its events by their names
-pub record IsStagedCase (case : LoadedCase) (l : StagedCase) : Type 0 where
+pub record IsStagedCase (case : LoadedCase) (l : CausesCase) : Type 0 where
   pub staged : IsStagedOf case (map cause_of l.causes) (model_tree l.typed.model) (model_tree l.full.model) (map mode_of l.events)
   pub told : AreToldEvents (faults_in case) (map cause_of l.causes) l.events
 
@@ -139,14 +140,16 @@ pub record IsStagedEvent (l : StagedEvent) : Type 0 where
 abbrev pub BreaksNoLine : FlatModel → List Mode → Tree FlatLeaf → Certificate → Type 0
 BreaksNoLine m es tree a =
     (line : ℕ) (rule : Rule) →
-    IsObjection (List (List Value)) (GivesTrace m) (IsFlatTrace m) (ReachesTop m tree) (HasFailedNumber m es) (subject_of (with_history m es) m es tree) a line rule → ⊥
+    IsObjection (List (List Value)) (GivesTrace m) (IsFlatTrace m) (ReachesTop m tree) (HasFailedNumber m es)
+    (subject_of (with_history m es) m es tree) a line rule → ⊥
 
 -- The certificate shows its sets of events for all caused traces of the case, for the top event that the word spells, and no line of
 -- it breaks a rule.
 pub record CertifiesStaged (l : StagedEvent) (certificate : Certificate) : Type 0 where
   pub event : Formula
   pub is_event : IsTopWord (case_in l.loaded).program l.word.now event
-  pub shows : CertifiesCauses (case_in l.loaded).program (case_in l.loaded).instructions (case_in l.loaded).faults event (case_in l.loaded).flat (case_in l.loaded).modes (causes_in l) certificate
+  pub shows : CertifiesCauses (case_in l.loaded).program (case_in l.loaded).instructions (case_in l.loaded).faults event
+      (case_in l.loaded).flat (case_in l.loaded).modes (causes_in l) certificate
   pub unbroken : BreaksNoLine (staged_in l) (events_in l) (flat_tree l.loaded.top) certificate
 
 -- the file holds a certificate that shows its sets for all caused traces, and this says that it is accepted
@@ -184,7 +187,8 @@ pub record ChecksCausesInPart (files : List NamedFile) (model faults causes top 
 
 -- however a check ended, nothing was said, or that
 abbrev pub LeavesCheck : Text → Text → Text → Text → Text → Told → Said → Said → Type 0
-LeavesCheck model faults causes top cert before said now = (now ≡ said) ⊎ IfSome before (λ files. ChecksCausesInPart files model faults causes top cert said now)
+LeavesCheck model faults causes top cert before said now = (now ≡ said)
+    ⊎ IfSome before (λ files. ChecksCausesInPart files model faults causes top cert said now)
 
 -- What a search of the staged model found: an answer with as many events in a set as there are, which is right for caused traces; its
 -- report; and for a complete one a certificate.
@@ -193,11 +197,13 @@ pub record IsCausesFinding (l : StagedEvent) (depth : ℕ) (f : Conclusion) : Ty
   pub is_event : IsTopWord (case_in l.loaded).program l.word.now event
   pub analysis : Searched
   pub searched : IsSearched (staged_in l) (events_in l) (flat_tree l.loaded.top) depth (length (events_in l)) analysis
-  pub right : IsCausedAnalysis (case_in l.loaded).program (case_in l.loaded).instructions (case_in l.loaded).faults event (case_in l.loaded).flat (case_in l.loaded).modes (causes_in l) (length (events_in l)) analysis
+  pub right : IsCausedAnalysis (case_in l.loaded).program (case_in l.loaded).instructions (case_in l.loaded).faults event
+      (case_in l.loaded).flat (case_in l.loaded).modes (causes_in l) (length (events_in l)) analysis
   pub ends : told_ending f.ending ≡ ending_of analysis.end
   pub certified : HasCertificate (staged_in l) (events_in l) (flat_tree l.loaded.top) l.typed.model.symbols analysis analysis.end f.cert
   pub reported : f.report ≡
-      analysis_text (faults_text (map name_of_fault l.events)) (staged_in l) (state_bits (model_tree l.full.model)) (length l.events) analysis.size
+      analysis_text (faults_text (map name_of_fault l.events)) (staged_in l) (state_bits (model_tree l.full.model)) (length l.events)
+      analysis.size
       (told_analysis l.typed.model.symbols analysis.sets analysis.traces analysis.first f.ending)
 
 -- The files hold a case and causes of it, and the word spells a top event: this was found of them.
@@ -207,7 +213,8 @@ pub record FindsCauses (files : List NamedFile) (model faults causes top : Text)
   pub finding : IsCausesFinding loaded depth f
 
 -- It was written and said.
-pub record HasFoundCauses (files : List NamedFile) (model faults causes top cert : Text) (depth : ℕ) (s : Status) (before after : Told) (said now : Said) : Type 0 where
+pub record HasFoundCauses (files : List NamedFile) (model faults causes top cert : Text) (depth : ℕ) (s : Status) (before after : Told)
+    (said now : Said) : Type 0 where
   pub found : Conclusion
   pub finds : FindsCauses files model faults causes top depth found
   pub ends : s ≡ ended_with (told_ending found.ending)
@@ -215,7 +222,8 @@ pub record HasFoundCauses (files : List NamedFile) (model faults causes top cert
   pub reported : now ≡ said_more said found.report
 
 -- a part of the certificate was written and nothing said, or the whole, and a part of the report said
-pub record FindsCausesInPart (files : List NamedFile) (model faults causes top cert : Text) (depth : ℕ) (before after : Told) (said now : Said) : Type 0 where
+pub record FindsCausesInPart (files : List NamedFile) (model faults causes top cert : Text) (depth : ℕ) (before after : Told)
+    (said now : Said) : Type 0 where
   pub found : Conclusion
   pub finds : FindsCauses files model faults causes top depth found
   pub in_part : ConcludesInPart cert found before after said now
@@ -223,4 +231,5 @@ pub record FindsCausesInPart (files : List NamedFile) (model faults causes top c
 -- and however a run ended, nothing was done, or that stands
 abbrev pub LeavesCauses : Text → Text → Text → Text → Text → ℕ → Told → Told → Said → Said → Type 0
 LeavesCauses model faults causes top cert depth before after said now =
-    ((after ≡ before) × (now ≡ said)) ⊎ IfSome before (λ files. FindsCausesInPart files model faults causes top cert depth before after said now)
+    ((after ≡ before) × (now ≡ said))
+    ⊎ IfSome before (λ files. FindsCausesInPart files model faults causes top cert depth before after said now)

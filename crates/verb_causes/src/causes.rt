@@ -4,17 +4,18 @@
 ghost use Rattle.std.specs.Prelude.{◌≡◌, ◌<◌, ◌≤◌, ◌^◌, ℕ, length, map, IfOk, IsOk, OnOk, IfSome, IsErrOf};
 ghost use Rattle.base_files.specs.Desk.{Rose};
 ghost use Rattle.smv_language.specs.ModelTree.{flat_tree};
-ghost use Rattle.cert_text.specs.Seen.{seen};
+ghost use Rattle.cert_text.specs.CertificateView.{seen};
 ghost use Rattle.cert_check.specs.Fit.{IsCheckable};
 ghost use Rattle.cut_search.specs.declared.answer.End.TheVariants as ends;
 ghost use Rattle.cut_text_laws.specs.Analysis.{told_ending};
-ghost use Rattle.smv_language.specs.Told.{told_trace};
-ghost use Rattle.cut_model_search.specs.Found.{IsCertificateFor};
+ghost use Rattle.smv_language.specs.NumberedValues.{told_trace};
+ghost use Rattle.cut_model_search.specs.CaseAnalysis.{IsCertificateFor};
 ghost use Rattle.cut_model_search.specs.Searches.{IsSearched, HasCertificate};
 ghost use Rattle.verb_loading.specs.declared.status.Refusal.{Refusal};
 ghost use Rattle.verb_loading.specs.declared.input.Stop.TheVariants as stop;
 ghost use Rattle.verb_loading.specs.Statuses.{ended_with, IsBoundedAt, IsFinished};
-ghost use Rattle.verb_causes.specs.Causes.{staged_in, events_in, IsStagedEvent, CertifiesStaged, AcceptsStaged, AcceptsCauses, HasCheckedCauses, LeavesCheck, IsCausesFinding, FindsCauses, HasFoundCauses, LeavesCauses};
+ghost use Rattle.verb_causes.specs.Causes.{staged_in, events_in, IsStagedEvent, CertifiesStaged, AcceptsStaged, AcceptsCauses};
+ghost use Rattle.verb_causes.specs.Causes.{HasCheckedCauses, LeavesCheck, IsCausesFinding, FindsCauses, HasFoundCauses, LeavesCauses};
 ghost use Rattle.verb_causes.specs.Refusals.{RefusesStaged, BreaksLine, RefusesJudged, RefusesCauseCheck};
 
 use crate::staged::{StagedEvent, discard, load_staged};
@@ -47,15 +48,18 @@ pub fn find_causes<D: Desk>(
 ) -> Result<Status, Stop>
     requires { asked.now.depth ≤ 1000000000 }
     ensures ok { IfOk result (λ s. IfSome (D.files desk.old) (λ files.
-        HasFoundCauses files asked.now.model.now asked.now.faults.now asked.now.causes.now asked.now.top.now asked.now.cert.now asked.now.depth s
+        HasFoundCauses files asked.now.model.now asked.now.faults.now asked.now.causes.now asked.now.top.now asked.now.cert.now
+        asked.now.depth s
         (D.files desk.old) (D.files desk.new) (D.said desk.old) (D.said desk.new))) }
     ensures finished { IfOk result IsFinished }
     ensures depth { IfOk result (IsBoundedAt asked.now.depth) }
     ensures refused { (r : Refusal) → IsErrOf result (stop.Refused r) →
-        IfSome (D.files desk.old) (λ files. RefusesStaged files asked.now.model.now asked.now.faults.now asked.now.causes.now asked.now.top.now r) }
+        IfSome (D.files desk.old)
+        (λ files. RefusesStaged files asked.now.model.now asked.now.faults.now asked.now.causes.now asked.now.top.now r) }
     ensures untouched { (r : Refusal) → IsErrOf result (stop.Refused r) →
         (D.files desk.new ≡ D.files desk.old) × (D.said desk.new ≡ D.said desk.old) }
-    ensures left { LeavesCauses asked.now.model.now asked.now.faults.now asked.now.causes.now asked.now.top.now asked.now.cert.now asked.now.depth
+    ensures left { LeavesCauses asked.now.model.now asked.now.faults.now asked.now.causes.now asked.now.top.now asked.now.cert.now
+        asked.now.depth
         (D.files desk.old) (D.files desk.new) (D.said desk.old) (D.said desk.new) }
     ensures failed { IsErrOf result stop.Desk → Rose (D.faults desk.old) (D.faults desk.new) }
     ensures later { D.faults desk.old ≤ D.faults desk.new }
@@ -78,7 +82,9 @@ pub fn check_causes<D: Desk>(
     ensures ends { IfOk result (λ s. s ≡ Status.Done) }
     ensures finished { IfOk result IsFinished }
     ensures refused { (r : Refusal) → IsErrOf result (stop.Refused r) →
-        IfSome (D.files desk.old) (λ files. RefusesCauseCheck files asked.now.model.now asked.now.faults.now asked.now.causes.now asked.now.top.now asked.now.cert.now r) }
+        IfSome (D.files desk.old)
+        (λ files. RefusesCauseCheck files asked.now.model.now asked.now.faults.now asked.now.causes.now asked.now.top.now
+        asked.now.cert.now r) }
     ensures untouched { (r : Refusal) → IsErrOf result (stop.Refused r) →
         (D.files desk.new ≡ D.files desk.old) × (D.said desk.new ≡ D.said desk.old) }
     ensures left { LeavesCheck asked.now.model.now asked.now.faults.now asked.now.causes.now asked.now.top.now asked.now.cert.now
@@ -104,7 +110,8 @@ fn prepare_causes<D: Desk>(
         FindsCauses files asked.now.model.now asked.now.faults.now asked.now.causes.now asked.now.top.now asked.now.depth found)) }
     ensures depth { IfOk result (λ found. IsBoundedAt asked.now.depth (ended_with (told_ending found.ending))) }
     ensures refused { (r : Refusal) → IsErrOf result (stop.Refused r) →
-        IfSome (D.files desk.old) (λ files. RefusesStaged files asked.now.model.now asked.now.faults.now asked.now.causes.now asked.now.top.now r) }
+        IfSome (D.files desk.old)
+        (λ files. RefusesStaged files asked.now.model.now asked.now.faults.now asked.now.causes.now asked.now.top.now r) }
     ensures failed { IsErrOf result stop.Desk → Rose (D.faults desk.old) (D.faults desk.new) }
     ensures files { D.files desk.new ≡ D.files desk.old }
     ensures said { D.said desk.new ≡ D.said desk.old }
@@ -136,7 +143,9 @@ fn prepare_check<D: Desk>(
     ensures ok { IfOk result (λ report. IfSome (D.files desk.old) (λ files.
         AcceptsCauses files asked.now.model.now asked.now.faults.now asked.now.causes.now asked.now.top.now asked.now.cert.now report)) }
     ensures refused { (r : Refusal) → IsErrOf result (stop.Refused r) →
-        IfSome (D.files desk.old) (λ files. RefusesCauseCheck files asked.now.model.now asked.now.faults.now asked.now.causes.now asked.now.top.now asked.now.cert.now r) }
+        IfSome (D.files desk.old)
+        (λ files. RefusesCauseCheck files asked.now.model.now asked.now.faults.now asked.now.causes.now asked.now.top.now
+        asked.now.cert.now r) }
     ensures failed { IsErrOf result stop.Desk → Rose (D.faults desk.old) (D.faults desk.new) }
     ensures files { D.files desk.new ≡ D.files desk.old }
     ensures said { D.said desk.new ≡ D.said desk.old }
@@ -166,7 +175,8 @@ fn judge_file<D: Desk>(
     requires { IsStagedEvent staged.now }
     ensures ok { IfOk result (λ report. IfSome (D.files desk.old) (λ files. AcceptsStaged files staged.now name.now report)) }
     ensures refused { (r : Refusal) → IsErrOf result (stop.Refused r) →
-        IfSome (D.files desk.old) (λ files. RefusesJudged files (staged_in staged.now) (events_in staged.now) (flat_tree staged.now.loaded.top) name.now r) }
+        IfSome (D.files desk.old)
+        (λ files. RefusesJudged files (staged_in staged.now) (events_in staged.now) (flat_tree staged.now.loaded.top) name.now r) }
     ensures failed { IsErrOf result stop.Desk → Rose (D.faults desk.old) (D.faults desk.new) }
     ensures files { D.files desk.new ≡ D.files desk.old }
     ensures said { D.said desk.new ≡ D.said desk.old }

@@ -9,16 +9,18 @@ ghost use Rattle.verb_loading.specs.Tasks.{HasAtMost};
 ghost use Rattle.verb_loading.specs.Wrongs.{IfRefused};
 ghost use Rattle.verb_loading.specs.LoadedEvents.{case_in};
 ghost use Rattle.verb_loading.specs.Models.{IsLawful};
-ghost use Rattle.verb_loading.specs.Loaded.{case_of, IsLoaded, IsTopIn};
+ghost use Rattle.verb_loading.specs.LoadedCases.{case_of, IsLoaded, IsTopIn};
 ghost use Rattle.smv_language.specs.ProgramTree.{Text, program_tree};
 ghost use Rattle.smv_language.specs.ModelTree.{model_tree, flat_tree};
-ghost use Rattle.fault_causes_reader.specs.Broken.{rule_of};
+ghost use Rattle.fault_causes_reader.specs.BrokenRules.{rule_of};
 ghost use Rattle.verb_loading.specs.declared.status.Refusal.{Refusal};
 ghost use Rattle.verb_loading.specs.declared.status.Refusal.TheVariants as refusal;
 ghost use Rattle.verb_loading.specs.declared.status.InputFault.{InputFault};
 ghost use Rattle.verb_loading.specs.declared.input.Stop.TheVariants as stop;
-ghost use Rattle.verb_causes.specs.Causes.{stop_at_causes, flat_in, modes_in, faults_in, extension_in, IsSomeCase, AreCausesOf, HoldsCauses, HasCauses, IsStagedCase, IsStagedEvent};
-ghost use Rattle.verb_causes.specs.Refusals.{cause_number, stop_of_causes, IsRefusedCausesFile, BreaksStaged, RefusesBytes, RefusesCauses, RefusesStaged};
+ghost use Rattle.verb_causes.specs.Causes.{stop_at_causes, flat_in, modes_in, faults_in, extension_in, IsSomeCase, AreCausesOf};
+ghost use Rattle.verb_causes.specs.Causes.{HoldsCauses, HasCauses, IsStagedCase, IsStagedEvent};
+ghost use Rattle.verb_causes.specs.Refusals.{cause_number, stop_of_causes, IsRefusedCausesFile, BreaksStaged, RefusesBytes, RefusesCauses};
+ghost use Rattle.verb_causes.specs.Refusals.{RefusesStaged};
 
 use base_files::{Desk, DeskFault, read_whole};
 use fault_causes_reader::{CauseFault, CauseRule, read_causes};
@@ -56,7 +58,7 @@ pub struct StagedEvent<'a> {
 /// An extension with common causes: these, the staged model without and with a history bit for each event, and the
 /// events.
 #[derive(Drop)]
-pub struct StagedCase {
+pub struct CausesCase {
     pub causes: CauseList,
     pub typed: Typed,
     pub full: Typed,
@@ -66,7 +68,7 @@ pub struct StagedCase {
 /// An extension with common causes, and a top event over the extension.
 #[derive(Drop)]
 struct StagedTop {
-    staged: StagedCase,
+    staged: CausesCase,
     top: Expr<Flat>,
 }
 
@@ -80,7 +82,8 @@ pub(crate) fn load_staged<'a, D: Desk>(
     word: &'a str,
 ) -> Result<StagedEvent<'a>, Stop>
     ensures case { IfOk result (λ l. IfSome (D.files desk.old) (λ files. HoldsCase files model.now faults.now (case_in l.loaded))) }
-    ensures causes { IfOk result (λ l. IfSome (D.files desk.old) (λ files. HasCauses files causes.now (case_in l.loaded) (map cause_of l.causes))) }
+    ensures causes { IfOk result
+        (λ l. IfSome (D.files desk.old) (λ files. HasCauses files causes.now (case_in l.loaded) (map cause_of l.causes))) }
     ensures asked { IfOk result (λ l. l.word.now ≡ word.now) }
     ensures staged { IfOk result IsStagedEvent }
     ensures refused { (r : Refusal) → IsErrOf result (stop.Refused r) →
@@ -95,7 +98,7 @@ pub(crate) fn load_staged<'a, D: Desk>(
     let case = load_case(alloc, desk, faults, &model)?;
     let found = load_causes_and_top(alloc, desk, causes, word, &model, &case)?;
     let StagedTop { staged, top } = found;
-    let StagedCase {
+    let CausesCase {
         causes,
         typed,
         full,
@@ -149,7 +152,7 @@ fn load_causes_and_top<D: Desk>(
 }
 
 /// Lets go of an extension with common causes.
-fn discard_case(_staged: StagedCase) {}
+fn discard_case(_staged: CausesCase) {}
 
 /// The extension with the causes of a file.
 fn load_causes<D: Desk>(
@@ -157,13 +160,15 @@ fn load_causes<D: Desk>(
     desk: &mut D,
     name: &str,
     case: &LoadedCase,
-) -> Result<StagedCase, Stop>
+) -> Result<CausesCase, Stop>
     requires { IsSomeCase case.now }
     ensures ok { IfOk result (λ l. IfSome (D.files desk.old) (λ files.
         HoldsCauses files name.now (faults_in case.now) (extension_in case.now) (map cause_of l.causes))) }
     ensures staged { IfOk result (IsStagedCase case.now) }
     ensures refused { (r : Refusal) → IsErrOf result (stop.Refused r) →
-        IfSome (D.files desk.old) (λ files. RefusesCauses files name.now (faults_in case.now) (extension_in case.now) (flat_in case.now) (modes_in case.now) r) }
+        IfSome (D.files desk.old)
+        (λ files. RefusesCauses files name.now (faults_in case.now) (extension_in case.now) (flat_in case.now) (modes_in case.now)
+        r) }
     ensures failed { IsErrOf result stop.Desk → Rose (D.faults desk.old) (D.faults desk.new) }
     ensures files { D.files desk.new ≡ D.files desk.old }
     ensures said { D.said desk.new ≡ D.said desk.old }
@@ -216,7 +221,7 @@ fn causes_of(alloc: Global, bytes: &[u8], case: &LoadedCase) -> Result<CauseList
 }
 
 /// The extension with causes, where it passes no limit.
-fn staged_of(alloc: Global, case: &LoadedCase, causes: CauseList) -> Result<StagedCase, Wrong>
+fn staged_of(alloc: Global, case: &LoadedCase, causes: CauseList) -> Result<CausesCase, Wrong>
     requires case { IsSomeCase case.now }
     requires causes { (bytes : List ℕ) × AreCausesOf case.now bytes (map cause_of causes) }
     ensures staged { IfOk result (IsStagedCase case.now) }
@@ -228,7 +233,7 @@ fn staged_of(alloc: Global, case: &LoadedCase, causes: CauseList) -> Result<Stag
     let whole = with_history(alloc, &staged.model, &staged.events)?;
     let full = typed_whole(alloc, whole)?;
     let typed = typed_whole(alloc, staged.model)?;
-    Ok(StagedCase {
+    Ok(CausesCase {
         causes,
         typed,
         full,

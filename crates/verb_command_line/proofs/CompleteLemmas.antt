@@ -3,21 +3,21 @@ use Rattle.std.proofs.Common.{◌≡◌, ◌≢◌, inl, inr, ℕ, ◌+◌, ◌&
 use Rattle.std.specs.Str.{bytes_eq}
 use Rattle.std.proofs.lemmas.List.{append-nil}
 use Rattle.std.proofs.lemmas.Bool.{and_parts, and_from, or_left, or_right}
-use Rattle.verb_command_line.specs.declared.choice.Kind.{Kind}
+use Rattle.verb_command_line.specs.declared.choice.OptionKind.{OptionKind}
 use Rattle.verb_command_line.specs.declared.fault.WordFault.{WordFault}
 use Rattle.verb_command_line.specs.declared.fault.WordFault.TheVariants as fault
 use Rattle.verb_command_line.specs.Commands.{Text, Given, spread}
 use Rattle.verb_command_line.specs.Table.{Choice, kind_in, Fits}
 use Rattle.verb_command_line.specs.Meaning.{Each, Gives, IsNotGiven, IsLawful, AreLawful, IsThere, AreThere, IsFile, SameFile, AreDifferent, option_place, BreaksOption, unknown_option, comes_twice, no_value, bad_number, missing, same_name}
-use Rattle.verb_command_line.specs.Reading.{fits, pairs_of, value_in, first_of, fault_by, fault_here, pair_fault, missing_by, missing_from, is_file_of, is_file_in, has_file, same_here, same_from, option_fault}
-use Rattle.verb_command_line.specs.Seen.{rule_of, place_of}
+use Rattle.verb_command_line.specs.WordReading.{fits, pairs_of, value_in, first_of, fault_by, fault_here, pair_fault, missing_by, missing_from, is_file_of, is_file_in, has_file, same_here, same_from, option_fault}
+use Rattle.verb_command_line.specs.CommandView.{rule_of, place_of}
 use Rattle.verb_command_line.proofs.ListLemmas.{same_bytes, Each-back, EachTwo-at, is_false}
 use Rattle.verb_command_line.proofs.FitLemmas.{fits-Fits, Fits-fits}
 use Rattle.verb_command_line.proofs.PairLemmas.{pairs_of-spread, not-none, given-some}
 use Rattle.verb_command_line.proofs.SoundLemmas.{next_of, has_sound, file_sound}
 
 -- An option that fits is no fault.
-here_clear : (options : List Choice) (before : List Given) (option value : Text) (k : Kind) → kind_in options option ≡ Some k → Fits k value → IsNotGiven before option →
+here_clear : (options : List Choice) (before : List Given) (option value : Text) (k : OptionKind) → kind_in options option ≡ Some k → Fits k value → IsNotGiven before option →
     fault_here options before option (Some value) ≡ None
 here_clear options before option value k known fit new =
     ap (λ o. fault_by o (value_in before option) (Some value) (option_place before)) known

@@ -4,14 +4,14 @@ use Rattle.std.specs.Prelude.{nat_eq}
 use Rattle.std.proofs.lemmas.Bool.Decides.{nat_tests}
 use Rattle.std.proofs.lemmas.List.{append-nil}
 use Rattle.std.proofs.lemmas.Bool.{false≢true, and_parts, and_from, or_cases, or_left, or_right}
-use Rattle.verb_command_line.specs.declared.choice.Kind.TheVariants as kind
+use Rattle.verb_command_line.specs.declared.choice.OptionKind.TheVariants as kind
 use Rattle.verb_command_line.specs.declared.fault.WordFault.{WordFault}
 use Rattle.verb_command_line.specs.declared.fault.WordFault.TheVariants as fault
 use Rattle.verb_command_line.specs.Commands.{Text, Given}
 use Rattle.verb_command_line.specs.Sets.{Each, number_of, IsNumeral, words_of, IsSet}
 use Rattle.verb_command_line.specs.Table.{Choice, kind_in, IsWithin, Fits, options_of}
 use Rattle.verb_command_line.specs.Meaning.{Gives, IsGiven, IsLawful, AreLawful, AreThere, option_place, IsOneOf, IsOfPair, IsOutside, not_of_set, both_one, IsInside, AreInside}
-use Rattle.verb_command_line.specs.Reading.{number_in, value_in, text_in, first_of, same_number, has_number, is_second, is_of_pair, is_outside, outside_here, outside_from, set_fault_by, set_fault}
+use Rattle.verb_command_line.specs.WordReading.{number_in, value_in, text_in, first_of, same_number, has_number, is_second, is_of_pair, is_outside, outside_here, outside_from, set_fault_by, set_fault}
 use Rattle.verb_command_line.proofs.ListLemmas.{bytes_same, same_bytes, Each-append, is_false}
 use Rattle.verb_command_line.proofs.NumberLemmas.{numbered, true-is_numeral}
 use Rattle.verb_command_line.proofs.PairLemmas.{value-given, given-value}

@@ -7,7 +7,7 @@ use Rattle.verb_command_line.specs.declared.fault.WordFault.TheVariants as fault
 use Rattle.verb_command_line.specs.Commands.{Text, Given, spread}
 use Rattle.verb_command_line.specs.Table.{Choice, kind_in}
 use Rattle.verb_command_line.specs.Meaning.{Each, EachTwo, IsLawful, AreLawful}
-use Rattle.verb_command_line.specs.Reading.{pairs_of, value_in, first_of, fault_by, fault_here, pair_fault, is_file_in, has_file, same_here, same_from}
+use Rattle.verb_command_line.specs.WordReading.{pairs_of, value_in, first_of, fault_by, fault_here, pair_fault, is_file_in, has_file, same_here, same_from}
 use Rattle.verb_command_line.proofs.ListLemmas.{bytes_same}
 use Rattle.verb_command_line.proofs.PairLemmas.{pairs_of-spread}
 use Rattle.verb_command_line.proofs.SoundLemmas.{passed, lawful_none, lawful_more, spread_push, pairs_sound}

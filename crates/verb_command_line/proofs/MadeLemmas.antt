@@ -5,7 +5,7 @@ use Rattle.verb_command_line.specs.declared.verb.Verb.TheVariants as verb
 use Rattle.verb_command_line.specs.Commands.{Command, Given}
 use Rattle.verb_command_line.specs.Table.{options_of}
 use Rattle.verb_command_line.specs.Meaning.{AreLawful, AreThere, Makes, extends, replays, analyses, checks, tabulates, generates, finds_causes, checks_causes, finds_orders, checks_orders, finds_odds}
-use Rattle.verb_command_line.specs.Reading.{text_in, small_number_at, number_at, made}
+use Rattle.verb_command_line.specs.WordReading.{text_in, small_number_at, number_at, made}
 use Rattle.verb_command_line.proofs.ValueLemmas.{text_given, text_is, number_given, number_is, may_given, may_is, deep, sized}
 
 -- the limits have 32 bits

@@ -8,7 +8,7 @@ use Rattle.std.proofs.lemmas.Bool.{false≢true, and_parts, and_from, ltb-true, 
 use Rattle.std.proofs.lemmas.Str.Parse.{IsNumeralModel, numerals_by_weight, digits_value_short, parse_gives}
 use Rattle.verb_command_line.specs.Sets.{number_of, IsNumeral}
 use Rattle.verb_command_line.specs.Table.{IsWithin}
-use Rattle.verb_command_line.specs.Reading.{is_numeral, number_in, is_within}
+use Rattle.verb_command_line.specs.WordReading.{is_numeral, number_in, is_within}
 
 numerals : IsNumeralModel (λ ds. list_all is_ascii_digit ds ≡ true) number_of
 numerals = numerals_by_weight _ (search rules) number_of (search rules)

@@ -5,8 +5,8 @@ use Rattle.std.proofs.lemmas.List.{length-map}
 use Rattle.verb_command_line.specs.declared.fault.WordFault.{WordFault}
 use Rattle.verb_command_line.specs.declared.fault.WordFault.TheVariants as fault
 use Rattle.verb_command_line.specs.Commands.{Text}
-use Rattle.verb_command_line.specs.Reading.{pairs_of, first_of, pair_fault, missing_from, same_from, option_fault, is_outside, outside_here, outside_from, set_fault, fault_after}
-use Rattle.verb_command_line.specs.Seen.{texts}
+use Rattle.verb_command_line.specs.WordReading.{pairs_of, first_of, pair_fault, missing_from, same_from, option_fault, is_outside, outside_here, outside_from, set_fault, fault_after}
+use Rattle.verb_command_line.specs.CommandView.{texts}
 use Rattle.verb_command_line.proofs.PairLemmas.{no_pair}
 use Rattle.verb_command_line.proofs.SoundLemmas.{first_none}
 use Rattle.verb_command_line.proofs.LoopLemmas.{Read, read_none, read_more, few_words}

@@ -3,8 +3,8 @@ use Rattle.std.proofs.Common.{◌≡◌, ◌≢◌, inl, inr, ℕ, ◌<◌, Bool
 use Rattle.std.specs.Str.{bytes_eq}
 use Rattle.verb_command_line.specs.Commands.{Text, Given, spread}
 use Rattle.verb_command_line.specs.Meaning.{Each, EachTwo, Gives, IsNotGiven}
-use Rattle.verb_command_line.specs.Reading.{pairs_of, value_in}
-use Rattle.verb_command_line.specs.Seen.{texts}
+use Rattle.verb_command_line.specs.WordReading.{pairs_of, value_in}
+use Rattle.verb_command_line.specs.CommandView.{texts}
 use Rattle.verb_command_line.proofs.ListLemmas.{bytes_same, bytes_differ, bytes_apart}
 use Rattle.base_values.proofs.ListLaws.{bytes_eq-refl}
 

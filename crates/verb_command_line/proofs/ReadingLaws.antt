@@ -5,8 +5,8 @@ use Rattle.verb_command_line.specs.declared.fault.WordFault.{WordFault}
 use Rattle.verb_command_line.specs.declared.fault.WordFault.TheVariants as fault
 use Rattle.verb_command_line.specs.Commands.{Text, Given, spread, Command}
 use Rattle.verb_command_line.specs.Meaning.{Gives, AreLawful, AreThere, AreDifferent, option_place, AreInside, Makes, Means, BreaksFirst, no_verb, unknown_verb, not_in_set, an_option}
-use Rattle.verb_command_line.specs.Reading.{pairs_of, first_of, option_fault, command_or, verb_in, set_fault, fault_after, made, verb_read, reading}
-use Rattle.verb_command_line.specs.Seen.{texts, rule_of, place_of, seen, seen_result}
+use Rattle.verb_command_line.specs.WordReading.{pairs_of, first_of, option_fault, command_or, verb_in, set_fault, fault_after, made, verb_read, reading}
+use Rattle.verb_command_line.specs.CommandView.{texts, rule_of, place_of, seen, seen_result}
 use Rattle.verb_command_line.proofs.ListLemmas.{bytes_same}
 use Rattle.verb_command_line.proofs.PairLemmas.{pairs_of-spread}
 use Rattle.verb_command_line.proofs.SoundLemmas.{first_cases, first_none, option_sound, option_holds}

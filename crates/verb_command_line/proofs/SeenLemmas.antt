@@ -3,7 +3,7 @@ use Rattle.std.proofs.Common.{◌≡◌, ℕ, if◌then◌else◌, sym, ap, ◌�
 use Rattle.std.specs.Prelude.{nat_eq}
 use Rattle.verb_command_line.specs.declared.fault.WordFault.{WordFault}
 use Rattle.verb_command_line.specs.declared.fault.WordFault.TheVariants as fault
-use Rattle.verb_command_line.specs.Seen.{rule_of, place_of}
+use Rattle.verb_command_line.specs.CommandView.{rule_of, place_of}
 
 -- the fault of a rule and a place
 abbrev fault_with : ℕ → ℕ → WordFault

@@ -12,7 +12,7 @@ use Rattle.std.specs.Option.{option_map}
 use Rattle.verb_command_line.specs.Commands.{Text}
 use Rattle.verb_command_line.specs.Sets.{Each, number_of, IsNumeral, words_of, numbers_of, AreRising, IsSet}
 use Rattle.verb_command_line.specs.Table.{IsClaim}
-use Rattle.verb_command_line.specs.Reading.{is_numeral, number_in, if_small, rises_by, is_rising, is_set_text, is_claim, words_left, smalls, small_then}
+use Rattle.verb_command_line.specs.WordReading.{is_numeral, number_in, if_small, rises_by, is_rising, is_set_text, is_claim, words_left, smalls, small_then}
 use Rattle.verb_command_line.proofs.ListLemmas.{bytes_same, same_bytes}
 use Rattle.verb_command_line.proofs.NumberLemmas.{is_numeral-true, true-is_numeral, numbered}
 

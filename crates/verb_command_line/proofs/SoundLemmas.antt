@@ -3,15 +3,15 @@ use Rattle.std.proofs.Common.{◌≡◌, ◌≢◌, ◌⊎◌, inl, inr, ⊎_eli
 use Rattle.std.specs.Str.{bytes_eq}
 use Rattle.std.proofs.lemmas.List.{append-nil}
 use Rattle.std.proofs.lemmas.Bool.{false≢true, and_parts, and_from, and_cases, or_cases, or_parts}
-use Rattle.verb_command_line.specs.declared.choice.Kind.{Kind}
-use Rattle.verb_command_line.specs.declared.choice.Kind.TheVariants as kind
+use Rattle.verb_command_line.specs.declared.choice.OptionKind.{OptionKind}
+use Rattle.verb_command_line.specs.declared.choice.OptionKind.TheVariants as kind
 use Rattle.verb_command_line.specs.declared.fault.WordFault.{WordFault}
 use Rattle.verb_command_line.specs.declared.fault.WordFault.TheVariants as fault
 use Rattle.verb_command_line.specs.Commands.{Text, Given, spread}
 use Rattle.verb_command_line.specs.Table.{Choice, kind_in}
 use Rattle.verb_command_line.specs.Meaning.{Each, Gives, IsNotGiven, IsLawful, AreLawful, IsThere, AreThere, IsFile, SameFile, AreDifferent, option_place, BreaksOption, unknown_option, comes_twice, no_value, bad_number, missing, same_name}
-use Rattle.verb_command_line.specs.Reading.{fits, pairs_of, value_in, first_of, fault_by, fault_here, pair_fault, missing_by, missing_from, is_file_of, is_file_in, has_file, same_here, same_from, option_fault}
-use Rattle.verb_command_line.specs.Seen.{rule_of, place_of}
+use Rattle.verb_command_line.specs.WordReading.{fits, pairs_of, value_in, first_of, fault_by, fault_here, pair_fault, missing_by, missing_from, is_file_of, is_file_in, has_file, same_here, same_from, option_fault}
+use Rattle.verb_command_line.specs.CommandView.{rule_of, place_of}
 use Rattle.verb_command_line.proofs.ListLemmas.{bytes_same, same_bytes, Each-append, EachTwo-push}
 use Rattle.verb_command_line.proofs.FitLemmas.{fits-Fits, Fits-fits}
 use Rattle.verb_command_line.proofs.PairLemmas.{spread-append, value-given, none-not}
@@ -27,7 +27,7 @@ first_none (Some g) b e = cc
 
 -- An option and its value in which no fault is found.
 pub record Passes (options : List Choice) (before : List Given) (option value : Text) : Type 0 where
-  pub kind : Kind
+  pub kind : OptionKind
   pub known : kind_in options option ≡ Some kind
   pub new : value_in before option ≡ None
   pub fits : fits kind value ≡ true
@@ -36,7 +36,7 @@ test_passes : (t : Bool) (f : WordFault) → (if t then None else Some f) ≡ No
 test_passes true f e = refl
 test_passes false f e = cc
 
-passes_by : (options : List Choice) (before : List Given) (option value : Text) (at : ℕ) (k : Option Kind) → kind_in options option ≡ k → (e : Option Text) → value_in before option ≡ e →
+passes_by : (options : List Choice) (before : List Given) (option value : Text) (at : ℕ) (k : Option OptionKind) → kind_in options option ≡ k → (e : Option Text) → value_in before option ≡ e →
     fault_by k e (Some value) at ≡ None → Passes options before option value
 passes_by options before option value at None ik e ie is = cc
 passes_by options before option value at (Some k) ik (Some e) ie is = cc
@@ -68,7 +68,7 @@ told : (options : List Choice) (all : List Text) (g f : WordFault) → BreaksOpt
 told options all g f broken e = let same : g ≡ f = cc in subst (λ (h : WordFault). BreaksOption options all (rule_of h) (place_of h)) same broken
 
 number_told : (options : List Choice) (before : List Given) (all : List Text) (option value : Text) (after : List Text) (law : AreLawful options before) →
-    all ≡ spread before ++ option ∷ value ∷ after → (k : Kind) → kind_in options option ≡ Some k → IsNotGiven before option → (t : Bool) → fits k value ≡ t → (f : WordFault) →
+    all ≡ spread before ++ option ∷ value ∷ after → (k : OptionKind) → kind_in options option ≡ Some k → IsNotGiven before option → (t : Bool) → fits k value ≡ t → (f : WordFault) →
     (if t then None else Some (fault.BadNumber (option_place before + 1))) ≡ Some f → BreaksOption options all (rule_of f) (place_of f)
 number_told options before all option value after law spelled k ik new true it f e = cc
 number_told options before all option value after law spelled k ik new false it f e =
@@ -76,7 +76,7 @@ number_told options before all option value after law spelled k ik new false it 
     (bad_number before option value after k spelled law ik new (λ fit. false≢true (sym it ∙ Fits-fits k value fit))) e
 
 told_by : (options : List Choice) (before : List Given) (all : List Text) (option : Text) (rest : List Text) (law : AreLawful options before) → all ≡ spread before ++ option ∷ rest →
-    (k : Option Kind) → kind_in options option ≡ k → (e : Option Text) → value_in before option ≡ e → (f : WordFault) → fault_by k e (next_of rest) (option_place before) ≡ Some f →
+    (k : Option OptionKind) → kind_in options option ≡ k → (e : Option Text) → value_in before option ≡ e → (f : WordFault) → fault_by k e (next_of rest) (option_place before) ≡ Some f →
     BreaksOption options all (rule_of f) (place_of f)
 told_by options before all option rest law spelled None ik e ie f is = told options all (fault.UnknownOption (option_place before)) f (unknown_option before option rest spelled law ik) is
 told_by options before all option rest law spelled (Some k) ik (Some e) ie f is =
@@ -110,7 +110,7 @@ pub record ArePairs (options : List Choice) (before : List Given) (words : List 
   pub spelled : words ≡ spread (pairs_of words)
   pub lawful : AreLawful options (before ++ pairs_of words)
 
-not_alone : (k : Option Kind) (e : Option Text) (at : ℕ) → fault_by k e None at ≡ None → ⊥
+not_alone : (k : Option OptionKind) (e : Option Text) (at : ℕ) → fault_by k e None at ≡ None → ⊥
 not_alone None e at is = cc
 not_alone (Some k) (Some e) at is = cc
 not_alone (Some k) None at is = cc
@@ -181,7 +181,7 @@ there_sound (c ∷ cs) pairs place e =
     (there_by c pairs place c.required refl (value_in pairs c.name) refl both.0, there_sound cs pairs (place + 1) both.1)
 
 -- Files.
-file_by : (k : Option Kind) → is_file_of k ≡ true → k ≡ Some kind.File
+file_by : (k : Option OptionKind) → is_file_of k ≡ true → k ≡ Some kind.File
 file_by None e = absurd (false≢true e)
 file_by (Some kind.File) e = refl
 file_by (Some kind.Event) e = absurd (false≢true e)

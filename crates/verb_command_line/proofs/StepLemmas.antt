@@ -6,8 +6,8 @@ use Rattle.verb_command_line.specs.declared.fault.WordFault.{WordFault}
 use Rattle.verb_command_line.specs.declared.fault.WordFault.TheVariants as fault
 use Rattle.verb_command_line.specs.Commands.{Text}
 use Rattle.verb_command_line.specs.Table.{Choice, kind_in}
-use Rattle.verb_command_line.specs.Reading.{pairs_of, value_in, fault_by, pair_fault, is_file_in, has_file, same_from}
-use Rattle.verb_command_line.specs.Seen.{texts}
+use Rattle.verb_command_line.specs.WordReading.{pairs_of, value_in, fault_by, pair_fault, is_file_in, has_file, same_from}
+use Rattle.verb_command_line.specs.CommandView.{texts}
 use Rattle.verb_command_line.proofs.PairLemmas.{no_pair}
 use Rattle.verb_command_line.proofs.LoopLemmas.{Read, read_within, Searched, searched_more, searched_fault, searched_last, searched_all, searched_few, few_words, Compared, compared_more, compared_fault, compared_all}
 

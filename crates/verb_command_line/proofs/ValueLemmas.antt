@@ -1,13 +1,13 @@
 -- The values that lawful pairs give options: texts, and numbers within limits.
 use Rattle.std.proofs.Common.{◌≡◌, inl, inr, ℕ, ◌^◌, ◌<◌, List, [], ◌∷◌, Option, Some, None, unwrap_or, option_and_then, if◌then◌else◌, sym, subst, ap, ◌∙◌, refl, arith}
 use Rattle.std.proofs.lemmas.Bool.{lt-ltb}
-use Rattle.verb_command_line.specs.declared.choice.Kind.{Kind}
-use Rattle.verb_command_line.specs.declared.choice.Kind.TheVariants as kind
+use Rattle.verb_command_line.specs.declared.choice.OptionKind.{OptionKind}
+use Rattle.verb_command_line.specs.declared.choice.OptionKind.TheVariants as kind
 use Rattle.verb_command_line.specs.Commands.{Text, Given}
 use Rattle.verb_command_line.specs.Sets.{number_of}
 use Rattle.verb_command_line.specs.Table.{Choice, kind_in, IsWithin, Fits}
 use Rattle.verb_command_line.specs.Meaning.{Each, Gives, IsGiven, IsLawful, AreLawful, GivesNumber, MayGiveNumber}
-use Rattle.verb_command_line.specs.Reading.{value_in, text_in, if_small, small_number_in, small_number_at, number_at}
+use Rattle.verb_command_line.specs.WordReading.{value_in, text_in, if_small, small_number_in, small_number_at, number_at}
 use Rattle.verb_command_line.proofs.NumberLemmas.{true-is_numeral, numbered}
 use Rattle.verb_command_line.proofs.PairLemmas.{value-given, none-not, not-none, given-value, given-some}
 
@@ -18,11 +18,11 @@ small_number least most word w few =
     ap if_small (numbered word (true-is_numeral word w.numeral)) ∙ ap (λ t. if t then Some (number_of word) else None) (lt-ltb (number_of word) (2 ^ 32) below)
 
 -- the value that is given fits its option
-pub fits_given : (options : List Choice) (ps : List Given) (option value : Text) (k : Kind) → Each (IsLawful options) ps → Gives ps option value → kind_in options option ≡ Some k → Fits k value
+pub fits_given : (options : List Choice) (ps : List Given) (option value : Text) (k : OptionKind) → Each (IsLawful options) ps → Gives ps option value → kind_in options option ≡ Some k → Fits k value
 fits_given options [] option value k each g known = absurd g
 fits_given options (p ∷ ps) option value k each (inl here) known =
     let same : each.0.kind ≡ k = let both : Some each.0.kind ≡ Some k = sym each.0.known ∙ ap (λ o. kind_in options o) here.0 ∙ known in cc in
-    subst (λ (w : Text). Fits k w) here.1 (subst (λ (j : Kind). Fits j p.value) same each.0.fits)
+    subst (λ (w : Text). Fits k w) here.1 (subst (λ (j : OptionKind). Fits j p.value) same each.0.fits)
 fits_given options (p ∷ ps) option value k each (inr more) known = fits_given options ps option value k each.1 more known
 
 module _ (options : List Choice) (ps : List Given) (law : AreLawful options ps) where

@@ -2,7 +2,7 @@
 use Rattle.std.proofs.Common.{◌≡◌, Bool, true, false, Option, Some, None, Ok, Err, if◌then◌else◌, ap, ◌∙◌, refl}
 use Rattle.verb_command_line.specs.declared.fault.WordFault.{WordFault}
 use Rattle.verb_command_line.specs.Commands.{Text}
-use Rattle.verb_command_line.specs.Reading.{command_or}
+use Rattle.verb_command_line.specs.WordReading.{command_or}
 
 -- where one name after another is tried, the verb that is found has the name
 pub verb_if : {V : Type 0} (name_of : V → Text) (name : Text) (t : Bool) (v : V) (next : Option V) → (t ≡ true → name ≡ name_of v) → ((w : V) → next ≡ Some w → name ≡ name_of w) →

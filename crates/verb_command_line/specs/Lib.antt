@@ -3,5 +3,5 @@ pub mod Sets
 pub mod Table
 pub mod Meaning
 pub mod Laws
-pub mod Reading
-pub mod Seen
+pub mod WordReading
+pub mod CommandView

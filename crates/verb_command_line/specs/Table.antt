@@ -1,8 +1,8 @@
 -- The verbs, their options, and what the values of options are.
 use Rattle.std.specs.Prelude.{◌≡◌, ◌⊎◌, ℕ, ◌≤◌, Bool, true, false, List, [], ◌∷◌, Option, Some, None, codes, if◌then◌else◌}
 use Rattle.std.specs.Str.{bytes_eq}
-use Rattle.verb_command_line.specs.declared.choice.Kind.{Kind}
-use Rattle.verb_command_line.specs.declared.choice.Kind.TheVariants as kind
+use Rattle.verb_command_line.specs.declared.choice.OptionKind.{OptionKind}
+use Rattle.verb_command_line.specs.declared.choice.OptionKind.TheVariants as kind
 use Rattle.verb_command_line.specs.declared.verb.Verb.{Verb}
 use Rattle.verb_command_line.specs.declared.verb.Verb.TheVariants as verb
 use Rattle.verb_command_line.specs.Commands.{Text}
@@ -11,7 +11,7 @@ use Rattle.verb_command_line.specs.Sets.{number_of, IsNumeral, IsSet}
 -- an option of a verb: its name, what its value is, and whether it may not be left out
 pub record Choice : Type 0 where
   pub name : Text
-  pub kind : Kind
+  pub kind : OptionKind
   pub required : Bool
 
 abbrev pub name_of : Verb → Text
@@ -28,43 +28,55 @@ name_of verb.CheckOrders = codes "check-orders"
 name_of verb.Odds = codes "odds"
 
 -- an option that may not be left out
-abbrev pub needed : Text → Kind → Choice
+abbrev pub needed : Text → OptionKind → Choice
 needed name kind = record { name = name; kind = kind; required = true }
 
 -- the options of a verb, in the order in which a missing one is told
 abbrev pub options_of : Verb → List Choice
-options_of verb.Extend = needed (codes "--model") kind.File ∷ needed (codes "--faults") kind.File ∷ needed (codes "--extended") kind.File ∷ []
-options_of verb.Replay = needed (codes "--model") kind.File ∷ needed (codes "--faults") kind.File ∷ needed (codes "--trace") kind.File ∷ needed (codes "--top") kind.Event ∷ []
+options_of verb.Extend =
+    needed (codes "--model") kind.File ∷ needed (codes "--faults") kind.File ∷ needed (codes "--extended") kind.File ∷ []
+options_of verb.Replay =
+    needed (codes "--model") kind.File ∷ needed (codes "--faults") kind.File ∷ needed (codes "--trace") kind.File
+    ∷ needed (codes "--top") kind.Event ∷ []
 options_of verb.Analyse =
     needed (codes "--model") kind.File ∷ needed (codes "--faults") kind.File ∷ needed (codes "--top") kind.Event
     ∷ needed (codes "--depth") (kind.Number 0 1000000000) ∷ needed (codes "--extended") kind.File ∷ needed (codes "--cert") kind.File
     ∷ record { name = codes "--size"; kind = kind.Number 0 256; required = false } ∷ []
-options_of verb.Check = needed (codes "--model") kind.File ∷ needed (codes "--faults") kind.File ∷ needed (codes "--top") kind.Event ∷ needed (codes "--cert") kind.File ∷ []
+options_of verb.Check =
+    needed (codes "--model") kind.File ∷ needed (codes "--faults") kind.File ∷ needed (codes "--top") kind.Event
+    ∷ needed (codes "--cert") kind.File ∷ []
 options_of verb.Fmea =
     needed (codes "--model") kind.File ∷ needed (codes "--faults") kind.File ∷ needed (codes "--tops") kind.File
     ∷ needed (codes "--size") (kind.Number 0 2) ∷ needed (codes "--depth") (kind.Number 0 1000000000) ∷ []
 options_of verb.Make =
-    needed (codes "--number") (kind.Number 0 1000000000) ∷ needed (codes "--stages") (kind.Number 1 64) ∷ needed (codes "--depth") (kind.Number 0 1000000000)
+    needed (codes "--number") (kind.Number 0 1000000000) ∷ needed (codes "--stages") (kind.Number 1 64)
+    ∷ needed (codes "--depth") (kind.Number 0 1000000000)
     ∷ needed (codes "--model") kind.File ∷ needed (codes "--faults") kind.File ∷ []
 options_of verb.Causes =
-    needed (codes "--model") kind.File ∷ needed (codes "--faults") kind.File ∷ needed (codes "--causes") kind.File ∷ needed (codes "--top") kind.Event
+    needed (codes "--model") kind.File ∷ needed (codes "--faults") kind.File ∷ needed (codes "--causes") kind.File
+    ∷ needed (codes "--top") kind.Event
     ∷ needed (codes "--depth") (kind.Number 0 1000000000) ∷ needed (codes "--cert") kind.File ∷ []
 options_of verb.CheckCauses =
-    needed (codes "--model") kind.File ∷ needed (codes "--faults") kind.File ∷ needed (codes "--causes") kind.File ∷ needed (codes "--top") kind.Event
+    needed (codes "--model") kind.File ∷ needed (codes "--faults") kind.File ∷ needed (codes "--causes") kind.File
+    ∷ needed (codes "--top") kind.Event
     ∷ needed (codes "--cert") kind.File ∷ []
 options_of verb.Orders =
-    needed (codes "--model") kind.File ∷ needed (codes "--faults") kind.File ∷ needed (codes "--top") kind.Event ∷ needed (codes "--set") kind.Set
-    ∷ needed (codes "--first") (kind.Number 1 256) ∷ needed (codes "--second") (kind.Number 1 256) ∷ needed (codes "--depth") (kind.Number 0 1000000000)
+    needed (codes "--model") kind.File ∷ needed (codes "--faults") kind.File ∷ needed (codes "--top") kind.Event
+    ∷ needed (codes "--set") kind.Set
+    ∷ needed (codes "--first") (kind.Number 1 256) ∷ needed (codes "--second") (kind.Number 1 256)
+    ∷ needed (codes "--depth") (kind.Number 0 1000000000)
     ∷ needed (codes "--cert") kind.File ∷ []
 options_of verb.CheckOrders =
-    needed (codes "--model") kind.File ∷ needed (codes "--faults") kind.File ∷ needed (codes "--top") kind.Event ∷ needed (codes "--set") kind.Set
+    needed (codes "--model") kind.File ∷ needed (codes "--faults") kind.File ∷ needed (codes "--top") kind.Event
+    ∷ needed (codes "--set") kind.Set
     ∷ needed (codes "--first") (kind.Number 1 256) ∷ needed (codes "--second") (kind.Number 1 256) ∷ needed (codes "--claim") kind.Claim
     ∷ needed (codes "--cert") kind.File ∷ []
 options_of verb.Odds =
-    needed (codes "--model") kind.File ∷ needed (codes "--faults") kind.File ∷ needed (codes "--top") kind.Event ∷ needed (codes "--depth") (kind.Number 0 1000000000) ∷ []
+    needed (codes "--model") kind.File ∷ needed (codes "--faults") kind.File ∷ needed (codes "--top") kind.Event
+    ∷ needed (codes "--depth") (kind.Number 0 1000000000) ∷ []
 
 -- what the value of an option is, where the options have one of this name
-abbrev pub kind_in : List Choice → Text → Option Kind
+abbrev pub kind_in : List Choice → Text → Option OptionKind
 kind_in [] option = None
 kind_in (c ∷ cs) option = if bytes_eq c.name option then Some c.kind else kind_in cs option
 
@@ -79,7 +91,7 @@ abbrev pub IsClaim : Text → Type 0
 IsClaim word = (word ≡ codes "before") ⊎ ((word ≡ codes "after") ⊎ ((word ≡ codes "together") ⊎ (word ≡ codes "none")))
 
 -- the word may be the value of an option
-abbrev pub Fits : Kind → Text → Type 0
+abbrev pub Fits : OptionKind → Text → Type 0
 Fits kind.File word = Unit {0}
 Fits kind.Event word = Unit {0}
 Fits (kind.Number least most) word = IsWithin least most word

@@ -1,13 +1,13 @@
-// The options of verbs, and what their values may be.
+//! The options of verbs, and what their values may be.
 ghost use Rattle.std.specs.Prelude.{◌≡◌};
-ghost use Rattle.verb_command_line.specs.Reading.{fits, is_claim as is_claim_text, is_file_kind};
+ghost use Rattle.verb_command_line.specs.WordReading.{fits, is_claim as is_claim_text, is_file_kind};
 
 use crate::number::number;
 use crate::set::is_set;
 
 /// What the value of an option is.
 #[derive(Clone, Copy, Debug, PartialEq, Eq)]
-pub enum Kind {
+pub enum OptionKind {
     /// The name of a file.
     File,
     /// The text of a top event.
@@ -20,19 +20,19 @@ pub enum Kind {
     Claim,
 }
 
-impl Kind {
+impl OptionKind {
     /// Whether the word may be the value.
     pub(crate) fn takes(self, word: &str) -> bool
         ensures { result ≡ fits self word.now }
     {
         match self {
-            Kind::File | Kind::Event => true,
-            Kind::Number { least, most } => match number(word) {
+            OptionKind::File | OptionKind::Event => true,
+            OptionKind::Number { least, most } => match number(word) {
                 Some(number) => u64::from(least) <= number && number <= u64::from(most),
                 None => false,
             },
-            Kind::Set => is_set(word),
-            Kind::Claim => is_claim(word),
+            OptionKind::Set => is_set(word),
+            OptionKind::Claim => is_claim(word),
         }
     }
 
@@ -40,7 +40,7 @@ impl Kind {
     pub(crate) fn is_file(self) -> bool
         ensures { result ≡ is_file_kind self }
     {
-        self == Kind::File
+        self == OptionKind::File
     }
 }
 
@@ -58,6 +58,6 @@ fn is_claim(word: &str) -> bool
 #[derive(Clone, Copy)]
 pub struct Choice {
     pub name: &'static str,
-    pub kind: Kind,
+    pub kind: OptionKind,
     pub required: bool,
 }

@@ -1,5 +1,4 @@
-// What words may mean. Files are names; a top event is a text of its own, and lists of events and of causes are files.
-
+//! What words may mean. Files are names; a top event is a text of its own, and lists of events and of causes are files.
 /// The files of `extend`: the model, the instructions, and the extension that is written.
 #[derive(Clone, Copy, Debug, PartialEq, Eq)]
 pub struct Extend<'a> {

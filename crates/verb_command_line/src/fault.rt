@@ -1,6 +1,6 @@
-// The rules that words may break.
+//! The rules that words may break.
 ghost use Rattle.std.specs.Prelude.{◌≡◌};
-ghost use Rattle.verb_command_line.specs.Seen.{rule_of, place_of};
+ghost use Rattle.verb_command_line.specs.CommandView.{rule_of, place_of};
 
 use thiserror::Error;
 

@@ -1,11 +1,12 @@
-// The rules of the options, in the order in which they are tried.
+//! The rules of the options, in the order in which they are tried.
 ghost use Rattle.std.specs.Prelude.{◌≡◌, ◌+◌, ◌*◌, ◌<◌, ◌≤◌, ◌^◌, ◌&&◌, [], map, length};
 ghost use Rattle.std.specs.Option.{option_map};
 ghost use Rattle.verb_command_line.specs.Table.{kind_in};
-ghost use Rattle.verb_command_line.specs.Reading.{pairs_of, value_in, fault_by, pair_fault, missing_from, same_from, has_file, is_file_in, option_fault};
-ghost use Rattle.verb_command_line.specs.Seen.{texts, viewed};
+ghost use Rattle.verb_command_line.specs.WordReading.{pairs_of, value_in, fault_by, pair_fault, missing_from, same_from, has_file};
+ghost use Rattle.verb_command_line.specs.WordReading.{is_file_in, option_fault};
+ghost use Rattle.verb_command_line.specs.CommandView.{texts, viewed};
 
-use crate::choice::{Choice, Kind};
+use crate::choice::{Choice, OptionKind};
 use crate::fault::WordFault;
 use crate::pairs::value_of;
 
@@ -73,7 +74,7 @@ fn fault_here(
 }
 
 /// What the values of an option are, where it is one of these.
-fn kind_of(options: &[Choice], name: &str) -> Option<Kind>
+fn kind_of(options: &[Choice], name: &str) -> Option<OptionKind>
     ensures { result ≡ kind_in (map viewed options.now) name.now }
 {
     for choice in options {
@@ -116,7 +117,8 @@ fn same_name(options: &[Choice], words: &[&str]) -> Option<WordFault>
 
 /// Whether an option with this value is a file that has the name of one of these words'.
 fn repeats_file(options: &[Choice], before: &[&str], option: &str, value: &str) -> bool
-    ensures { result ≡ (is_file_in (map viewed options.now) option.now && has_file (map viewed options.now) (pairs_of (texts before.now)) value.now) }
+    ensures { result ≡ (is_file_in (map viewed options.now) option.now
+        && has_file (map viewed options.now) (pairs_of (texts before.now)) value.now) }
 {
     is_file(options, option) && names_file(options, before, value)
 }

@@ -30,7 +30,7 @@ mod read;
 pub mod set;
 mod verb;
 
-pub use choice::{Choice, Kind};
+pub use choice::{Choice, OptionKind};
 pub use command::{
     Analyse, Check, CheckCauses, CheckOrders, Command, Extend, FindCauses, FindOdds, FindOrders,
     Fmea, Make, Replay,

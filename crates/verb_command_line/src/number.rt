@@ -1,8 +1,8 @@
-// Numbers in words: 1 to 10 decimal digits.
+//! Numbers in words: 1 to 10 decimal digits.
 ghost use Rattle.std.specs.Prelude.{◌≡◌};
 ghost use Rattle.std.specs.Char.{is_ascii_digit};
 ghost use Rattle.std.specs.List.{list_all};
-ghost use Rattle.verb_command_line.specs.Reading.{number_in, small_number_in, is_numeral};
+ghost use Rattle.verb_command_line.specs.WordReading.{number_in, small_number_in, is_numeral};
 
 /// The number of a word of 1 to 10 decimal digits.
 pub(crate) fn number(word: &str) -> Option<u64>

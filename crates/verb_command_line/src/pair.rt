@@ -1,7 +1,8 @@
-// The two faults of a set, which are in it and differ.
+//! The two faults of a set, which are in it and differ.
 ghost use Rattle.std.specs.Prelude.{◌≡◌, ◌≤◌, [], length};
-ghost use Rattle.verb_command_line.specs.Reading.{pairs_of, is_of_pair as is_one_of_pair, is_outside as is_outside_by, outside_from, set_fault};
-ghost use Rattle.verb_command_line.specs.Seen.{texts};
+ghost use Rattle.verb_command_line.specs.WordReading.{pairs_of, is_of_pair as is_one_of_pair, is_outside as is_outside_by, outside_from};
+ghost use Rattle.verb_command_line.specs.WordReading.{set_fault};
+ghost use Rattle.verb_command_line.specs.CommandView.{texts};
 
 use crate::fault::WordFault;
 use crate::number::number;

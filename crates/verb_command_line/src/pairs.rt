@@ -1,8 +1,8 @@
-// Options and their values among words: an option, its value, and so on.
+//! Options and their values among words: an option, its value, and so on.
 ghost use Rattle.std.specs.Prelude.{◌≡◌};
 ghost use Rattle.std.specs.Option.{option_map};
-ghost use Rattle.verb_command_line.specs.Reading.{pairs_of, value_in, text_in, number_at, small_number_at};
-ghost use Rattle.verb_command_line.specs.Seen.{texts};
+ghost use Rattle.verb_command_line.specs.WordReading.{pairs_of, value_in, text_in, number_at, small_number_at};
+ghost use Rattle.verb_command_line.specs.CommandView.{texts};
 
 use crate::number::small_number;
 

@@ -1,10 +1,10 @@
-// The command that words mean.
+//! The command that words mean.
 ghost use Rattle.std.specs.Prelude.{◌≡◌, IfOk, IfErr};
 ghost use Rattle.verb_command_line.specs.declared.command.Command.TheVariants as command;
 ghost use Rattle.verb_command_line.specs.Meaning.{Means, BreaksFirst};
 ghost use Rattle.verb_command_line.specs.Laws.{OneCommand, OneFault, CommandsHaveNoFault};
-ghost use Rattle.verb_command_line.specs.Reading.{pairs_of, reading, fault_after, made};
-ghost use Rattle.verb_command_line.specs.Seen.{texts, seen, seen_result, rule_of, place_of};
+ghost use Rattle.verb_command_line.specs.WordReading.{pairs_of, reading, fault_after, made};
+ghost use Rattle.verb_command_line.specs.CommandView.{texts, seen, seen_result, rule_of, place_of};
 
 use crate::command::{
     Analyse, Check, CheckCauses, CheckOrders, Command, Extend, FindCauses, FindOdds, FindOrders,

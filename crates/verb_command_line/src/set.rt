@@ -1,8 +1,9 @@
-// Sets of numbers in a word: at least two, rising, with one space between.
+//! Sets of numbers in a word: at least two, rising, with one space between.
 ghost use Rattle.std.specs.Prelude.{◌≡◌, ◌∷◌, ◌≤◌, nat_lt, length, IfOk};
 ghost use Rattle.std.specs.Option.{option_map};
 ghost use Rattle.verb_command_line.specs.Sets.{words_of, numbers_of, IsSet};
-ghost use Rattle.verb_command_line.specs.Reading.{rises as rises_to, is_rising, is_set_text, same_number as are_same, has_number as has_number_in, words_left, left_length, smalls};
+ghost use Rattle.verb_command_line.specs.WordReading.{rises as rises_to, is_rising, is_set_text, same_number as are_same};
+ghost use Rattle.verb_command_line.specs.WordReading.{has_number as has_number_in, words_left, left_length, smalls};
 
 use crate::number::{number, small_number};
 use base_values::OutOfMemory;

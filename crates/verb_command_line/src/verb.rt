@@ -1,10 +1,10 @@
-// The verbs and their options.
+//! The verbs and their options.
 ghost use Rattle.std.specs.Prelude.{◌≡◌, map};
 ghost use Rattle.verb_command_line.specs.Table.{options_of};
-ghost use Rattle.verb_command_line.specs.Reading.{verb_in};
-ghost use Rattle.verb_command_line.specs.Seen.{viewed};
+ghost use Rattle.verb_command_line.specs.WordReading.{verb_in};
+ghost use Rattle.verb_command_line.specs.CommandView.{viewed};
 
-use crate::choice::{Choice, Kind};
+use crate::choice::{Choice, OptionKind};
 
 /// What is to be done.
 #[derive(Clone, Copy, Debug, PartialEq, Eq)]
@@ -24,49 +24,49 @@ pub enum Verb {
 
 const MODEL: Choice = Choice {
     name: "--model",
-    kind: Kind::File,
+    kind: OptionKind::File,
     required: true,
 };
 
 const FAULTS: Choice = Choice {
     name: "--faults",
-    kind: Kind::File,
+    kind: OptionKind::File,
     required: true,
 };
 
 const EXTENDED: Choice = Choice {
     name: "--extended",
-    kind: Kind::File,
+    kind: OptionKind::File,
     required: true,
 };
 
 const TRACE: Choice = Choice {
     name: "--trace",
-    kind: Kind::File,
+    kind: OptionKind::File,
     required: true,
 };
 
 const TOP: Choice = Choice {
     name: "--top",
-    kind: Kind::Event,
+    kind: OptionKind::Event,
     required: true,
 };
 
 const TOPS: Choice = Choice {
     name: "--tops",
-    kind: Kind::File,
+    kind: OptionKind::File,
     required: true,
 };
 
 const CERT: Choice = Choice {
     name: "--cert",
-    kind: Kind::File,
+    kind: OptionKind::File,
     required: true,
 };
 
 const DEPTH: Choice = Choice {
     name: "--depth",
-    kind: Kind::Number {
+    kind: OptionKind::Number {
         least: 0,
         most: 1_000_000_000,
     },
@@ -75,7 +75,7 @@ const DEPTH: Choice = Choice {
 
 const NUMBER: Choice = Choice {
     name: "--number",
-    kind: Kind::Number {
+    kind: OptionKind::Number {
         least: 0,
         most: 1_000_000_000,
     },
@@ -84,19 +84,19 @@ const NUMBER: Choice = Choice {
 
 const STAGES: Choice = Choice {
     name: "--stages",
-    kind: Kind::Number { least: 1, most: 64 },
+    kind: OptionKind::Number { least: 1, most: 64 },
     required: true,
 };
 
 const ROW_SIZE: Choice = Choice {
     name: "--size",
-    kind: Kind::Number { least: 0, most: 2 },
+    kind: OptionKind::Number { least: 0, most: 2 },
     required: true,
 };
 
 const SIZE: Choice = Choice {
     name: "--size",
-    kind: Kind::Number {
+    kind: OptionKind::Number {
         least: 0,
         most: 256,
     },
@@ -105,19 +105,19 @@ const SIZE: Choice = Choice {
 
 const CAUSES: Choice = Choice {
     name: "--causes",
-    kind: Kind::File,
+    kind: OptionKind::File,
     required: true,
 };
 
 const SET: Choice = Choice {
     name: "--set",
-    kind: Kind::Set,
+    kind: OptionKind::Set,
     required: true,
 };
 
 const FIRST: Choice = Choice {
     name: "--first",
-    kind: Kind::Number {
+    kind: OptionKind::Number {
         least: 1,
         most: 256,
     },
@@ -126,7 +126,7 @@ const FIRST: Choice = Choice {
 
 const SECOND: Choice = Choice {
     name: "--second",
-    kind: Kind::Number {
+    kind: OptionKind::Number {
         least: 1,
         most: 256,
     },
@@ -135,7 +135,7 @@ const SECOND: Choice = Choice {
 
 const CLAIM: Choice = Choice {
     name: "--claim",
-    kind: Kind::Claim,
+    kind: OptionKind::Claim,
     required: true,
 };
 

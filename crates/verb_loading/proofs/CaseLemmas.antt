@@ -11,7 +11,7 @@ use Rattle.fault_instructions.specs.Instructions.{instruction_tree}
 use Rattle.fault_instructions.specs.declared.instructions.Instructions.{Instructions}
 use Rattle.smv_type_laws.specs.Models.{IsTyped}
 use Rattle.fault_weave.specs.Faults.{HasFaults}
-use Rattle.fault_weave.specs.Woven.{woven}
+use Rattle.fault_weave.specs.WovenProgram.{woven}
 use Rattle.fault_extend.specs.WovenFaults.{fault_tree}
 use Rattle.fault_extend.specs.NumberedFaults.{AreNumbered}
 use Rattle.fault_extend.specs.declared.faults.Woven.{Woven}
@@ -19,7 +19,7 @@ use Rattle.verb_loading.specs.declared.loaded.Limited.{Limited}
 use Rattle.verb_loading.specs.Models.{IsModelOf, IsSpelled}
 use Rattle.verb_loading.specs.Wholes.{IsWithinLimits}
 use Rattle.verb_loading.specs.Inputs.{IsInstructionText, AreTaken}
-use Rattle.verb_loading.specs.Loaded.{IsLoaded, IsLimited}
+use Rattle.verb_loading.specs.LoadedCases.{IsLoaded, IsLimited}
 use Rattle.verb_loading.proofs.OneModes.{one_modes}
 use Rattle.verb_loading.proofs.WholeLemmas.{numbered_modes}
 use Rattle.verb_loading.proofs.WovenSpells.{woven_text_spells}

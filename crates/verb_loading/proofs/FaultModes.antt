@@ -23,7 +23,7 @@ use Rattle.fault_instructions.specs.Instructions.{SliceTree, InstructionTree, sl
 use Rattle.fault_instructions.specs.AddedNames.{mode_variable, mode_symbol}
 use Rattle.fault_weave.specs.Faults.{Fault, HasFaults}
 use Rattle.fault_instructions.specs.Weavable.{Among, IsWeavable}
-use Rattle.fault_weave.specs.Woven.{mode_type, woven_module, woven}
+use Rattle.fault_weave.specs.WovenProgram.{mode_type, woven_module, woven}
 use Rattle.fault_weave.proofs.Added.{among_contains, slices_symbol, woven_symbol}
 use Rattle.fault_weave.proofs.LeafValues.{instance_among, mode_variable_kind}
 use Rattle.fault_weave.proofs.Meanings.{module_woven}

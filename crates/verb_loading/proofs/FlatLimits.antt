@@ -12,12 +12,12 @@ use Rattle.smv_type_laws.specs.Models.{is_too_large, IsTyped}
 use Rattle.smv_type_laws.proofs.Typed.{typed_has_none}
 use Rattle.fault_woven_laws.proofs.WovenLaws.{woven_none}
 use Rattle.fault_weave.specs.Faults.{Fault, HasFaults}
-use Rattle.fault_weave.specs.Woven.{woven}
+use Rattle.fault_weave.specs.WovenProgram.{woven}
 use Rattle.verb_loading.specs.declared.status.InputFault.{InputFault}
 use Rattle.verb_loading.specs.Models.{IsLawful, IsModelOf}
 use Rattle.verb_loading.specs.Wholes.{IsWrongWhole, IsWithinLimits}
 use Rattle.verb_loading.specs.Inputs.{AreTaken}
-use Rattle.verb_loading.specs.Loaded.{IsWrongLimited, whole_is_wrong, flat_is_wrong}
+use Rattle.verb_loading.specs.LoadedCases.{IsWrongLimited, whole_is_wrong, flat_is_wrong}
 use Rattle.verb_loading.proofs.LimitLaws.{are_woven}
 
 more_joined : {A : Type 0} (f : A → ℕ) (xs ys : List A) → sum_by f xs ≤ sum_by f (xs ++ ys)

@@ -8,12 +8,12 @@ use Rattle.fault_extend_laws.specs.Expressions.{AllUsesKept}
 use Rattle.smv_language.specs.declared.model.FlatModel.{FlatModel}
 use Rattle.smv_language.specs.declared.model.Instance.{Instance}
 use Rattle.smv_language.specs.ModelTree.{instance_tree, model_tree}
-use Rattle.fault_extend.specs.Refused.{modules_in}
+use Rattle.fault_extend.specs.FirstRefusal.{modules_in}
 use Rattle.base_files.specs.declared.files.NamedFile.{NamedFile}
 use Rattle.verb_loading.specs.declared.status.InputFault.{InputFault}
 use Rattle.verb_loading.specs.declared.status.Refusal.{Refusal}
 use Rattle.verb_loading.specs.declared.loaded.LoadedCase.{LoadedCase}
-use Rattle.verb_loading.specs.Loaded.{IsLoaded, IsLoadedFrom, HoldsLoaded}
+use Rattle.verb_loading.specs.LoadedCases.{IsLoaded, IsLoadedFrom, HoldsLoaded}
 use Rattle.verb_loading.specs.declared.status.Refusal.TheVariants as refusal
 use Rattle.verb_loading.specs.declared.wrong.Wrong.{Wrong}
 use Rattle.verb_loading.specs.declared.wrong.Wrong.TheVariants as wrong

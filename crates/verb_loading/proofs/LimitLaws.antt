@@ -9,7 +9,7 @@ use Rattle.fault_instructions.specs.AddedNames.{mode_variable}
 use Rattle.fault_weave.specs.Conservative.{IsSlice}
 use Rattle.fault_weave.specs.Faults.{Fault, slice_faults, module_slices, slices_at, place_faults, HasFaults}
 use Rattle.fault_instructions.specs.Weavable.{Among}
-use Rattle.fault_weave.specs.Woven.{woven}
+use Rattle.fault_weave.specs.WovenProgram.{woven}
 use Rattle.fault_weave.proofs.Added.{contains_among}
 use Rattle.smv_language.specs.Flat.{FlatModel}
 use Rattle.smv_flat_laws.specs.History.{Mode}
@@ -18,7 +18,7 @@ use Rattle.smv_flat_laws.specs.Rules.{too_many, IsFirstBroken, IsAccepted}
 use Rattle.smv_flat_laws.proofs.Conditions.{each_flat}
 use Rattle.smv_flat_laws.proofs.Lists.{each_more}
 use Rattle.smv_flat_laws.proofs.Walkable.{accepted_walkable}
-use Rattle.smv_type_laws.specs.Judged.{too_large}
+use Rattle.smv_type_laws.specs.ExpressionKinds.{too_large}
 use Rattle.smv_type_laws.specs.Models.{IsFault}
 use Rattle.fault_extend_laws.specs.Uses.{uses}
 use Rattle.fault_extend_laws.specs.Expressions.{KeepsNames, KeepsUse}

@@ -13,7 +13,7 @@ use Rattle.fault_extend.specs.NumberedFaults.{parts_of, AreNumbered}
 use Rattle.cut_report.specs.FaultText as lines
 use Rattle.verb_loading.specs.Reports.{parts_text, place_text, fault_lines, report_text}
 use Rattle.verb_loading.specs.Inputs.{path_of, AreListed}
-use Rattle.verb_loading.specs.Answered.{faults_text}
+use Rattle.verb_loading.specs.CaseAnswers.{faults_text}
 use Rattle.smv_language.specs.ModelTree.{place_of, name_of_fault}
 
 pub are_listed : (m : FlatModel) (ws : List WovenFault) (fs : List Fault) → AreNumbered m ws fs → AreListed ws fs

@@ -4,17 +4,17 @@ use Rattle.base_files.specs.declared.files.NamedFile.{NamedFile}
 use Rattle.smv_language.specs.ProgramTree.{Text, ProgramTree}
 use Rattle.verb_loading.specs.Inputs.{HoldsModel}
 use Rattle.verb_loading.specs.Cases.{HoldsCase, extension_of}
-use Rattle.verb_loading.specs.Loaded.{case_of, HoldsLoaded, IsLoaded}
+use Rattle.verb_loading.specs.LoadedCases.{case_of, HoldsLoaded, IsLoaded}
 use Rattle.verb_loading.specs.declared.loaded.LoadedCase.{LoadedCase}
 use Rattle.std.specs.Prelude.{length}
 use Rattle.smv_language.specs.ModelTree.{model_tree}
 use Rattle.smv_language.specs.declared.model.FlatModel.{FlatModel as Flat}
 use Rattle.smv_language.specs.declared.model.Fault.{Fault as FaultOf}
-use Rattle.smv_evaluation.specs.Named.{IsEvaluable}
+use Rattle.smv_evaluation.specs.EvaluableModels.{IsEvaluable}
 use Rattle.smv_evaluation.proofs.ModelLaws.{evaluable}
 use Rattle.fault_extend.specs.NumberedFaults.{AreNumbered}
 use Rattle.fault_extend.specs.declared.faults.WovenFault.{WovenFault}
-use Rattle.cut_text_laws.specs.Given.{IsPrintable, HasItsSymbols}
+use Rattle.cut_text_laws.specs.TraceOfText.{IsPrintable, HasItsSymbols}
 use Rattle.cut_text_laws.proofs.Named.{named_is_printable}
 use Rattle.cut_text_laws.proofs.FlatNames.{flat_models_named}
 use Rattle.cut_text_laws.proofs.FlatSymbols.{flat_models_have_symbols}

@@ -9,8 +9,8 @@ use Rattle.smv_language.specs.Flat.{FlatModel}
 use Rattle.smv_flat_laws.specs.History.{Mode}
 use Rattle.fault_instructions.specs.Instructions.{InstructionTree}
 use Rattle.fault_weave.specs.Faults.{Fault}
-use Rattle.fault_weave.specs.Woven.{woven}
-use Rattle.cut_text_laws.specs.Given.{IsPrintable}
+use Rattle.fault_weave.specs.WovenProgram.{woven}
+use Rattle.cut_text_laws.specs.TraceOfText.{IsPrintable}
 use Rattle.cut_text_laws.proofs.Named.{named_is_printable}
 use Rattle.cut_text_laws.proofs.FlatNames.{flat_models_named}
 use Rattle.verb_loading.specs.declared.status.Refusal.{Refusal}

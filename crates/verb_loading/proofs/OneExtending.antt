@@ -6,9 +6,9 @@ use Rattle.smv_language.specs.Text.{program_text}
 use Rattle.smv_language.specs.Flat.{FlatModel}
 use Rattle.fault_instructions.specs.Instructions.{InstructionTree}
 use Rattle.fault_weave.specs.Faults.{HasFaults}
-use Rattle.fault_weave.specs.Woven.{woven}
+use Rattle.fault_weave.specs.WovenProgram.{woven}
 use Rattle.smv_flat_laws.specs.Model.{IsFlatOf}
-use Rattle.fault_extend.specs.Refused.{IsTold, IsWant}
+use Rattle.fault_extend.specs.FirstRefusal.{IsTold, IsWant}
 use Rattle.fault_extend.proofs.OneFault.{one_told, none_told}
 use Rattle.fault_extend.specs.declared.fault.WeaveFault.{WeaveFault}
 use Rattle.verb_loading.specs.declared.status.InputFault.{InputFault}

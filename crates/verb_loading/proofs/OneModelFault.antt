@@ -7,13 +7,13 @@ use Rattle.smv_language.specs.ProgramTree.{Text, ProgramTree}
 use Rattle.smv_language.specs.Lexemes.{lexemes_of}
 use Rattle.smv_expression_reader.specs.declared.fault.ParseFault.{ParseFault}
 use Rattle.smv_model_reader.specs.Symbols.{IsProgram}
-use Rattle.smv_model_reader.specs.Within.{HasProgramDepths, IsProgramTooDeep}
+use Rattle.smv_model_reader.specs.ProgramDepths.{HasProgramDepths, IsProgramTooDeep}
 use Rattle.smv_language.specs.Bytes.{BytesSpellProgram}
 use Rattle.smv_language.specs.Flat.{FlatModel}
 use Rattle.smv_flat_laws.specs.Rules.{Rule, IsFirstBroken, IsAccepted, number_of}
 use Rattle.smv_flat_laws.specs.Model.{IsFlatOf}
 use Rattle.smv_flat_laws.proofs.Laws.{one_fault as one_broken, accepted_unbroken}
-use Rattle.smv_type_laws.specs.Judged.{KindRule, number_of as kind_number}
+use Rattle.smv_type_laws.specs.ExpressionKinds.{KindRule, number_of as kind_number}
 use Rattle.smv_type_laws.specs.Models.{IsFault, IsTyped}
 use Rattle.smv_type_laws.proofs.Typed.{one_fault as one_kind_fault, typed_has_none}
 use Rattle.verb_loading.specs.declared.wrong.Wrong.TheVariants as wrong

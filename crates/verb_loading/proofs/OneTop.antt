@@ -17,7 +17,7 @@ use Rattle.smv_flat_laws.specs.Model.{IsFlatOf}
 use Rattle.smv_flat_laws.specs.ResolvedAt.{IsResolvedAt}
 use Rattle.smv_flat_laws.specs.Rules.{Rule, number_of, IsAccepted}
 use Rattle.smv_flat_laws.specs.ValueRules.{IsLeastBroken}
-use Rattle.smv_type_laws.specs.Judged.{KindRule}
+use Rattle.smv_type_laws.specs.ExpressionKinds.{KindRule}
 use Rattle.smv_type_laws.specs.Models.{top_fault}
 use Rattle.fault_extend_laws.proofs.OneForm.{same_form}
 use Rattle.verb_loading.specs.declared.status.InputFault.{InputFault}

@@ -5,10 +5,10 @@ use Rattle.smv_language.specs.Flat.{FlatModel}
 use Rattle.smv_flat_laws.specs.Rules.{Rule, IsFirstBroken}
 use Rattle.smv_scope.specs.Faults.{rule_of, IsFaultOf}
 use Rattle.smv_scope.specs.declared.fault.FlatFault.{FlatFault}
-use Rattle.smv_scope.specs.declared.fault.Rule.{Rule as FlatRule}
-use Rattle.smv_scope.specs.declared.fault.Rule.TheVariants as flat
-use Rattle.smv_type_laws.specs.Judged as kinds
-use Rattle.smv_type_laws.specs.Judged.{KindRule}
+use Rattle.smv_scope.specs.declared.fault.FlatRule.{FlatRule}
+use Rattle.smv_scope.specs.declared.fault.FlatRule.TheVariants as flat
+use Rattle.smv_type_laws.specs.ExpressionKinds as kinds
+use Rattle.smv_type_laws.specs.ExpressionKinds.{KindRule}
 use Rattle.smv_type_laws.specs.Models.{IsFault}
 use Rattle.smv_types.specs.Answers.{told_rule}
 use Rattle.smv_types.specs.Faults.{IsToldOf}

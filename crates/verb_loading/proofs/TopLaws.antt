@@ -12,7 +12,7 @@ use Rattle.smv_flat_laws.proofs.Walkable.{accepted_walkable}
 use Rattle.smv_flat.specs.ResolvedAt.{IsAt, IsValueFault}
 use Rattle.smv_scope.specs.Faults.{rule_of}
 use Rattle.smv_scope.specs.declared.fault.FlatFault.{FlatFault}
-use Rattle.smv_type_laws.specs.Judged.{KindRule}
+use Rattle.smv_type_laws.specs.ExpressionKinds.{KindRule}
 use Rattle.smv_type_laws.specs.Models.{judged_in, broken_condition, least, least_after, size_fault, top_fault}
 use Rattle.smv_type_laws.specs.Costs.{cost_of}
 use Rattle.smv_types.specs.Answers.{told_rule}
@@ -26,7 +26,7 @@ use Rattle.verb_loading.specs.declared.wrong.Wrong.TheVariants as wrong
 use Rattle.verb_loading.specs.Wrongs.{flat_wrong, type_wrong, names_fault}
 use Rattle.verb_loading.specs.Models.{IsLawful}
 use Rattle.verb_loading.specs.Cases.{Case, extension_of, IsCase, IsTop, IsWrongTop, by_names, by_kinds}
-use Rattle.verb_loading.specs.Loaded.{IsTopIn, IsTopText}
+use Rattle.verb_loading.specs.LoadedCases.{IsTopIn, IsTopText}
 use Rattle.verb_loading.proofs.Told.{one_refusal, names_wrong, flat_is, type_is}
 
 -- `main` is the first instance

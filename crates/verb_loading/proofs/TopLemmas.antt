@@ -9,7 +9,7 @@ use Rattle.verb_loading.specs.declared.wrong.Wrong.TheVariants as wrong
 use Rattle.verb_loading.specs.declared.input.Stop.TheVariants as stop
 use Rattle.verb_loading.specs.Wrongs.{IfRefused}
 use Rattle.verb_loading.specs.Cases.{IsWrongWord, too_long, not_spelled}
-use Rattle.verb_loading.specs.Loaded.{IsWrongTopText, too_long_top, not_a_top}
+use Rattle.verb_loading.specs.LoadedCases.{IsWrongTopText, too_long_top, not_a_top}
 use Rattle.verb_loading.specs.Tops.{stop_at_top}
 
 pub wrong_text : (p : ProgramTree) (bytes : Text) (told : InputFault) → IsWrongTopText bytes told → IsWrongWord p bytes told

@@ -12,7 +12,7 @@ use Rattle.smv_language.specs.Texts.{same_text}
 use Rattle.smv_language.specs.Trace.{Each, value_of_member}
 use Rattle.smv_language.specs.Text.{program_text}
 use Rattle.smv_language.specs.Bytes.{BytesSpellProgram}
-use Rattle.smv_language.specs.Printed.{IsName, AreNames, IsSmall, IsEnd, IsWritable, AreWritable, AreWritableBranches}
+use Rattle.smv_language.specs.PrintedTokens.{IsName, AreNames, IsSmall, IsEnd, IsWritable, AreWritable, AreWritableBranches}
 use Rattle.smv_language.specs.WritableProgram.{IsWritableMember, IsWritableType, IsWritableDeclared, IsWritableDecl, IsWritableTyped, IsWritableAssignment, IsWritableSection, IsWritableModule, IsWritableProgram}
 use Rattle.smv_language.proofs.Spelled.{program_writable}
 use Rattle.smv_language.proofs.ProgramSpells.{program_spells}
@@ -24,7 +24,7 @@ use Rattle.fault_instructions.specs.Instructions.{EffectTree, stuck_at, follows,
 use Rattle.fault_instructions.specs.SpellsInstructions.{BytesSpellInstructions}
 use Rattle.fault_instructions.specs.AddedNames.{own_name, mode_variable, mode_symbol}
 use Rattle.fault_instructions.specs.Templates.{named, number_tree, value_tree, member_trees, domain_tree, clipped_tree, branch, stands, stands_next, rules, first_rules}
-use Rattle.fault_weave.specs.Woven.{start_tree, start_rules, mode_rules, mode_branches, set_one, guard_formula, entries_from, entries, stay_branch, moves_tree, read_tree, slice_rules, slice_sections, tree_map_both, trees_map_both, branches_map_both, rename, same_path, woven_assignment, woven_section, added_sections, woven_module, woven}
+use Rattle.fault_weave.specs.WovenProgram.{start_tree, start_rules, mode_rules, mode_branches, set_one, guard_formula, entries_from, entries, stay_branch, moves_tree, read_tree, slice_rules, slice_sections, tree_map_both, trees_map_both, branches_map_both, rename, same_path, woven_assignment, woven_section, added_sections, woven_module, woven}
 use Rattle.fault_instructions.specs.KindTypes.{type_of_kind}
 use Rattle.fault_instructions.proofs.AmongLaws.{each_append, each_map}
 use Rattle.verb_loading.proofs.AddedNames.{own_is_name, mode_variable_is_name, nominal_is_name, symbol_is_name}

@@ -8,17 +8,17 @@ use Rattle.smv_language.specs.Trace.{Each, EachBoth}
 use Rattle.smv_expression_reader.specs.declared.fault.ParseFault.{ParseFault}
 use Rattle.smv_expression_reader.specs.Stops.{IsExpression, IsTooDeep, FaultMeans}
 use Rattle.smv_expression_reader.specs.Lists.{BytesSpellExpressions}
-use Rattle.smv_expression_reader.specs.Within.{HaveDepths}
+use Rattle.smv_expression_reader.specs.ExpressionDepths.{HaveDepths}
 use Rattle.smv_language.specs.Flat.{FlatLeaf, FlatModel}
 use Rattle.smv_flat_laws.specs.History.{Mode, with_history}
 use Rattle.smv_flat_laws.specs.ResolvedAt.{IsResolvedAt}
 use Rattle.smv_flat_laws.specs.Rules.{Rule}
 use Rattle.smv_flat_laws.specs.ValueRules.{BreaksValue, IsLeastBroken}
-use Rattle.smv_type_laws.specs.Judged.{KindRule}
+use Rattle.smv_type_laws.specs.ExpressionKinds.{KindRule}
 use Rattle.smv_type_laws.specs.Models.{IsTyped, top_fault}
 use Rattle.fault_instructions.specs.Instructions.{InstructionTree}
 use Rattle.fault_weave.specs.Faults.{Fault, HasFaults}
-use Rattle.fault_weave.specs.Woven.{woven}
+use Rattle.fault_weave.specs.WovenProgram.{woven}
 use Rattle.verb_loading.specs.declared.status.InputFault.{InputFault}
 use Rattle.verb_loading.specs.declared.status.Part.TheVariants as part
 use Rattle.verb_loading.specs.declared.wrong.Wrong.TheVariants as wrong
@@ -74,7 +74,8 @@ pub record IsTop (p : ProgramTree) (e : Formula) : Type 0 where
 -- the first rule that it breaks, of names or else of kinds, told at this place
 pub data IsWrongTop (p : ProgramTree) (e : Formula) (place : ℕ) (fault : InputFault) : Type 0 where
   by_names : (rule : Rule) → IsLeastBroken p [] false e rule → fault ≡ names_fault rule place → IsWrongTop p e place fault
-  by_kinds : (flat : FlatModel) (tree : Tree FlatLeaf) (rule : KindRule) → ((other : Rule) → BreaksValue p [] false e other → ⊥) → IsModelOf p flat → IsResolvedAt p flat [] e tree →
+  by_kinds : (flat : FlatModel) (tree : Tree FlatLeaf) (rule : KindRule) → ((other : Rule) → BreaksValue p [] false e other → ⊥) →
+      IsModelOf p flat → IsResolvedAt p flat [] e tree →
       top_fault flat tree ≡ Some rule → fault ≡ kinds_fault rule place → IsWrongTop p e place fault
 
 -- the word of `--top` spells a top event of the program
@@ -88,8 +89,10 @@ pub record IsTopWord (p : ProgramTree) (bytes : Text) (e : Formula) : Type 0 whe
 -- what is wrong with it: its length, what it spells, or the first rule
 pub data IsWrongWord (p : ProgramTree) (bytes : Text) (fault : InputFault) : Type 0 where
   too_long : 65536 < length bytes → fault ≡ record { part = part.Length; number = 1; place = 65536 } → IsWrongWord p bytes fault
-  not_spelled : (f : ParseFault) → length bytes ≤ 65536 → FaultMeans IsExpression (IsTooDeep bytes) bytes f → wrong.Refused fault ≡ parse_wrong f → IsWrongWord p bytes fault
-  not_kept : (e : Formula) → length bytes ≤ 65536 → BytesSpellExpr bytes e → HasDepths bytes e → IsWrongTop p e 0 fault → IsWrongWord p bytes fault
+  not_spelled : (f : ParseFault) → length bytes ≤ 65536 → FaultMeans IsExpression (IsTooDeep bytes) bytes f →
+      wrong.Refused fault ≡ parse_wrong f → IsWrongWord p bytes fault
+  not_kept : (e : Formula) → length bytes ≤ 65536 → BytesSpellExpr bytes e → HasDepths bytes e → IsWrongTop p e 0 fault →
+      IsWrongWord p bytes fault
 
 -- the file of `--tops` holds these, at most 64, each a top event of the program
 pub record HoldsTops (files : List NamedFile) (name : Text) (p : ProgramTree) (tops : List Formula) : Type 0 where

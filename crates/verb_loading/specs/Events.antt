@@ -12,4 +12,5 @@ use Rattle.verb_loading.specs.Cases.{Case, HoldsCase, IsWrongWord}
 pub data RefusesEvent (files : List NamedFile) (model faults top : Text) (r : Refusal) : Type 0 where
   at_model : RefusesModel files model r → RefusesEvent files model faults top r
   at_faults : (p : ProgramTree) → HoldsModel files model p → RefusesFaults files faults p r → RefusesEvent files model faults top r
-  at_top : (c : Case) (fault : InputFault) → HoldsCase files model faults c → r ≡ refusal.Top fault → IsWrongWord c.program top fault → RefusesEvent files model faults top r
+  at_top : (c : Case) (fault : InputFault) → HoldsCase files model faults c → r ≡ refusal.Top fault → IsWrongWord c.program top fault →
+      RefusesEvent files model faults top r

@@ -15,11 +15,11 @@ use Rattle.fault_extend_laws.specs.Expressions.{AllUsesKept}
 use Rattle.fault_instructions.specs.Instructions.{InstructionTree}
 use Rattle.fault_instructions.specs.SpellsInstructions.{BytesSpellInstructions}
 use Rattle.fault_reader.specs.InstructionPlaces.{IsInstructions}
-use Rattle.fault_reader.specs.Within.{HaveInstructionDepths, AreInstructionsTooDeep}
+use Rattle.fault_reader.specs.InstructionDepths.{HaveInstructionDepths, AreInstructionsTooDeep}
 use Rattle.fault_weave.specs.Faults.{Fault, HasFaults}
-use Rattle.fault_weave.specs.Woven.{woven}
+use Rattle.fault_weave.specs.WovenProgram.{woven}
 use Rattle.fault_instructions.specs.Weavable.{IsWeavable}
-use Rattle.fault_extend.specs.Refused.{KeepsRules, IsTold}
+use Rattle.fault_extend.specs.FirstRefusal.{KeepsRules, IsTold}
 use Rattle.fault_extend.specs.NumberedFaults.{parts_of}
 use Rattle.fault_extend.specs.declared.faults.WovenFault.{WovenFault}
 use Rattle.smv_language.specs.declared.model.Fault.{Fault as Numbered}
@@ -58,7 +58,8 @@ stop_of_write write_stop.OutOfMemory = stop.Memory
 
 -- the file is not there, or it has more than 1,048,576 bytes
 abbrev pub IsRefusedFile : List NamedFile → Text → InputFault → Type 0
-IsRefusedFile files name fault = ((fault ≡ absent) × (file_of files name ≡ None)) ⊎ ((fault ≡ too_long) × (1048576 < length (content_of files name)))
+IsRefusedFile files name fault = ((fault ≡ absent) × (file_of files name ≡ None))
+    ⊎ ((fault ≡ too_long) × (1048576 < length (content_of files name)))
 
 -- the file has these bytes, at most 1,048,576
 pub record HasBytes (files : List NamedFile) (name : Text) (bytes : List ℕ) : Type 0 where
@@ -68,7 +69,8 @@ pub record HasBytes (files : List NamedFile) (name : Text) (bytes : List ℕ) : 
 -- the model file is refused
 pub data RefusesModel (files : List NamedFile) (name : Text) (r : Refusal) : Type 0 where
   model_file : (fault : InputFault) → r ≡ refusal.Model fault → IsRefusedFile files name fault → RefusesModel files name r
-  model_bytes : (bytes : List ℕ) (fault : InputFault) → r ≡ refusal.Model fault → HasBytes files name bytes → IsWrongModel bytes fault → RefusesModel files name r
+  model_bytes : (bytes : List ℕ) (fault : InputFault) → r ≡ refusal.Model fault → HasBytes files name bytes → IsWrongModel bytes fault →
+      RefusesModel files name r
 
 -- the file holds a model that is taken: the text of this program
 pub record HoldsModel (files : List NamedFile) (name : Text) (p : ProgramTree) : Type 0 where
@@ -98,15 +100,18 @@ pub record AreTaken (p : ProgramTree) (i : InstructionTree) : Type 0 where
 -- of the weave, or the extension passes a limit
 pub data IsWrongFaults (p : ProgramTree) (bytes : List ℕ) (fault : InputFault) : Type 0 where
   not_spelled : (f : ParseFault) → IsFaultOfInstructions bytes f → wrong.Refused fault ≡ parse_wrong f → IsWrongFaults p bytes fault
-  not_woven : (i : InstructionTree) (m : FlatModel) (f : WeaveFault) → IsInstructionText bytes i → IsFlatOf p m → IsTold p m i (modules_of_instances p) f → wrong.Refused fault ≡ weave_wrong f →
+  not_woven : (i : InstructionTree) (m : FlatModel) (f : WeaveFault) → IsInstructionText bytes i → IsFlatOf p m →
+      IsTold p m i (modules_of_instances p) f → wrong.Refused fault ≡ weave_wrong f →
       IsWrongFaults p bytes fault
-  past_limit : (i : InstructionTree) (faults : List Fault) → IsInstructionText bytes i → AreTaken p i → HasFaults p i faults → PassesLimit (woven p i) faults fault →
+  past_limit : (i : InstructionTree) (faults : List Fault) → IsInstructionText bytes i → AreTaken p i → HasFaults p i faults →
+      PassesLimit (woven p i) faults fault →
       IsWrongFaults p bytes fault
 
 -- the instruction file is refused
 pub data RefusesFaults (files : List NamedFile) (name : Text) (p : ProgramTree) (r : Refusal) : Type 0 where
   faults_file : (fault : InputFault) → r ≡ refusal.Faults fault → IsRefusedFile files name fault → RefusesFaults files name p r
-  faults_bytes : (bytes : List ℕ) (fault : InputFault) → r ≡ refusal.Faults fault → HasBytes files name bytes → IsWrongFaults p bytes fault → RefusesFaults files name p r
+  faults_bytes : (bytes : List ℕ) (fault : InputFault) → r ≡ refusal.Faults fault → HasBytes files name bytes →
+      IsWrongFaults p bytes fault → RefusesFaults files name p r
 
 -- The text is that of the extension of the program by the instructions that the bytes spell, which passes no limit, and the
 -- report tells the faults of the two.

@@ -6,8 +6,8 @@ pub mod Wholes
 pub mod Inputs
 pub mod Cases
 pub mod Tasks
-pub mod Answered
+pub mod CaseAnswers
 pub mod Events
-pub mod Loaded
+pub mod LoadedCases
 pub mod LoadedEvents
 pub mod Tops

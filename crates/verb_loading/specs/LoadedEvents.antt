@@ -7,7 +7,7 @@ use Rattle.verb_loading.specs.declared.loaded.LoadedCase.{LoadedCase}
 use Rattle.verb_loading.specs.declared.event.LoadedEvent.{LoadedEvent}
 use Rattle.verb_loading.specs.Models.{IsLawful}
 use Rattle.verb_loading.specs.Cases.{Case}
-use Rattle.verb_loading.specs.Loaded.{case_of, IsLoaded, IsTopIn}
+use Rattle.verb_loading.specs.LoadedCases.{case_of, IsLoaded, IsTopIn}
 
 -- the case is the extension of a lawful program, and the expression a top event of it that the word spells
 pub record IsAnalysable (p : ProgramTree) (l : LoadedCase) (word : Text) (tree : Tree FlatLeaf) : Type 0 where

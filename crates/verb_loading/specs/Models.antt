@@ -5,12 +5,12 @@ use Rattle.smv_language.specs.Bytes.{BytesSpellProgram}
 use Rattle.smv_expression_reader.specs.declared.fault.ParseFault.{ParseFault}
 use Rattle.smv_expression_reader.specs.Stops.{FaultMeans}
 use Rattle.smv_model_reader.specs.Symbols.{IsProgram}
-use Rattle.smv_model_reader.specs.Within.{HasProgramDepths, IsProgramTooDeep}
+use Rattle.smv_model_reader.specs.ProgramDepths.{HasProgramDepths, IsProgramTooDeep}
 use Rattle.smv_language.specs.Flat.{FlatModel}
 use Rattle.smv_flat_laws.specs.Looks.{ActualsMean}
 use Rattle.smv_flat_laws.specs.Rules.{Rule, IsFirstBroken, IsAccepted}
 use Rattle.smv_flat_laws.specs.Model.{IsFlatOf}
-use Rattle.smv_type_laws.specs.Judged.{KindRule}
+use Rattle.smv_type_laws.specs.ExpressionKinds.{KindRule}
 use Rattle.smv_type_laws.specs.Models.{IsTyped, IsFault}
 use Rattle.verb_loading.specs.declared.status.InputFault.{InputFault}
 use Rattle.verb_loading.specs.declared.wrong.Wrong.TheVariants as wrong
@@ -42,8 +42,10 @@ pub record IsLawful (p : ProgramTree) (m : FlatModel) : Type 0 where
 -- or the first of kinds that its flat model breaks
 pub data IsWrongModel (bytes : List ℕ) (fault : InputFault) : Type 0 where
   not_read : (f : ParseFault) → IsModelFault bytes f → wrong.Refused fault ≡ parse_wrong f → IsWrongModel bytes fault
-  not_flat : (p : ProgramTree) (r : Rule) (item : ℕ) → IsModelText bytes p → IsFirstBroken p r item → fault ≡ names_fault r item → IsWrongModel bytes fault
-  not_typed : (p : ProgramTree) (m : FlatModel) (r : KindRule) (item : ℕ) → IsModelText bytes p → IsAccepted p → IsModelOf p m → IsFault m r item → fault ≡ kinds_fault r item →
+  not_flat : (p : ProgramTree) (r : Rule) (item : ℕ) → IsModelText bytes p → IsFirstBroken p r item → fault ≡ names_fault r item →
+      IsWrongModel bytes fault
+  not_typed : (p : ProgramTree) (m : FlatModel) (r : KindRule) (item : ℕ) → IsModelText bytes p → IsAccepted p → IsModelOf p m →
+      IsFault m r item → fault ≡ kinds_fault r item →
       IsWrongModel bytes fault
 
 -- some bytes spell the program

@@ -4,7 +4,7 @@ use Rattle.std.specs.Fmt.{decimal}
 use Rattle.smv_language.specs.ProgramTree.{Text}
 use Rattle.cut_text_laws.specs.Analysis.{Ending, complete, bounded}
 use Rattle.verb_command_line.specs.declared.fault.WordFault.{WordFault}
-use Rattle.verb_command_line.specs.Seen.{rule_of, place_of}
+use Rattle.verb_command_line.specs.CommandView.{rule_of, place_of}
 use Rattle.verb_loading.specs.declared.status.Part.{Part}
 use Rattle.verb_loading.specs.declared.status.Part.TheVariants as part
 use Rattle.verb_loading.specs.declared.status.InputFault.{InputFault}

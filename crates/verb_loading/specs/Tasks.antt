@@ -14,7 +14,8 @@ use Rattle.verb_loading.specs.Cases.{Case, extension_of}
 -- the file is not there, or has more bytes than this
 abbrev pub IsRefusedAbove : ℕ → List NamedFile → Text → InputFault → Type 0
 IsRefusedAbove limit files name fault =
-    ((fault ≡ absent) × (file_of files name ≡ None)) ⊎ ((fault ≡ record { part = part.Length; number = 1; place = limit }) × (limit < length (content_of files name)))
+    ((fault ≡ absent) × (file_of files name ≡ None))
+    ⊎ ((fault ≡ record { part = part.Length; number = 1; place = limit }) × (limit < length (content_of files name)))
 
 -- the file has these bytes, at most so many
 pub record HasAtMost (limit : ℕ) (files : List NamedFile) (name : Text) (bytes : List ℕ) : Type 0 where

@@ -6,7 +6,7 @@ use Rattle.smv_language.specs.Flat.{FlatModel}
 use Rattle.smv_flat_laws.specs.History.{Mode, with_history}
 use Rattle.smv_flat_laws.specs.Rules.{Rule, too_many, IsFirstBroken, IsAccepted}
 use Rattle.smv_flat_laws.specs.Model.{IsFlatOf}
-use Rattle.smv_type_laws.specs.Judged.{KindRule, too_large}
+use Rattle.smv_type_laws.specs.ExpressionKinds.{KindRule, too_large}
 use Rattle.smv_type_laws.specs.Models.{IsTyped, IsFault}
 use Rattle.fault_weave.specs.Faults.{Fault}
 use Rattle.verb_loading.specs.declared.status.InputFault.{InputFault}
@@ -47,13 +47,15 @@ pub record BreaksKinds (whole : FlatModel) (told : InputFault) : Type 0 where
 -- what is wrong with an extension: it breaks a rule of names, or else its flat model with all bits breaks one of kinds
 pub data IsWrongWhole (extension : ProgramTree) (faults : List Fault) (told : InputFault) : Type 0 where
   by_names : BreaksNames extension told → IsWrongWhole extension faults told
-  by_kinds : (whole : FlatModel) → IsAccepted extension → IsWhole extension faults whole → BreaksKinds whole told → IsWrongWhole extension faults told
+  by_kinds : (whole : FlatModel) → IsAccepted extension → IsWhole extension faults whole → BreaksKinds whole told →
+      IsWrongWhole extension faults told
 
 -- The extension passes a limit: it has too many instances or variables, or else its flat model with all bits is too large. No
 -- other rule can be broken where the program and the instructions break none.
 pub data PassesLimit (extension : ProgramTree) (faults : List Fault) (told : InputFault) : Type 0 where
   by_number : (item : ℕ) → IsFirstBroken extension too_many item → told ≡ names_fault too_many 0 → PassesLimit extension faults told
-  by_size : (whole : FlatModel) → IsAccepted extension → IsWhole extension faults whole → IsFault whole too_large 0 → told ≡ kinds_fault too_large 0 → PassesLimit extension faults told
+  by_size : (whole : FlatModel) → IsAccepted extension → IsWhole extension faults whole → IsFault whole too_large 0 →
+      told ≡ kinds_fault too_large 0 → PassesLimit extension faults told
 
 -- the extension breaks no rule, and no limit of size
 pub record IsWithinLimits (extension : ProgramTree) (faults : List Fault) : Type 0 where

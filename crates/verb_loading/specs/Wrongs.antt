@@ -4,20 +4,20 @@ use Rattle.smv_lexer.specs.declared.token.LexFault.{LexFault}
 use Rattle.smv_lexer.specs.declared.token.LexFault.TheVariants as lex
 use Rattle.smv_expression_reader.specs.declared.fault.ParseFault.{ParseFault}
 use Rattle.smv_expression_reader.specs.declared.fault.ParseFault.TheVariants as parse
-use Rattle.smv_scope.specs.declared.fault.Rule.{Rule}
-use Rattle.smv_scope.specs.declared.fault.Rule.TheVariants as rule
+use Rattle.smv_scope.specs.declared.fault.FlatRule.{FlatRule}
+use Rattle.smv_scope.specs.declared.fault.FlatRule.TheVariants as rule
 use Rattle.smv_scope.specs.declared.fault.FlatFault.{FlatFault}
 use Rattle.smv_types.specs.declared.fault.TypeFault.{TypeFault}
-use Rattle.smv_types.specs.declared.fault.Rule.{Rule as TypeRule}
-use Rattle.smv_types.specs.declared.fault.Rule.TheVariants as kind
+use Rattle.smv_types.specs.declared.fault.TypeRule.{TypeRule}
+use Rattle.smv_types.specs.declared.fault.TypeRule.TheVariants as kind
 use Rattle.fault_instructions.specs.declared.fault.EffectFault.TheVariants as effect
-use Rattle.fault_rules.specs.declared.fault.Rule.{Rule as WeaveRule}
-use Rattle.fault_rules.specs.declared.fault.Rule.TheVariants as weave
+use Rattle.fault_rules.specs.declared.fault.InstructionRule.{InstructionRule as WeaveRule}
+use Rattle.fault_rules.specs.declared.fault.InstructionRule.TheVariants as weave
 use Rattle.fault_extend.specs.declared.fault.WeaveFault.{WeaveFault}
-use Rattle.fault_extend.specs.declared.fault.Cause.{Cause}
-use Rattle.fault_extend.specs.declared.fault.Cause.TheVariants as cause
+use Rattle.fault_extend.specs.declared.fault.WeaveCause.{WeaveCause}
+use Rattle.fault_extend.specs.declared.fault.WeaveCause.TheVariants as cause
 use Rattle.smv_flat_laws.specs.Rules as rules
-use Rattle.smv_type_laws.specs.Judged as kinds
+use Rattle.smv_type_laws.specs.ExpressionKinds as kinds
 use Rattle.verb_loading.specs.declared.status.InputFault.{InputFault}
 use Rattle.verb_loading.specs.declared.status.Part.{Part}
 use Rattle.verb_loading.specs.declared.status.Part.TheVariants as part
@@ -45,7 +45,7 @@ parse_wrong (parse.LeftOut at) = broken part.Parse 4 at
 parse_wrong parse.OutOfMemory = wrong.Memory
 
 -- the rules of names, instances and assignments, by their numbers
-abbrev pub flat_rule : Rule → ℕ → Wrong
+abbrev pub flat_rule : FlatRule → ℕ → Wrong
 flat_rule rule.NoMain at = broken part.Flat 1 at
 flat_rule rule.MainHasParameters at = broken part.Flat 2 at
 flat_rule rule.DoubleModule at = broken part.Flat 3 at
@@ -100,7 +100,7 @@ weave_rule weave.TooManyFaults at = broken part.Weave 9 at
 weave_rule weave.OutOfMemory at = wrong.Memory
 
 -- a rule of the weave, or one of names or kinds that a guard or a Follows breaks, at the item of its mode
-abbrev pub cause_wrong : Cause → ℕ → Wrong
+abbrev pub cause_wrong : WeaveCause → ℕ → Wrong
 cause_wrong (cause.Weave rule) at = weave_rule rule at
 cause_wrong (cause.Flat fault) at = flat_rule fault.rule at
 cause_wrong (cause.Kinds fault) at = type_rule fault.rule at

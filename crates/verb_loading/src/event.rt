@@ -1,6 +1,5 @@
-// A model, its extension and a top event, as the work on them has them in memory ([`load_event`]): the three loads one
-// after the other, each with its refusal.
-
+//! A model, its extension and a top event, as the work on them has them in memory ([`load_event`]): the three loads one
+//! after the other, each with its refusal.
 ghost use Rattle.std.specs.Prelude.{◌≡◌, ◌≤◌, IfOk, IfSome, IsErrOf};
 ghost use Rattle.base_files.specs.Desk.{Rose};
 ghost use Rattle.verb_loading.specs.Cases.{HoldsCase};

@@ -1,6 +1,5 @@
-// An instruction file as the extension of a model: the text that is written, and what is said ([`load_extension`]). Before
-// anything is written, the whole is flattened and typed once more, for the limits that neither file passes alone.
-
+//! An instruction file as the extension of a model: the text that is written, and what is said ([`load_extension`]). Before
+//! anything is written, the whole is flattened and typed once more, for the limits that neither file passes alone.
 ghost use Rattle.std.specs.Prelude.{◌≡◌, ◌≤◌, ◌++◌, codes, length, map, IfOk, OnOk, IfErr, IfSome, IsErrOf};
 ghost use Rattle.base_files.specs.Desk.{Rose};
 ghost use Rattle.smv_language.specs.ProgramTree.{program_tree};
@@ -48,7 +47,8 @@ pub fn load_extension<D: Desk>(
 ) -> Result<Made, Stop>
     requires lawful { IsLawful (program_tree model.now.program) (model_tree model.now.typed.model) }
     requires in_var { HasInstancesInVar (program_tree model.now.program) }
-    ensures ok { IfOk result (λ made. IfSome (D.files desk.old) (λ files. HoldsExtension files name.now (program_tree model.now.program) made)) }
+    ensures ok { IfOk result
+        (λ made. IfSome (D.files desk.old) (λ files. HoldsExtension files name.now (program_tree model.now.program) made)) }
     ensures refused { (r : Refusal) → IsErrOf result (stop.Refused r) →
         IfSome (D.files desk.old) (λ files. RefusesFaults files name.now (program_tree model.now.program) r) }
     ensures failed { IsErrOf result stop.Desk → Rose (D.faults desk.old) (D.faults desk.new) }

@@ -1,6 +1,5 @@
-// The input files, as bytes ([`read_input`]), and why work stops: a refusal of a file, a call of the desk that failed, or
-// want of memory ([`Stop`]).
-
+//! The input files, as bytes ([`read_input`]), and why work stops: a refusal of a file, a call of the desk that failed, or
+//! want of memory ([`Stop`]).
 ghost use Rattle.std.specs.Prelude.{◌≡◌, ◌≤◌, length, IfOk, IfSome, IsErrOf};
 ghost use Rattle.base_files.specs.Desk.{Rose};
 ghost use Rattle.verb_loading.specs.Inputs.{refusal_at, stop_at, stop_of_write, IsRefusedFile, HasBytes};

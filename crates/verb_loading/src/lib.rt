@@ -7,7 +7,7 @@
 //! of them ends, and what each refusal says, stands here, in `status`.
 //!
 //! What is wrong with a file and what it holds stands in `specs/Inputs.antt`, cases and top events in `specs/Cases.antt`, what is
-//! in memory in `specs/Loaded.antt` and `specs/LoadedEvents.antt`, the numbers and lines of refusals in `specs/Wrongs.antt` and
+//! in memory in `specs/LoadedCases.antt` and `specs/LoadedEvents.antt`, the numbers and lines of refusals in `specs/Wrongs.antt` and
 //! `specs/Statuses.antt`. That what files hold is one, and so what is wrong with them, are the laws `proofs/One*`.
 //!
 //! The files stand in the order of the work: `input` (a file's bytes), `model` (program, flat model, kinds), `faults`

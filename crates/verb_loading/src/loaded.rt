@@ -1,6 +1,5 @@
-// An instruction file as the extension of a model in memory, with its faults and its flat model ([`load_case`]), for the
-// work that reads and searches it. The same rules are tried as where an extension is written.
-
+//! An instruction file as the extension of a model in memory, with its faults and its flat model ([`load_case`]), for the
+//! work that reads and searches it. The same rules are tried as where an extension is written.
 ghost use Rattle.std.specs.Prelude.{◌≡◌, ◌≤◌, length, map, IfOk, OnOk, IfErr, IfSome, IsErrOf};
 ghost use Rattle.base_files.specs.Desk.{Rose};
 ghost use Rattle.smv_language.specs.ProgramTree.{program_tree};
@@ -12,7 +11,7 @@ ghost use Rattle.verb_loading.specs.Wrongs.{IfRefused};
 ghost use Rattle.verb_loading.specs.Models.{IsLawful, IsSpelled};
 ghost use Rattle.verb_loading.specs.Wholes.{BreaksKinds, HasItsModes};
 ghost use Rattle.verb_loading.specs.Inputs.{IsWrongFaults, RefusesFaults};
-ghost use Rattle.verb_loading.specs.Loaded.{IsLoaded, HoldsLoaded, IsLoadedFrom, IsLimited, IsWrongLimited};
+ghost use Rattle.verb_loading.specs.LoadedCases.{IsLoaded, HoldsLoaded, IsLoadedFrom, IsLimited, IsWrongLimited};
 ghost use Rattle.verb_loading.specs.declared.status.Refusal.{Refusal};
 ghost use Rattle.verb_loading.specs.declared.input.Stop.TheVariants as stop;
 

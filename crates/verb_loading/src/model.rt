@@ -1,6 +1,5 @@
-// A model file as a program, and that as a flat model with its kinds ([`load_model`]). The first reader or layer that
-// refuses it is told.
-
+//! A model file as a program, and that as a flat model with its kinds ([`load_model`]). The first reader or layer that
+//! refuses it is told.
 ghost use Rattle.std.specs.Prelude.{◌≡◌, ◌≤◌, length, IfOk, IfErr, IfSome, IsErrOf};
 ghost use Rattle.base_files.specs.Desk.{Rose};
 ghost use Rattle.smv_language.specs.ProgramTree.{program_tree};

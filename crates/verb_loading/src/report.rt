@@ -1,6 +1,5 @@
-// What is said once the extension is written: the number of faults, and each with its number and name. The name of a
-// fault is made here from its path, slice and mode ([`append_name`]).
-
+//! What is said once the extension is written: the number of faults, and each with its number and name. The name of a
+//! fault is made here from its path, slice and mode ([`append_name`]).
 ghost use Rattle.std.specs.Prelude.{◌≡◌, ◌++◌, IfOk, OnOk, codes, map};
 ghost use Rattle.fault_extend.specs.WovenFaults.{fault_tree};
 ghost use Rattle.cut_report.specs.FaultText.{faults_text};

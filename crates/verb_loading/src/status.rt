@@ -1,9 +1,9 @@
-// How a run ends ([`Status`]), with which number, and the line that a refusal says ([`Refusal::line`], [`words_line`]). Each line is made
-// of fixed words and numbers alone, so that nothing of a file's text gets into it.
-
+//! How a run ends ([`Status`]), with which number, and the line that a refusal says ([`Refusal::line`], [`words_line`]). Each line is made
+//! of fixed words and numbers alone, so that nothing of a file's text gets into it.
 ghost use Rattle.std.specs.Prelude.{◌≡◌, ◌≤ℤ◌, pos, ◌++◌, IfOk, OnOk};
 ghost use Rattle.cut_text_laws.specs.Analysis.{told_ending};
-ghost use Rattle.verb_loading.specs.Statuses.{ended_with, IsFinished, number_of, status_of, part_text, rule_text, fault_text, words_text, refusal_text, why_text, moment_text, line_text};
+ghost use Rattle.verb_loading.specs.Statuses.{ended_with, IsFinished, number_of, status_of, part_text, rule_text, fault_text, words_text};
+ghost use Rattle.verb_loading.specs.Statuses.{refusal_text, why_text, moment_text, line_text};
 
 use base_values::{ByteList, Ending, OutOfMemory};
 use std::alloc::Global;

@@ -1,9 +1,8 @@
-// The word of a top event, judged on the model and read over its extension ([`load_top`]). What is wrong with it is told
-// over the model that the user wrote; over the extension it then breaks no rule.
-
+//! The word of a top event, judged on the model and read over its extension ([`load_top`]). What is wrong with it is told
+//! over the model that the user wrote; over the extension it then breaks no rule.
 ghost use Rattle.std.specs.Prelude.{◌≡◌, [], false, IfOk, OnOk, IfErr, IsErrOf};
 ghost use Rattle.smv_language.specs.ProgramTree.{program_tree};
-ghost use Rattle.smv_language.specs.Written.{tree_of};
+ghost use Rattle.smv_language.specs.ExpressionTree.{tree_of};
 ghost use Rattle.smv_language.specs.ModelTree.{model_tree, flat_tree};
 ghost use Rattle.smv_flat_laws.specs.Model.{IsFlatOf};
 ghost use Rattle.smv_flat_laws.specs.ResolvedAt.{IsResolvedAt};
@@ -11,7 +10,7 @@ ghost use Rattle.smv_flat_laws.specs.Rules.{IsAccepted};
 ghost use Rattle.verb_loading.specs.Wrongs.{IfRefused};
 ghost use Rattle.verb_loading.specs.Models.{IsLawful};
 ghost use Rattle.verb_loading.specs.Cases.{IsTop, IsWrongTop, IsWrongWord};
-ghost use Rattle.verb_loading.specs.Loaded.{case_of, IsLoaded, IsTopIn, IsTopText, IsWrongTopText};
+ghost use Rattle.verb_loading.specs.LoadedCases.{case_of, IsLoaded, IsTopIn, IsTopText, IsWrongTopText};
 ghost use Rattle.verb_loading.specs.declared.status.Refusal.{Refusal};
 ghost use Rattle.verb_loading.specs.declared.status.InputFault.{InputFault};
 ghost use Rattle.verb_loading.specs.declared.status.Refusal.TheVariants as refusal;

@@ -1,17 +1,16 @@
-// What is wrong with an input ([`Wrong`]), from the faults of the layers that read it: each has a `From`, by which its rule
-// becomes a part, a number and a place.
-
+//! What is wrong with an input ([`Wrong`]), from the faults of the layers that read it: each has a `From`, by which its rule
+//! becomes a part, a number and a place.
 ghost use Rattle.std.specs.Prelude.{◌≡◌};
 ghost use Rattle.verb_loading.specs.declared.wrong.Wrong.TheVariants as wrong;
 ghost use Rattle.verb_loading.specs.Wrongs.{lex_wrong, parse_wrong, flat_wrong, type_wrong, weave_wrong, weave_rule};
 
 use crate::status::{InputFault, Part};
 use base_values::OutOfMemory;
-use fault_extend::{Cause, WeaveFault};
+use fault_extend::{WeaveCause, WeaveFault};
 use fault_instructions::EffectFault;
 use fault_rules as weave;
 use smv_expression_reader::ParseFault;
-use smv_flat::{FlatFault, Rule};
+use smv_flat::{FlatFault, FlatRule};
 use smv_lexer::LexFault;
 use smv_types::TypeFault;
 
@@ -76,7 +75,7 @@ impl From<FlatFault> for Wrong {
 
     fn from(fault: FlatFault) -> Wrong {
         match fault.rule {
-            Rule::OutOfMemory => Wrong::Memory,
+            FlatRule::OutOfMemory => Wrong::Memory,
             rule => broken(Part::Flat, rule as u32, fault.item),
         }
     }
@@ -87,7 +86,7 @@ impl From<TypeFault> for Wrong {
 
     fn from(fault: TypeFault) -> Wrong {
         match fault.rule {
-            smv_types::Rule::OutOfMemory => Wrong::Memory,
+            smv_types::TypeRule::OutOfMemory => Wrong::Memory,
             rule => broken(Part::Kinds, rule as u32, fault.item),
         }
     }
@@ -98,12 +97,12 @@ impl From<WeaveFault> for Wrong {
 
     fn from(fault: WeaveFault) -> Wrong {
         match fault.cause {
-            Cause::Weave(rule) => rule_broken(rule, fault.item),
-            Cause::Flat(inner) => Wrong::from(FlatFault {
+            WeaveCause::Weave(rule) => rule_broken(rule, fault.item),
+            WeaveCause::Flat(inner) => Wrong::from(FlatFault {
                 rule: inner.rule,
                 item: fault.item,
             }),
-            Cause::Kinds(inner) => Wrong::from(TypeFault {
+            WeaveCause::Kinds(inner) => Wrong::from(TypeFault {
                 rule: inner.rule,
                 item: fault.item,
             }),
@@ -112,21 +111,21 @@ impl From<WeaveFault> for Wrong {
 }
 
 /// A rule of the weave that is broken at an item.
-fn rule_broken(rule: weave::Rule, item: u32) -> Wrong
+fn rule_broken(rule: weave::InstructionRule, item: u32) -> Wrong
     ensures { result ≡ weave_rule rule item }
 {
     match rule {
-        weave::Rule::NoSuchModule => broken(Part::Weave, 1, item),
-        weave::Rule::NoSuchVariable => broken(Part::Weave, 2, item),
-        weave::Rule::NotAStateVariable => broken(Part::Weave, 3, item),
-        weave::Rule::DoubleSlice => broken(Part::Weave, 4, item),
-        weave::Rule::DoubleMode => broken(Part::Weave, 5, item),
-        weave::Rule::VariableTaken => broken(Part::Weave, 6, item),
-        weave::Rule::Effect(EffectFault::WrongKind) => broken(Part::Effect, 1, item),
-        weave::Rule::Effect(EffectFault::Outside) => broken(Part::Effect, 2, item),
-        weave::Rule::Effect(EffectFault::OneValueOnly) => broken(Part::Effect, 3, item),
-        weave::Rule::NameTaken => broken(Part::Weave, 8, item),
-        weave::Rule::TooManyFaults => broken(Part::Weave, 9, item),
-        weave::Rule::OutOfMemory => Wrong::Memory,
+        weave::InstructionRule::NoSuchModule => broken(Part::Weave, 1, item),
+        weave::InstructionRule::NoSuchVariable => broken(Part::Weave, 2, item),
+        weave::InstructionRule::NotAStateVariable => broken(Part::Weave, 3, item),
+        weave::InstructionRule::DoubleSlice => broken(Part::Weave, 4, item),
+        weave::InstructionRule::DoubleMode => broken(Part::Weave, 5, item),
+        weave::InstructionRule::VariableTaken => broken(Part::Weave, 6, item),
+        weave::InstructionRule::Effect(EffectFault::WrongKind) => broken(Part::Effect, 1, item),
+        weave::InstructionRule::Effect(EffectFault::Outside) => broken(Part::Effect, 2, item),
+        weave::InstructionRule::Effect(EffectFault::OneValueOnly) => broken(Part::Effect, 3, item),
+        weave::InstructionRule::NameTaken => broken(Part::Weave, 8, item),
+        weave::InstructionRule::TooManyFaults => broken(Part::Weave, 9, item),
+        weave::InstructionRule::OutOfMemory => Wrong::Memory,
     }
 }

@@ -30,16 +30,16 @@ use Rattle.cut_search_laws.specs.Problem.{problem_of}
 use Rattle.cut_search.specs.Answer.{IsAnswer}
 use Rattle.cut_search.specs.declared.answer.Analysis.{Analysis as Searched}
 use Rattle.cut_search.proofs.SearchLemmas.{sets_numbered}
-use Rattle.cut_report_laws.specs.Answered as found
-use Rattle.cut_report_laws.specs.Answered.{ending_of, analysis_of}
+use Rattle.cut_report_laws.specs.SearchAnswer as found
+use Rattle.cut_report_laws.specs.SearchAnswer.{ending_of, analysis_of}
 use Rattle.cut_report_laws.proofs.Analyses.{answers_are_analyses}
 use Rattle.cut_report_laws.specs.ExtendedTraces.{Ending, complete, bounded}
 use Rattle.verb_loading.specs.declared.loaded.LoadedCase.{LoadedCase}
 use Rattle.verb_loading.specs.Cases.{Case}
 use Rattle.verb_loading.specs.Tasks.{IsTopTree}
-use Rattle.verb_loading.specs.Loaded.{case_of}
-use Rattle.verb_loading.specs.Answered.{faults_text}
-use Rattle.cut_model_search.specs.Found.{EndsBy}
+use Rattle.verb_loading.specs.LoadedCases.{case_of}
+use Rattle.verb_loading.specs.CaseAnswers.{faults_text}
+use Rattle.cut_model_search.specs.CaseAnalysis.{EndsBy}
 use Rattle.verb_loading.specs.LoadedEvents.{IsAnalysable}
 use Rattle.cut_model_search.proofs.Analysable.{model_of_case, case_counts}
 use Rattle.verb_loading.proofs.ListedLaws.{are_listed, named_lines}

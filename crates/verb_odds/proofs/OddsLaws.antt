@@ -9,12 +9,12 @@ use Rattle.verb_loading.specs.declared.status.Refusal.TheVariants as refusal
 use Rattle.verb_loading.specs.declared.status.InputFault.{InputFault}
 use Rattle.verb_loading.specs.Inputs.{RefusesModel, HoldsModel, RefusesFaults}
 use Rattle.verb_loading.specs.Cases.{Case, HoldsCase, IsTopWord, IsWrongWord}
-use Rattle.cut_model_search.specs.Found.{IsFound, EndsBy}
-use Rattle.verb_loading.specs.Answered.{Said}
+use Rattle.cut_model_search.specs.CaseAnalysis.{IsFound, EndsBy}
+use Rattle.verb_loading.specs.CaseAnswers.{Said}
 use Rattle.verb_loading.specs.LoadedEvents.{case_in}
 use Rattle.verb_loading.specs.declared.status.Status.{Status}
 use Rattle.verb_loading.specs.declared.status.Status.TheVariants as status
-use Rattle.verb_odds.specs.declared.odds.Marked.{Marked}
+use Rattle.verb_odds.specs.declared.odds.MarkedCase.{MarkedCase}
 use Rattle.verb_odds.specs.declared.odds.FoundOdds.{FoundOdds}
 use Rattle.cut_text_laws.specs.Analysis.{told_ending, Ending, complete, bounded}
 use Rattle.verb_loading.specs.Statuses.{ended_with, IsBoundedAt}
@@ -45,7 +45,7 @@ module _ (model faults top : Text) where
   odds_no_top (Some files) c r holds all wrong = at_top c wrong.0 wrong.1 holds all wrong.2
 
   -- what was found of a case that the files hold
-  pub finds_odds : (told : Option (List NamedFile)) (l : Marked) (depth : ℕ) (f : FoundOdds) → IfSome told (λ files. HoldsCase files model faults (case_in l.loaded)) → IsMarked l →
+  pub finds_odds : (told : Option (List NamedFile)) (l : MarkedCase) (depth : ℕ) (f : FoundOdds) → IfSome told (λ files. HoldsCase files model faults (case_in l.loaded)) → IsMarked l →
       (l.word.now ≡ top) × (l.depth ≡ depth) → IsOddsFinding (case_in l.loaded) l.word.now l.depth l.odds f → IfSome told (λ files. FindsOdds files model faults top depth f)
   finds_odds None l depth f holds marked asked found = tt
   finds_odds (Some files) l depth f holds marked asked found =

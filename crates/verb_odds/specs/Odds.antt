@@ -17,12 +17,12 @@ use Rattle.verb_loading.specs.declared.status.Refusal.{Refusal}
 use Rattle.verb_loading.specs.declared.status.Refusal.TheVariants as refusal
 use Rattle.verb_loading.specs.Inputs.{RefusesModel, HoldsModel, RefusesFaults}
 use Rattle.verb_loading.specs.Cases.{Case, HoldsCase, IsTopWord, IsWrongWord}
-use Rattle.verb_loading.specs.Answered.{Said, faults_text, bits_of}
-use Rattle.cut_model_search.specs.Found.{IsFound}
+use Rattle.verb_loading.specs.CaseAnswers.{Said, faults_text, bits_of}
+use Rattle.cut_model_search.specs.CaseAnalysis.{IsFound}
 use Rattle.verb_loading.specs.LoadedEvents.{case_in, IsEvent}
 use Rattle.verb_loading.specs.declared.status.Part.TheVariants as part
 use Rattle.verb_loading.specs.declared.status.Status.{Status}
-use Rattle.verb_odds.specs.declared.odds.Marked.{Marked}
+use Rattle.verb_odds.specs.declared.odds.MarkedCase.{MarkedCase}
 use Rattle.verb_odds.specs.declared.odds.FoundOdds.{FoundOdds}
 use Rattle.verb_odds.specs.Reports.{sets_text, ending_line}
 use Rattle.verb_loading.specs.Statuses.{ended_with}
@@ -41,9 +41,11 @@ mark_refusal fault item = refusal.Faults (record { part = part.Mark; number = ma
 pub data RefusesOdds (files : List NamedFile) (model faults top : Text) (r : Refusal) : Type 0 where
   at_model : RefusesModel files model r → RefusesOdds files model faults top r
   at_faults : (p : ProgramTree) → HoldsModel files model p → RefusesFaults files faults p r → RefusesOdds files model faults top r
-  at_mark : (c : Case) (fault : MarkFault) (item : ℕ) → r ≡ mark_refusal fault item → HoldsCase files model faults c → IsFirstMarkFault c.instructions fault item →
+  at_mark : (c : Case) (fault : MarkFault) (item : ℕ) → r ≡ mark_refusal fault item → HoldsCase files model faults c →
+      IsFirstMarkFault c.instructions fault item →
       RefusesOdds files model faults top r
-  at_top : (c : Case) (fault : InputFault) → r ≡ (refusal.Top fault) → HoldsCase files model faults c → HasProbabilities c.instructions → IsWrongWord c.program top fault →
+  at_top : (c : Case) (fault : InputFault) → r ≡ (refusal.Top fault) → HoldsCase files model faults c → HasProbabilities c.instructions →
+      IsWrongWord c.program top fault →
       RefusesOdds files model faults top r
 
 -- the files hold a case whose modes all have probabilities, and the word spells an event of it: nothing is to be refused
@@ -59,7 +61,7 @@ abbrev pub RefusesMark : Case → Refusal → Type 0
 RefusesMark c r = (fault : MarkFault) × (item : ℕ) × (r ≡ mark_refusal fault item) × IsFirstMarkFault c.instructions fault item
 
 -- what was loaded is a case with a top event that the word spells, and with the units of its faults
-pub record IsMarked (l : Marked) : Type 0 where
+pub record IsMarked (l : MarkedCase) : Type 0 where
   pub event : IsEvent l.word.now l.loaded
   pub odds : AreOdds (case_in l.loaded).instructions (case_in l.loaded).faults l.odds
   pub all : HasProbabilities (case_in l.loaded).instructions
@@ -70,7 +72,8 @@ pub record AreBounded (odds : List ℕ) (sets : List (List ℕ)) : Type 0 where
   pub each : Each (λ set. Bounds (units_in odds set) (bound_of (units_in odds set))) sets
   pub sum : (scale : ℕ) → Each (λ set. length set ≤ scale + 1) sets →
       (exact_sum scale (map (units_in odds) sets) ≤ bound_sum (map (units_in odds) sets) * one_in_units ^ scale)
-      × (bound_sum (map (units_in odds) sets) * one_in_units ^ scale ≤ exact_sum scale (map (units_in odds) sets) + slack_of (map (units_in odds) sets) * one_in_units ^ scale)
+      × (bound_sum (map (units_in odds) sets) * one_in_units ^ scale ≤ exact_sum scale (map (units_in odds) sets)
+      + slack_of (map (units_in odds) sets) * one_in_units ^ scale)
 
 -- what is said of an analysis by the units of its faults
 abbrev pub odds_report : Case → List ℕ → Analysis → Text

@@ -11,14 +11,15 @@ ghost use Rattle.fault_odds.specs.OddsText.{odds_text};
 ghost use Rattle.cut_text_laws.specs.Analysis.{told_ending};
 ghost use Rattle.cut_report.specs.FaultText.{faults_text};
 ghost use Rattle.smv_type_laws.specs.Costs.{state_bits};
-ghost use Rattle.verb_loading.specs.Loaded.{case_of, IsLoaded};
+ghost use Rattle.verb_loading.specs.LoadedCases.{case_of, IsLoaded};
 ghost use Rattle.verb_loading.specs.LoadedEvents.{case_in};
 ghost use Rattle.verb_loading.specs.Cases.{HoldsCase};
 ghost use Rattle.verb_loading.specs.declared.status.Refusal.{Refusal};
 ghost use Rattle.verb_loading.specs.declared.input.Stop.TheVariants as stop;
 ghost use Rattle.verb_odds.specs.Reports.{sets_text, ending_line};
 ghost use Rattle.verb_loading.specs.Statuses.{ended_with, IsBoundedAt, IsFinished};
-ghost use Rattle.verb_odds.specs.Odds.{mark_rule, mark_refusal, RefusesOdds, RefusesMark, IsMarked, IsOddsFinding, FindsOdds, HasOdds, SaysOddsInPart};
+ghost use Rattle.verb_odds.specs.Odds.{mark_rule, mark_refusal, RefusesOdds, RefusesMark, IsMarked, IsOddsFinding, FindsOdds, HasOdds};
+ghost use Rattle.verb_odds.specs.Odds.{SaysOddsInPart};
 
 use crate::report::{append_ending, append_sets};
 use base_files::{Desk, say_whole};
@@ -40,7 +41,7 @@ use verb_loading::top::load_top;
 
 /// A case with a top event and its word, the units of each of its faults, and how far it is to be searched.
 #[derive(Drop)]
-pub struct Marked<'a> {
+pub struct MarkedCase<'a> {
     pub loaded: LoadedEvent,
     pub word: &'a str,
     pub odds: OddsList,
@@ -71,7 +72,8 @@ pub fn find_odds<D: Desk>(
     ensures silent { (r : Refusal) → IsErrOf result (stop.Refused r) → D.said desk.new ≡ D.said desk.old }
     // However it ends, nothing was said, or a part of that.
     ensures left { (D.said desk.new ≡ D.said desk.old) ⊎ IfSome (D.files desk.old) (λ files.
-        SaysOddsInPart files asked.now.model.now asked.now.faults.now asked.now.top.now asked.now.depth (D.said desk.old) (D.said desk.new)) }
+        SaysOddsInPart files asked.now.model.now asked.now.faults.now asked.now.top.now asked.now.depth (D.said desk.old)
+        (D.said desk.new)) }
     ensures failed { IsErrOf result stop.Desk → Rose (D.faults desk.old) (D.faults desk.new) }
     ensures files { D.files desk.new ≡ D.files desk.old }
     ensures later { D.faults desk.old ≤ D.faults desk.new }
@@ -110,15 +112,16 @@ fn prepare_odds<D: Desk>(
 }
 
 /// Lets a case go.
-fn discard(_marked: Marked<'_>) {}
+fn discard(_marked: MarkedCase<'_>) {}
 
 /// The model and the instructions of two files, whose marks are probabilities, with the top event.
 fn load_marked<'a, D: Desk>(
     alloc: Global,
     desk: &mut D,
     asked: &FindOdds<'a>,
-) -> Result<Marked<'a>, Stop>
-    ensures ok { IfOk result (λ l. IfSome (D.files desk.old) (λ files. HoldsCase files asked.now.model.now asked.now.faults.now (case_in l.loaded))) }
+) -> Result<MarkedCase<'a>, Stop>
+    ensures ok { IfOk result
+        (λ l. IfSome (D.files desk.old) (λ files. HoldsCase files asked.now.model.now asked.now.faults.now (case_in l.loaded))) }
     ensures marked { IfOk result IsMarked }
     ensures asked { IfOk result (λ l. (l.word.now ≡ asked.now.top.now) × (l.depth ≡ asked.now.depth)) }
     ensures refused { (r : Refusal) → IsErrOf result (stop.Refused r) →
@@ -133,7 +136,7 @@ fn load_marked<'a, D: Desk>(
     let case = load_case(alloc, desk, asked.faults, &model)?;
     let odds = marks_of(alloc, &case)?;
     let top = load_top(alloc, asked.top, &model, &case)?;
-    Ok(Marked {
+    Ok(MarkedCase {
         loaded: LoadedEvent { model, case, top },
         word: asked.top,
         odds,
@@ -185,7 +188,7 @@ fn mark_rule_of(fault: MarkFault) -> u32
 /// Searches a case for the minimal cut sets of its top event, and makes what is to be said.
 fn search_marked(
     alloc: Global,
-    marked: &Marked,
+    marked: &MarkedCase,
     panel: &mut Panel,
 ) -> Result<FoundOdds, OutOfMemory>
     requires { IsMarked marked.now }
@@ -210,7 +213,9 @@ fn report_of(
 ) -> Result<ByteList, OutOfMemory>
     requires named { All (All (λ i. (0 < i) × (i ≤ length odds.now))) a.now.sets }
     ensures { IfOk result (λ text. text ≡ faults_text (map name_of_fault case.now.limited.faults) ++
-        (sets_text a.now.sets ++ (odds_text odds.now a.now.sets ++ ending_line (told_ending ending) (state_bits (model_tree case.now.limited.full.model))))) }
+        (sets_text a.now.sets
+        ++ (odds_text odds.now a.now.sets
+        ++ ending_line (told_ending ending) (state_bits (model_tree case.now.limited.full.model))))) }
 {
     let mut text = print_faults(alloc, &case.limited.faults)?;
     append_sets(alloc, &mut text, a.sets.as_slice())?;

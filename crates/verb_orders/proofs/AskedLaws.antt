@@ -12,15 +12,15 @@ use Rattle.smv_flat_laws.specs.History.{Mode}
 use Rattle.smv_type_laws.specs.Laws.{IsClosed}
 use Rattle.smv_type_laws.specs.Models.{IsTyped}
 use Rattle.smv_type_laws.proofs.ClosedLaws.{models_closed}
-use Rattle.fault_weave.specs.Woven.{woven}
+use Rattle.fault_weave.specs.WovenProgram.{woven}
 use Rattle.fault_weave.specs.Faults.{Fault}
-use Rattle.fault_weave.specs.Extended.{Moment}
+use Rattle.fault_weave.specs.ExtensionTraces.{Moment}
 use Rattle.sat_encoding_laws.specs.FlatTraces.{IsNumbered}
 use Rattle.smv_flat_laws.proofs.Lists.{get_within}
 use Rattle.cert_laws.specs.ExtendedTraces.{IsExtensionModel}
 use Rattle.cut_search.specs.declared.answer.End.{End}
 use Rattle.cut_search.specs.declared.answer.End.TheVariants.{Complete, Bounded}
-use Rattle.cut_report_laws.specs.Answered.{ending_of}
+use Rattle.cut_report_laws.specs.SearchAnswer.{ending_of}
 use Rattle.cut_report_laws.specs.ExtendedTraces.{Ending}
 use Rattle.fault_orders.specs.declared.Relation.{Relation}
 use Rattle.fault_orders.specs.Stage.{against}
@@ -35,11 +35,11 @@ use Rattle.verb_loading.specs.Cases.{Case, HoldsCase}
 use Rattle.verb_loading.specs.LoadedEvents.{case_in}
 use Rattle.cut_model_search.proofs.Analysable.{model_of_case}
 use Rattle.verb_loading.proofs.FlatLimits.{flat_typed}
-use Rattle.verb_orders.specs.declared.pair.StagedCase.{StagedCase}
+use Rattle.verb_orders.specs.declared.pair.PairCase.{PairCase}
 use Rattle.verb_orders.specs.declared.pair.PairWords.{PairWords}
 use Rattle.verb_orders.specs.Pairs.{IsStagedCase, HoldsPair}
 use Rattle.verb_orders.specs.Orders.{AreFaults, IsOfEnding, IsClaimed, staged_of, against_of}
-use Rattle.verb_orders.specs.Claimed.{SpeaksFor}
+use Rattle.verb_orders.specs.ClaimSearch.{SpeaksFor}
 use Rattle.verb_orders.proofs.PairLaws.{count_of_faults}
 
 -- two faults of a case, with their modes
@@ -50,7 +50,7 @@ pub record TheFaults (c : Case) (tree : Tree FlatLeaf) (set : List ℕ) (first s
   pub other : Fault
   pub asked : IsAsked c.faults c.flat c.modes tree set first second f g one other
 
-module _ (s : StagedCase) (is : IsStagedCase s) where
+module _ (s : PairCase) (is : IsStagedCase s) where
   abbrev c : Case
   c = case_in s.loaded
 

@@ -3,7 +3,7 @@ use Rattle.std.proofs.Common.{◌≡◌, ◌⊎◌, inl, inr, ℕ, Bool, true, f
 use Rattle.std.specs.Prelude.{codes, nat_eq, IsTrue}
 use Rattle.std.proofs.lemmas.Bool.{eq-eqb}
 use Rattle.cut_right_laws.specs.Sets.{has_number}
-use Rattle.verb_command_line.specs.declared.choice.Kind.TheVariants as kind
+use Rattle.verb_command_line.specs.declared.choice.OptionKind.TheVariants as kind
 use Rattle.verb_command_line.specs.Commands.{Text, Given, orders, check_orders}
 use Rattle.verb_command_line.specs.Sets.{number_of, numbers_of, Each}
 use Rattle.verb_command_line.specs.Table.{kind_in, options_of}

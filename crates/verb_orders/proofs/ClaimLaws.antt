@@ -14,15 +14,15 @@ use Rattle.smv_language.specs.declared.model.Fault.{Fault as FaultOf}
 use Rattle.smv_language.specs.Flat.{FlatLeaf, FlatModel}
 use Rattle.smv_flat_laws.proofs.HistoryLaws.{no_bits}
 use Rattle.cut_search_laws.specs.Searchable.{IsSearchable}
-use Rattle.cert_text.specs.Seen.{seen}
+use Rattle.cert_text.specs.CertificateView.{seen}
 use Rattle.cert_text.specs.declared.certificate.Certificate.{Certificate as Written}
 use Rattle.cert_laws.specs.Certificate.{Certificate}
-use Rattle.cert_laws.specs.Certified.{IsSubjectOf}
+use Rattle.cert_laws.specs.Certification.{IsSubjectOf}
 use Rattle.cert_laws.specs.Subject.{subject_of}
 use Rattle.cert_laws.proofs.Subjects.{subjects_right}
 use Rattle.cert_check.specs.Matter.{matter_of, IsAcceptedIn}
 use Rattle.cert_check.specs.Fit.{IsCheckable}
-use Rattle.cert_check.specs.Found.{IsJudgedUnlisted, IsObjectionUnlisted}
+use Rattle.cert_check.specs.SiteFindings.{IsJudgedUnlisted, IsObjectionUnlisted}
 use Rattle.cert_check.specs.declared.judged.Judged.{Judged}
 use Rattle.fault_orders.specs.declared.Relation.{Relation}
 use Rattle.cut_reach_laws.proofs.Refuted.{accepted_refute}
@@ -34,15 +34,15 @@ use Rattle.verb_loading.specs.declared.status.Refusal.TheVariants as refusal
 use Rattle.verb_loading.specs.declared.status.Objection.TheVariants as objection
 use Rattle.verb_loading.specs.Cases.{HoldsCase, IsTopWord}
 use Rattle.cert_file.specs.CertificateFiles.{RefusesCertificate, HoldsCertificate}
-use Rattle.verb_loading.specs.Answered.{Said}
+use Rattle.verb_loading.specs.CaseAnswers.{Said}
 use Rattle.verb_loading.specs.LoadedEvents.{case_in}
 use Rattle.verb_command_line.specs.Sets.{numbers_of}
 use Rattle.verb_loading.specs.declared.status.Status.TheVariants as status
 use Rattle.verb_orders.specs.declared.pair.PairWords.{PairWords}
-use Rattle.verb_orders.specs.declared.pair.StagedCase.{StagedCase}
+use Rattle.verb_orders.specs.declared.pair.PairCase.{PairCase}
 use Rattle.verb_orders.specs.Pairs.{IsAsked, IsStagedCase, RefusesPair}
 use Rattle.verb_orders.specs.Orders.{IsClaimed, staged_of, against_of, staged_matter, claim_in, RefusesClaim, at_line, IsAcceptedClaim, RefusesFile, unread, unfit, AcceptsFile, RefusesCheck, no_pair, no_certificate, not_accepted, AcceptsOrder, HasCheckedOrder}
-use Rattle.verb_orders.specs.Claimed.{SpeaksFor, staged_in, against_in}
+use Rattle.verb_orders.specs.ClaimSearch.{SpeaksFor, staged_in, against_in}
 use Rattle.verb_orders.proofs.AskedLaws.{the_faults, are_faults, holds_pair, holds_asked, at_stage, claim_of_class}
 
 -- a line that breaks a rule, as a refusal
@@ -61,7 +61,7 @@ pub judged_alone : (m : Model) (e : Expr Flat) (x : Written) (faults : List Faul
     IfOk done (IsJudgedUnlisted (staged_matter (model_tree m) (flat_tree e) (seen x)))
 judged_alone m e x faults none done h = subst (λ (fs : List FaultOf). IfOk done (IsJudgedUnlisted (matter_of m m fs e (seen x)))) none h
 
-module _ (s : StagedCase) (is : IsStagedCase s) (claim : Option Relation) (e : Tree FlatLeaf) (speaks : SpeaksFor s claim e) (searchable : IsSearchable (model_tree s.typed.model) [] e) (x : Written) where
+module _ (s : PairCase) (is : IsStagedCase s) (claim : Option Relation) (e : Tree FlatLeaf) (speaks : SpeaksFor s claim e) (searchable : IsSearchable (model_tree s.typed.model) [] e) (x : Written) where
   abbrev m : FlatModel
   m = model_tree s.typed.model
 
@@ -81,7 +81,7 @@ module _ (s : StagedCase) (is : IsStagedCase s) (claim : Option Relation) (e : T
   claim_refused line number r told bad = at_stage s is (λ m e. RefusesClaim m e (seen x) r) claim e speaks (at_line line number told bad)
 
 -- an accepted certificate means that the claim holds
-module _ (s : StagedCase) (is : IsStagedCase s) (claim : Option Relation) (a : Certificate) where
+module _ (s : PairCase) (is : IsStagedCase s) (claim : Option Relation) (a : Certificate) where
   abbrev staged_model : FlatModel
   staged_model = staged_of (case_in s.loaded) s.asked.first s.asked.second
 
@@ -117,7 +117,7 @@ module _ (w : PairWords) (claim cert : Text) where
   check_no_pair None r bad = tt
   check_no_pair (Some files) r bad = no_pair bad
 
-  module _ (s : StagedCase) (is : IsStagedCase s) (same : s.asked ≡ w) (numbers : s.set.items ≡ numbers_of w.set.now) where
+  module _ (s : PairCase) (is : IsStagedCase s) (same : s.asked ≡ w) (numbers : s.set.items ≡ numbers_of w.set.now) where
     -- what is said of the model and the expression of the case is said of those of the words
     over_words : (P : FlatModel → Tree FlatLeaf → Type 0) → P (staged_in s) (against_in s (claim_in claim)) →
         P (staged_of (case_in s.loaded) w.first w.second) (against_of (case_in s.loaded) (numbers_of w.set.now) w.first w.second (flat_tree s.loaded.top) (claim_in claim))
@@ -180,7 +180,7 @@ module _ (w : PairWords) (claim cert : Text) where
         at_told (Some files) holds accepts = file_accepts files holds accepts
 
 -- so it is, where the judgement is done
-pub check_done : {A E : Type 0} (w : PairWords) (claim cert : Text) (s : StagedCase) → IsStagedCase s → s.asked ≡ w → (IsAsked w → s.set.items ≡ numbers_of w.set.now) → (told mid : Option (List NamedFile)) → mid ≡ told →
+pub check_done : {A E : Type 0} (w : PairWords) (claim cert : Text) (s : PairCase) → IsStagedCase s → s.asked ≡ w → (IsAsked w → s.set.items ≡ numbers_of w.set.now) → (told mid : Option (List NamedFile)) → mid ≡ told →
     IfSome told (λ files. HoldsCase files w.model.now w.faults.now (case_in s.loaded)) → (done : Result A E) → OnOk done (IfSome mid (λ files. AcceptsFile files cert (staged_in s) (against_in s (claim_in claim)))) →
     OnOk done (IsAsked w → IfSome told (λ files. AcceptsOrder files w.model.now w.faults.now w.top.now (numbers_of w.set.now) w.first w.second claim cert))
 check_done w claim cert s is same numbers told mid kept holds (Ok x) accepts = λ asked. check_accepts w claim cert s is same (numbers asked) told mid kept holds accepts

@@ -6,24 +6,24 @@ use Rattle.smv_language.specs.ProgramTree.{Text, Formula, ProgramTree}
 use Rattle.smv_language.specs.Values.{Value}
 use Rattle.smv_language.specs.Flat.{FlatLeaf, FlatModel}
 use Rattle.smv_flat_laws.specs.FlatTrace.{IsFlatTrace}
-use Rattle.smv_type_laws.specs.Judged.{too_large}
+use Rattle.smv_type_laws.specs.ExpressionKinds.{too_large}
 use Rattle.smv_type_laws.specs.Models.{IsTyped, IsFault}
 use Rattle.smv_type_laws.proofs.Typed.{typed_has_none}
 use Rattle.sat_encoding_laws.specs.FlatTraces.{IsNumbered, ReachesTop, HasFailedNumber}
 use Rattle.fault_extend_laws.proofs.Splits.{one_split, none_broken}
-use Rattle.cut_text_laws.specs.Given.{GivesTrace}
-use Rattle.cert_laws.specs.Accepted.{number_of}
-use Rattle.cert_laws.specs.Certified.{IsCertified}
+use Rattle.cut_text_laws.specs.TraceOfText.{GivesTrace}
+use Rattle.cert_laws.specs.Acceptance.{number_of}
+use Rattle.cert_laws.specs.Certification.{IsCertified}
 use Rattle.cert_laws.specs.Certificate.{Certificate}
 use Rattle.cert_laws.proofs.Objections.{one_objection, accepted_has_none}
-use Rattle.cert_check.specs.Found.{IsObjectionOf, IsObjectionUnlisted, of_another, of_its_set}
+use Rattle.cert_check.specs.SiteFindings.{IsObjectionOf, IsObjectionUnlisted, of_another, of_its_set}
 use Rattle.cut_reach_laws.specs.Laws.{IsFaultNumber}
 use Rattle.cert_laws.specs.Subject.{subject_of}
 use Rattle.verb_loading.specs.declared.status.InputFault.{InputFault}
 use Rattle.verb_loading.specs.declared.status.Objection.TheVariants as objection
 use Rattle.verb_loading.specs.declared.status.Refusal.{Refusal}
 use Rattle.verb_loading.specs.declared.status.Refusal.TheVariants as refusal
-use Rattle.verb_loading.specs.Answered.{Told, Said}
+use Rattle.verb_loading.specs.CaseAnswers.{Told, Said}
 use Rattle.verb_loading.specs.Cases.{Case, HoldsCase, IsTopWord, IsWrongWord}
 use Rattle.verb_loading.specs.Tasks.{IsTopTree}
 use Rattle.cert_file.specs.CertificateFiles.{HoldsCertificate}

@@ -12,9 +12,9 @@ use Rattle.smv_language.specs.declared.model.Fault.{Fault as FaultOf}
 use Rattle.smv_language.specs.Flat.{FlatLeaf, FlatModel}
 use Rattle.smv_flat_laws.proofs.HistoryLaws.{no_bits}
 use Rattle.smv_type_laws.specs.Costs.{state_bits}
-use Rattle.cut_text_laws.specs.Given.{GivesTrace}
+use Rattle.cut_text_laws.specs.TraceOfText.{GivesTrace}
 use Rattle.cut_text_laws.specs.Lines.{fed}
-use Rattle.smv_language.specs.Told.{told_trace}
+use Rattle.smv_language.specs.NumberedValues.{told_trace}
 use Rattle.cut_text_laws.specs.Analysis.{told_ending}
 use Rattle.base_values.specs.declared.ending.Ending.{Ending as Printed}
 use Rattle.base_values.specs.declared.ending.Ending.TheVariants as printed
@@ -23,35 +23,35 @@ use Rattle.cut_search.specs.Progress.{HasChainFor}
 use Rattle.cut_search.specs.Answer.{IsEnd}
 use Rattle.cut_search.specs.declared.answer.End.{End}
 use Rattle.cut_search.specs.declared.answer.End.TheVariants.{Complete, Bounded}
-use Rattle.cut_report_laws.specs.Answered.{ending_of}
-use Rattle.cert_text.specs.Seen.{seen}
+use Rattle.cut_report_laws.specs.SearchAnswer.{ending_of}
+use Rattle.cert_text.specs.CertificateView.{seen}
 use Rattle.cert_text.specs.declared.certificate.Certificate.{Certificate as Written}
 use Rattle.cert_laws.specs.CertificateText.{IsWritable, version_two, lines_of}
-use Rattle.cert_laws.specs.Certified.{IsCertified}
+use Rattle.cert_laws.specs.Certification.{IsCertified}
 use Rattle.cert_laws.specs.Subject.{subject_of}
 use Rattle.cut_model_search.specs.Texts.{text_lines}
 use Rattle.fault_orders.specs.declared.Relation.{Relation}
-use Rattle.cut_search_laws.specs.Found.{sets_of}
+use Rattle.cut_search_laws.specs.FoundSets.{sets_of}
 use Rattle.cut_reach_laws.specs.FaultlessLaws.{class_of, NoneReaches}
 use Rattle.cut_reach_laws.proofs.Refuted.{empty_refute, found_reach}
 use Rattle.cut_report_laws.specs.ExtendedTraces.{Ending, complete, bounded}
-use Rattle.cut_model_search.specs.Found.{IsCertificateFor}
+use Rattle.cut_model_search.specs.CaseAnalysis.{IsCertificateFor}
 use Rattle.cut_model_search.proofs.Certifying.{spells_written}
 use Rattle.verb_loading.specs.Cases.{Case, HoldsCase}
-use Rattle.verb_loading.specs.Answered.{Told, Said, told_maybe, WritesPrefixMaybe}
+use Rattle.verb_loading.specs.CaseAnswers.{Told, Said, told_maybe, WritesPrefixMaybe}
 use Rattle.verb_loading.specs.LoadedEvents.{case_in}
 use Rattle.verb_loading.specs.declared.status.Status.{Status}
 use Rattle.verb_loading.specs.declared.status.Status.TheVariants as status
 use Rattle.verb_loading.specs.Statuses.{ended_with, IsBoundedAt}
 use Rattle.verb_orders.specs.declared.pair.PairWords.{PairWords}
-use Rattle.verb_orders.specs.declared.pair.StagedCase.{StagedCase}
+use Rattle.verb_orders.specs.declared.pair.PairCase.{PairCase}
 use Rattle.verb_orders.specs.declared.searched.Searched.{Searched}
 use Rattle.cert_file.specs.declared.conclusion.Conclusion.{Conclusion}
 use Rattle.cert_file.specs.Conclusions.{ConcludesInPart}
 use Rattle.verb_command_line.specs.Sets.{numbers_of}
 use Rattle.verb_orders.specs.Pairs.{IsAsked, IsStagedCase}
 use Rattle.verb_orders.specs.Orders.{Order, claimed, either, IsClaimed, IsShown, EndsOrder, CertifiesClaim, IsClaimWritten, IsClaimBegun, order_text, order_report, HasOrder, OrdersInPart}
-use Rattle.verb_orders.specs.Claimed.{IsSearchOf, IsTraceAgainst, IsToldBy, IsCertifiedOrder, HasClaimCertificate, Concludes, IsConclusion, ConcludesFrom, relation_in}
+use Rattle.verb_orders.specs.ClaimSearch.{IsSearchOf, IsTraceAgainst, IsToldBy, IsCertifiedOrder, HasClaimCertificate, Concludes, IsConclusion, ConcludesFrom, relation_in}
 use Rattle.verb_orders.proofs.StagedCases.{empty_sets, no_sets}
 use Rattle.verb_orders.proofs.AskedLaws.{the_faults, are_faults, holds_asked, at_stage, claim_of_class, of_class}
 use Rattle.verb_orders.proofs.ShownLaws.{shown_such, traces_differ}
@@ -59,7 +59,7 @@ use Rattle.verb_orders.proofs.ShownLaws.{shown_such, traces_differ}
 -- ---- what is written and said
 
 -- what was concluded of a staged case, over the words
-pub concludes_from : (told : Option (List NamedFile)) (s : StagedCase) → IsStagedCase s → (w : PairWords) (depth : ℕ) (k : Conclusion) → IfSome told (λ files. HoldsCase files w.model.now w.faults.now (case_in s.loaded)) → s.asked ≡ w →
+pub concludes_from : (told : Option (List NamedFile)) (s : PairCase) → IsStagedCase s → (w : PairWords) (depth : ℕ) (k : Conclusion) → IfSome told (λ files. HoldsCase files w.model.now w.faults.now (case_in s.loaded)) → s.asked ≡ w →
     (IsAsked w → s.set.items ≡ numbers_of w.set.now) → IsConclusion s depth k → IsAsked w →
     IfSome told (λ files. ConcludesFrom files w.model.now w.faults.now w.top.now (numbers_of w.set.now) w.first w.second depth k)
 concludes_from None s of w depth k holds same numbers is asked = tt
@@ -142,7 +142,7 @@ module _ (model faults top : Text) (set : List ℕ) (first second depth : ℕ) (
 
 -- ---- a claim without a trace against it
 
-module _ (s : StagedCase) (is : IsStagedCase s) (claim : Option Relation) (depth : ℕ) (r : Searched) (search : IsSearchOf s claim depth r) (none : length r.analysis.traces ≡ 0) where
+module _ (s : PairCase) (is : IsStagedCase s) (claim : Option Relation) (depth : ℕ) (r : Searched) (search : IsSearchOf s claim depth r) (none : length r.analysis.traces ≡ 0) where
   abbrev m : FlatModel
   m = model_tree s.typed.model
 
@@ -215,7 +215,7 @@ module _ (s : StagedCase) (is : IsStagedCase s) (claim : Option Relation) (depth
 
 -- ---- two traces that differ
 
-pub either_concluded : (s : StagedCase) → IsStagedCase s → (n : ℕ) → n ≡ length s.loaded.case.limited.typed.model.variables → (one other : List (List Numbered)) → IsTraceAgainst s None one →
+pub either_concluded : (s : PairCase) → IsStagedCase s → (n : ℕ) → n ≡ length s.loaded.case.limited.typed.model.variables → (one other : List (List Numbered)) → IsTraceAgainst s None one →
     IsTraceAgainst s (Some (relation_in one)) other → (depth : ℕ) (report : Text) →
     report ≡ order_report (case_in s.loaded) s.asked.first s.asked.second
     (either (told_trace s.loaded.case.limited.typed.model.symbols (map (take n) one)) (told_trace s.loaded.case.limited.typed.model.symbols (map (take n) other))) complete →
@@ -247,7 +247,7 @@ no_trace [] h = refl
 no_trace (t ∷ ts) h = absurd (omega (arith, h))
 
 -- what was certified of the staged model is a certificate of the claim
-module _ (s : StagedCase) (is : IsStagedCase s) (claim : Option Relation) (depth : ℕ) (r : Searched) (search : IsSearchOf s claim depth r) (none : length r.analysis.traces ≡ 0) (faults : List FaultOf) (alone : faults ≡ []) (x : Written) (bytes : List ℕ) where
+module _ (s : PairCase) (is : IsStagedCase s) (claim : Option Relation) (depth : ℕ) (r : Searched) (search : IsSearchOf s claim depth r) (none : length r.analysis.traces ≡ 0) (faults : List FaultOf) (alone : faults ≡ []) (x : Written) (bytes : List ℕ) where
   abbrev made : FlatModel
   made = model_tree s.typed.model
 
@@ -273,7 +273,7 @@ module _ (s : StagedCase) (is : IsStagedCase s) (claim : Option Relation) (depth
       })
 
 -- the first trace of a search is one against its claim
-pub trace_found : (s : StagedCase) (claim : Option Relation) (depth : ℕ) (r : Searched) → IsSearchOf s claim depth r → (trace : List (List Numbered)) → slice_get r.analysis.traces 0 ≡ Some trace → IsTraceAgainst s claim trace
+pub trace_found : (s : PairCase) (claim : Option Relation) (depth : ℕ) (r : Searched) → IsSearchOf s claim depth r → (trace : List (List Numbered)) → slice_get r.analysis.traces 0 ≡ Some trace → IsTraceAgainst s claim trace
 trace_found s claim depth r search trace at =
     let both =
     found_reach (problem_of (model_tree s.typed.model) [] (flat_tree r.top)) depth 0 r.analysis search.answer trace at in
@@ -285,7 +285,7 @@ some_trace [] b tells e = let bad : true ≡ false = sym (tells.1 refl) ∙ e in
 some_trace (t ∷ ts) b tells e = omega arith
 
 -- a search is bounded by its depth alone
-pub concluded_within : (s : StagedCase) (depth : ℕ) (k : Conclusion) → IsConclusion s depth k → IsBoundedAt depth (ended_with (told_ending k.ending))
+pub concluded_within : (s : PairCase) (depth : ℕ) (k : Conclusion) → IsConclusion s depth k → IsBoundedAt depth (ended_with (told_ending k.ending))
 concluded_within s depth k h n is = by_order h.found.order h.found.ending h.found.ends_by (sym (ap ended_with h.ends) ∙ is)
   where
     none : status.Done ≡ status.Bounded n → n ≡ depth

@@ -28,7 +28,7 @@ use Rattle.verb_loading.specs.Inputs.{stop_at, RefusesModel, HoldsModel, Refuses
 use Rattle.verb_loading.specs.Wrongs.{IfRefused}
 use Rattle.verb_loading.specs.Wholes.{BreaksKinds}
 use Rattle.verb_loading.specs.Cases.{Case, HoldsCase, IsWrongWord}
-use Rattle.verb_loading.specs.Loaded.{case_of, IsLoaded}
+use Rattle.verb_loading.specs.LoadedCases.{case_of, IsLoaded}
 use Rattle.verb_loading.proofs.LoadedLaws.{same_counts}
 use Rattle.cut_model_search.proofs.CaseKinds.{case_kinds, size_told}
 use Rattle.verb_loading.specs.declared.input.Stop.{Stop}

@@ -12,21 +12,21 @@ use Rattle.smv_flat_laws.specs.History.{Mode}
 use Rattle.smv_flat_laws.specs.FlatTrace.{IsFlatTrace}
 use Rattle.sat_encoding_laws.specs.FlatTraces.{ReachesTop, last_of}
 use Rattle.cert_laws.specs.ExtendedTraces.{IsFlatCut}
-use Rattle.smv_language.specs.Told.{told_trace}
+use Rattle.smv_language.specs.NumberedValues.{told_trace}
 use Rattle.base_values.specs.declared.ending.Ending.TheVariants as printed
 use Rattle.cut_search.specs.Values.{value_of, values_of, trace_of}
 use Rattle.fault_orders.specs.declared.Relation.{Relation}
 use Rattle.fault_orders.specs.Stage.{stage}
-use Rattle.fault_orders.specs.Told.{told_relation}
+use Rattle.fault_orders.specs.RelationValues.{told_relation}
 use Rattle.fault_orders.proofs.Ends.{own_kept}
 use Rattle.cut_reach_laws.specs.OrdersExtendedLaws.{ShowsSuch, TellsRelation}
 use Rattle.cut_reach_laws.proofs.Such.{found_such, others_such}
 use Rattle.verb_loading.specs.Cases.{Case}
 use Rattle.verb_loading.specs.LoadedEvents.{case_in}
-use Rattle.verb_orders.specs.declared.pair.StagedCase.{StagedCase}
+use Rattle.verb_orders.specs.declared.pair.PairCase.{PairCase}
 use Rattle.verb_orders.specs.Pairs.{IsStagedCase}
 use Rattle.verb_orders.specs.Orders.{Relates, Differ}
-use Rattle.verb_orders.specs.Claimed.{IsTraceAgainst, is_true_value, relation_of_last, relation_in}
+use Rattle.verb_orders.specs.ClaimSearch.{IsTraceAgainst, is_true_value, relation_of_last, relation_in}
 use Rattle.verb_orders.proofs.AskedLaws.{the_model, the_faults, at_stage}
 use Rattle.cut_search.proofs.PathLemmas.{cut_read}
 use Rattle.cut_model_search.proofs.Made.{same_told}
@@ -81,7 +81,7 @@ module _ (symbols : List Text) where
 staged_symbols : (m : FlatModel) (fs : List Mode) (i j : ℕ) → (stage m fs i j).symbols ≡ m.symbols
 staged_symbols m fs i j = append-nil (m.symbols ++ []) ∙ append-nil m.symbols
 
-module _ (s : StagedCase) (is : IsStagedCase s) where
+module _ (s : PairCase) (is : IsStagedCase s) where
   abbrev c : Case
   c = case_in s.loaded
 

@@ -19,10 +19,10 @@ use Rattle.fault_orders.specs.Stage.{stage, against}
 use Rattle.cut_reach_laws.specs.Laws.{IsFaultNumber}
 use Rattle.cut_reach_laws.proofs.Staged.{staged_searchable, staged_length}
 use Rattle.cut_model_search.proofs.Analysable.{case_searchable, top_fits}
-use Rattle.verb_orders.specs.declared.pair.StagedCase.{StagedCase}
+use Rattle.verb_orders.specs.declared.pair.PairCase.{PairCase}
 use Rattle.verb_orders.specs.Pairs.{IsStagedCase}
 use Rattle.sat_clauses.specs.Literal.{Literal}
-use Rattle.cut_search_laws.specs.Found.{sets_of, traces_of}
+use Rattle.cut_search_laws.specs.FoundSets.{sets_of, traces_of}
 use Rattle.cut_search.specs.Answer.{IsAnswer}
 use Rattle.cut_search.specs.Progress.{CodeFound}
 use Rattle.cut_search.specs.declared.answer.End.TheVariants.{Complete, Bounded}
@@ -30,9 +30,9 @@ use Rattle.cut_search.specs.declared.answer.End.{End}
 use Rattle.cert_check.specs.Fit.{IsProvable}
 use Rattle.cut_model_search.specs.Certifiable.{IsCertifiable, IsCompleteAnswer}
 use Rattle.verb_orders.specs.declared.searched.Searched.{Searched}
-use Rattle.verb_orders.specs.Claimed.{HasFew, SpeaksFor, IsSearchOf}
+use Rattle.verb_orders.specs.ClaimSearch.{HasFew, SpeaksFor, IsSearchOf}
 
-module _ (s : StagedCase) (is : IsStagedCase s) where
+module _ (s : PairCase) (is : IsStagedCase s) where
   abbrev plain : FlatModel
   plain = model_tree s.loaded.case.limited.typed.model
 
@@ -79,7 +79,7 @@ pub empty_sets : (found : List CodeFound) → length (traces_of found) ≡ 0 →
 empty_sets [] e = refl
 empty_sets (f ∷ found) e = absurd (omega (arith, e))
 
-module _ (s : StagedCase) (claim : Option Relation) (depth : ℕ) (r : Searched) (is : IsSearchOf s claim depth r) (none : length r.analysis.traces ≡ 0) where
+module _ (s : PairCase) (claim : Option Relation) (depth : ℕ) (r : Searched) (is : IsSearchOf s claim depth r) (none : length r.analysis.traces ≡ 0) where
   abbrev whole : FlatModel
   whole = with_history (model_tree s.typed.model) []
 
@@ -119,7 +119,7 @@ searchable_alone m e faults none h = subst (λ (fs : List Fault). IsSearchable m
 pub provable_alone : (m : FlatModel) (e : Tree FlatLeaf) (faults : List Fault) → faults ≡ [] → IsSearchable m [] e → IsProvable m (map mode_of faults) e
 provable_alone m e faults none h = subst (λ (fs : List Fault). IsProvable m (map mode_of fs) e) (sym none) (record { encodable = h.encodable; fits = h.fits })
 
-module _ (s : StagedCase) (claim : Option Relation) (depth : ℕ) (r : Searched) (is : IsSearchOf s claim depth r) (none : length r.analysis.traces ≡ 0) where
+module _ (s : PairCase) (claim : Option Relation) (depth : ℕ) (r : Searched) (is : IsSearchOf s claim depth r) (none : length r.analysis.traces ≡ 0) where
   pub certifiable_alone : (faults : List Fault) → faults ≡ [] → IsCertifiable (model_tree s.typed.model) (map mode_of faults) (flat_tree r.top)
   certifiable_alone faults empty = subst (λ (fs : List Fault). IsCertifiable (model_tree s.typed.model) (map mode_of fs) (flat_tree r.top)) (sym empty) (is_certifiable s claim depth r is none)
 
@@ -129,7 +129,7 @@ module _ (s : StagedCase) (claim : Option Relation) (depth : ℕ) (r : Searched)
       subst (λ (fs : List Fault). IsCompleteAnswer (model_tree s.typed.model) (map mode_of fs) (flat_tree r.top) r.analysis) (sym empty) (is_complete s claim depth r is none clauses.0 clauses.1)
 
 -- what was made of a staged case speaks against the claim
-pub speaks_of : (s : StagedCase) (claim : Option Relation) (m : Model) (n : ℕ) (set : List ℕ) → m ≡ s.typed.model → n ≡ length s.loaded.case.limited.faults → set ≡ s.set.items → (e : Tree FlatLeaf) →
+pub speaks_of : (s : PairCase) (claim : Option Relation) (m : Model) (n : ℕ) (set : List ℕ) → m ≡ s.typed.model → n ≡ length s.loaded.case.limited.faults → set ≡ s.set.items → (e : Tree FlatLeaf) →
     e ≡ against (model_tree m) n (flat_tree s.loaded.top) set claim → SpeaksFor s claim e
 speaks_of s claim m n set is_model is_count is_set e is =
     is ∙ ap (λ (k : Model). against (model_tree k) n (flat_tree s.loaded.top) set claim) is_model

@@ -5,8 +5,8 @@ use Rattle.std.proofs.lemmas.List.{append_assoc, take_more}
 use Rattle.std.proofs.lemmas.Option.{slice_get_past, get_or_from_slice_get}
 use Rattle.base_values.specs.declared.value.Value.{Value as Numbered}
 use Rattle.fault_orders.specs.declared.Relation.TheVariants.{Before, After, Together}
-use Rattle.fault_orders.specs.Told.{told_relation}
-use Rattle.verb_orders.specs.Claimed.{is_true_value, relation_at, relation_of_last, relation_in}
+use Rattle.fault_orders.specs.RelationValues.{told_relation}
+use Rattle.verb_orders.specs.ClaimSearch.{is_true_value, relation_at, relation_of_last, relation_in}
 
 -- no moment tells that both come together
 pub no_moment : (trace : List (List Numbered)) → length trace ≡ 0 → Together ≡ relation_in trace

@@ -1,3 +1,3 @@
 pub mod Pairs
 pub mod Orders
-pub mod Claimed
+pub mod ClaimSearch

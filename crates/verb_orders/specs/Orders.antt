@@ -9,19 +9,19 @@ use Rattle.smv_language.specs.ProgramTree.{Text, Formula}
 use Rattle.smv_language.specs.Values.{Value}
 use Rattle.smv_language.specs.Flat.{FlatLeaf, FlatModel}
 use Rattle.smv_type_laws.specs.Costs.{state_bits}
-use Rattle.fault_weave.specs.Extended.{Moment}
+use Rattle.fault_weave.specs.ExtensionTraces.{Moment}
 use Rattle.fault_weave.specs.Faults.{Fault}
 use Rattle.sat_encoding_laws.specs.EncodedLaws.{AreOwn}
 use Rattle.cert_laws.specs.ExtendedTraces.{IsFlatCut}
 use Rattle.cut_text_laws.specs.TraceText.{trace_text}
-use Rattle.cut_text_laws.specs.Given.{GivesTrace}
+use Rattle.cut_text_laws.specs.TraceOfText.{GivesTrace}
 use Rattle.cut_search_laws.specs.Problem.{problem_of}
 use Rattle.cut_search.specs.Progress.{HasChainFor}
 use Rattle.cert_laws.specs.Certificate.{Certificate}
-use Rattle.cert_laws.specs.Certified.{IsSubjectOf, IsCertified}
+use Rattle.cert_laws.specs.Certification.{IsSubjectOf, IsCertified}
 use Rattle.cert_laws.specs.Subject.{subject_of}
 use Rattle.cert_check.specs.Matter.{Matter}
-use Rattle.cert_check.specs.Found.{IsObjectionUnlisted}
+use Rattle.cert_check.specs.SiteFindings.{IsObjectionUnlisted}
 use Rattle.fault_orders.specs.declared.Relation.{Relation}
 use Rattle.fault_orders.specs.declared.Relation.TheVariants.{Before, After, Together}
 use Rattle.fault_orders.specs.Relations.{HasRelation}
@@ -33,8 +33,8 @@ use Rattle.verb_loading.specs.declared.status.Refusal.TheVariants as refusal
 use Rattle.verb_loading.specs.declared.status.Objection.TheVariants as objection
 use Rattle.verb_loading.specs.Cases.{Case, IsTopWord}
 use Rattle.verb_loading.specs.Tasks.{IsTopTree}
-use Rattle.verb_loading.specs.Answered.{Told, Said}
-use Rattle.cut_model_search.specs.Found.{IsCertificateFor}
+use Rattle.verb_loading.specs.CaseAnswers.{Told, Said}
+use Rattle.cut_model_search.specs.CaseAnalysis.{IsCertificateFor}
 use Rattle.cert_file.specs.CertificateFiles.{RefusesCertificate, HoldsCertificate}
 use Rattle.verb_loading.specs.declared.status.Status.{Status}
 use Rattle.verb_loading.specs.declared.status.Status.TheVariants as status
@@ -111,16 +111,19 @@ EndsOrder c set first second tree depth (either values others) (bounded k) = ⊥
 
 -- the bytes spell a certificate with no fault, size 0 and no set, which is accepted for the staged model and what speaks against the claim
 abbrev pub CertifiesClaim : Case → List ℕ → ℕ → ℕ → Tree FlatLeaf → Option Relation → List ℕ → Type 0
-CertifiesClaim c set first second tree claim bytes = IsCertificateFor (staged_of c first second) [] (against_of c set first second tree claim) 0 [] [] bytes
+CertifiesClaim c set first second tree claim bytes =
+    IsCertificateFor (staged_of c first second) [] (against_of c set first second tree claim) 0 [] [] bytes
 
 -- what was written: the certificate of a complete claim, and else nothing
 abbrev pub IsClaimWritten : Case → List ℕ → ℕ → ℕ → Tree FlatLeaf → Order → Ending → Text → Told → Told → Type 0
-IsClaimWritten c set first second tree (claimed claim) complete cert before after = (bytes : List ℕ) × CertifiesClaim c set first second tree claim bytes × (after ≡ told_with before cert bytes)
+IsClaimWritten c set first second tree (claimed claim) complete cert before after = (bytes : List ℕ)
+    × CertifiesClaim c set first second tree claim bytes × (after ≡ told_with before cert bytes)
 IsClaimWritten c set first second tree _ _ cert before after = after ≡ before
 
 -- a part of it was
 abbrev pub IsClaimBegun : Case → List ℕ → ℕ → ℕ → Tree FlatLeaf → Order → Ending → Text → Told → Told → Type 0
-IsClaimBegun c set first second tree (claimed claim) complete cert before after = (bytes : List ℕ) × CertifiesClaim c set first second tree claim bytes × WritesPrefix before after cert bytes
+IsClaimBegun c set first second tree (claimed claim) complete cert before after = (bytes : List ℕ)
+    × CertifiesClaim c set first second tree claim bytes × WritesPrefix before after cert bytes
 IsClaimBegun c set first second tree _ _ cert before after = after ≡ before
 
 -- ---- the line that is said
@@ -150,7 +153,8 @@ traces_text m (either values others) = codes "trace 1\n" ++ (trace_text m values
 -- the text that is said of two faults
 abbrev pub order_text : FlatModel → ℕ → ℕ → Order → Ending → ℕ → Text
 order_text m first second order ending bits =
-    codes "pair " ++ (decimal first ++ (codes " " ++ (decimal second ++ (codes " " ++ (order_word order ++ (reach_text ending bits ++ traces_text m order))))))
+    codes "pair " ++ (decimal first
+    ++ (codes " " ++ (decimal second ++ (codes " " ++ (order_word order ++ (reach_text ending bits ++ traces_text m order))))))
 
 -- what is said of an order of two faults of a case
 abbrev pub order_report : Case → ℕ → ℕ → Order → Ending → Text
@@ -173,7 +177,8 @@ pub record FoundOrder (c : Case) (top : Text) (set : List ℕ) (first second dep
 
 -- The files hold a case with the two faults, of which nothing is to be refused, and the word spells an event of it. The order of the
 -- two was found, said, and where it is complete and claimed certified.
-pub record HasOrder (files : List NamedFile) (model faults top : Text) (set : List ℕ) (first second depth : ℕ) (cert : Text) (s : Status) (before after : Told) (said now : Said) : Type 0 where
+pub record HasOrder (files : List NamedFile) (model faults top : Text) (set : List ℕ) (first second depth : ℕ) (cert : Text) (s : Status)
+    (before after : Told) (said now : Said) : Type 0 where
   pub c : Case
   pub holds : HoldsPair files model faults set first second c
   pub found : FoundOrder c top set first second depth
@@ -183,18 +188,21 @@ pub record HasOrder (files : List NamedFile) (model faults top : Text) (set : Li
 
 -- A part of that, in the order of the work: of the certificate, where nothing was said; or of the report, where the certificate is
 -- written.
-pub record OrdersInPart (files : List NamedFile) (model faults top : Text) (set : List ℕ) (first second depth : ℕ) (cert : Text) (before after : Told) (said now : Said) : Type 0 where
+pub record OrdersInPart (files : List NamedFile) (model faults top : Text) (set : List ℕ) (first second depth : ℕ) (cert : Text)
+    (before after : Told) (said now : Said) : Type 0 where
   pub c : Case
   pub holds : HoldsPair files model faults set first second c
   pub found : FoundOrder c top set first second depth
   pub part : (IsClaimBegun c set first second found.tree found.order found.ending cert before after × (now ≡ said))
-      ⊎ (IsClaimWritten c set first second found.tree found.order found.ending cert before after × SaysPrefix said now (order_report c first second found.order found.ending))
+      ⊎ (IsClaimWritten c set first second found.tree found.order found.ending cert before after
+      × SaysPrefix said now (order_report c first second found.order found.ending))
 
 -- ---- certificates
 
 -- what a word claims: one of the relations, or that there is no trace
 abbrev pub claim_in : Text → Option Relation
-claim_in word = if bytes_eq word (codes "before") then Some Before else (if bytes_eq word (codes "after") then Some After else (if bytes_eq word (codes "together") then Some Together else None))
+claim_in word = if bytes_eq word (codes "before") then Some Before else
+    (if bytes_eq word (codes "after") then Some After else (if bytes_eq word (codes "together") then Some Together else None))
 
 -- what is judged: the staged model, which has no faults of its own, with what speaks against the claim
 abbrev pub staged_matter : FlatModel → Tree FlatLeaf → Certificate → Matter
@@ -202,7 +210,8 @@ staged_matter m e a = record { model = m; modes = []; top = e; subject = subject
 
 -- the certificate breaks a rule, where listing a set breaks the last one
 pub data RefusesClaim (m : FlatModel) (e : Tree FlatLeaf) (a : Certificate) (r : Refusal) : Type 0 where
-  at_line : (line number : ℕ) → r ≡ (refusal.NotAccepted (objection.Line line number)) → IsObjectionUnlisted (staged_matter m e a) line number → RefusesClaim m e a r
+  at_line : (line number : ℕ) → r ≡ (refusal.NotAccepted (objection.Line line number)) →
+      IsObjectionUnlisted (staged_matter m e a) line number → RefusesClaim m e a r
 
 -- it is accepted for the staged model, and lists no set
 pub record IsAcceptedClaim (m : FlatModel) (e : Tree FlatLeaf) (a : Certificate) : Type 0 where
@@ -224,32 +233,36 @@ pub record AcceptsFile (files : List NamedFile) (cert : Text) (m : FlatModel) (e
 
 -- What a check of an order is refused for, in the order of the work: the pair; or else, where nothing of that is to be refused, the
 -- file of the certificate, or a line of it.
-pub data RefusesCheck (files : List NamedFile) (model faults top : Text) (set : List ℕ) (first second : ℕ) (claim cert : Text) (r : Refusal) : Type 0 where
+pub data RefusesCheck (files : List NamedFile) (model faults top : Text) (set : List ℕ) (first second : ℕ) (claim cert : Text)
+    (r : Refusal) : Type 0 where
   no_pair : RefusesPair files model faults top set first second r → RefusesCheck files model faults top set first second claim cert r
   no_certificate : (c : Case) (event : Formula) → HoldsPair files model faults set first second c → IsTopWord c.program top event →
       RefusesCertificate files cert r → RefusesCheck files model faults top set first second claim cert r
-  not_accepted : (c : Case) (event : Formula) (tree : Tree FlatLeaf) (a : Certificate) → HoldsPair files model faults set first second c → IsTopWord c.program top event → IsTopTree c event tree →
+  not_accepted : (c : Case) (event : Formula) (tree : Tree FlatLeaf) (a : Certificate) → HoldsPair files model faults set first second c →
+      IsTopWord c.program top event → IsTopTree c event tree →
       HoldsCertificate files cert a → RefusesClaim (staged_of c first second) (against_of c set first second tree (claim_in claim)) a r →
       RefusesCheck files model faults top set first second claim cert r
 
 -- The files hold a case with the two faults, of which nothing is to be refused, and a certificate, and the word spells an event of
 -- the case. The certificate is accepted for the claim, and the claim holds: of all extended traces that reach the event and have
 -- failed exactly the set, of whatever length.
-pub record AcceptsOrder (files : List NamedFile) (model faults top : Text) (set : List ℕ) (first second : ℕ) (claim cert : Text) : Type 0 where
-  pub c : Case
-  pub holds : HoldsPair files model faults set first second c
-  pub event : Formula
-  pub is_event : IsTopWord c.program top event
-  pub tree : Tree FlatLeaf
-  pub is_tree : IsTopTree c event tree
-  pub one : Fault
-  pub other : Fault
-  pub are : AreFaults c first second one other
-  pub accepts : AcceptsFile files cert (staged_of c first second) (against_of c set first second tree (claim_in claim))
-  pub right : IsClaimed c event set one other complete (claim_in claim)
+pub record AcceptsOrder (files : List NamedFile) (model faults top : Text) (set : List ℕ) (first second : ℕ) (claim cert : Text) : Type 0
+  where
+    pub c : Case
+    pub holds : HoldsPair files model faults set first second c
+    pub event : Formula
+    pub is_event : IsTopWord c.program top event
+    pub tree : Tree FlatLeaf
+    pub is_tree : IsTopTree c event tree
+    pub one : Fault
+    pub other : Fault
+    pub are : AreFaults c first second one other
+    pub accepts : AcceptsFile files cert (staged_of c first second) (against_of c set first second tree (claim_in claim))
+    pub right : IsClaimed c event set one other complete (claim_in claim)
 
 -- so it was said
-pub record HasCheckedOrder (files : List NamedFile) (model faults top : Text) (set : List ℕ) (first second : ℕ) (claim cert : Text) (s : Status) (said now : Said) : Type 0 where
+pub record HasCheckedOrder (files : List NamedFile) (model faults top : Text) (set : List ℕ) (first second : ℕ) (claim cert : Text)
+    (s : Status) (said now : Said) : Type 0 where
   pub accepts : AcceptsOrder files model faults top set first second claim cert
   pub ends : s ≡ status.Done
   pub reported : now ≡ said_more said (codes "accepted\n")

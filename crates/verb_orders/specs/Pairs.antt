@@ -6,7 +6,7 @@ use Rattle.smv_language.specs.ModelTree.{model_tree}
 use Rattle.smv_flat_laws.specs.FaultModes.{mode_of}
 use Rattle.cut_right_laws.specs.Sets.{has_number}
 use Rattle.sat_encoding_laws.specs.FlatTraces.{IsNumbered}
-use Rattle.smv_type_laws.specs.Judged.{too_large}
+use Rattle.smv_type_laws.specs.ExpressionKinds.{too_large}
 use Rattle.smv_type_laws.specs.Models.{IsTyped, IsFault}
 use Rattle.smv_types.specs.declared.typed.Typed.{Typed}
 use Rattle.fault_orders.specs.Stage.{stage}
@@ -25,7 +25,7 @@ use Rattle.verb_loading.specs.Wholes.{BreaksKinds}
 use Rattle.verb_loading.specs.Cases.{Case, HoldsCase, IsTopWord, IsWrongWord}
 use Rattle.verb_loading.specs.LoadedEvents.{IsEvent}
 use Rattle.verb_orders.specs.declared.pair.PairWords.{PairWords}
-use Rattle.verb_orders.specs.declared.pair.StagedCase.{StagedCase}
+use Rattle.verb_orders.specs.declared.pair.PairCase.{PairCase}
 
 -- two different numbers of a set
 pub record IsPair (set : List ℕ) (first second : ℕ) : Type 0 where
@@ -59,9 +59,12 @@ stage_refusal fault = (refusal.Faults fault)
 -- A number of the set is that of no fault; or all are, and so the two, and the model staged for these is refused by a rule of kinds, or
 -- by its limit of size.
 pub data RefusesStage (limited : Limited) (set : List ℕ) (first second : ℕ) (r : Refusal) : Type 0 where
-  outside : (position : ℕ) → r ≡ outside_refusal position → IsFirstOutside (length limited.faults) set position → RefusesStage limited set first second r
-  unlawful : (fault : InputFault) → r ≡ stage_refusal fault → IsNumbered (length limited.faults) set → IsFaultNumber (length limited.faults) first → IsFaultNumber (length limited.faults) second →
-      BreaksKinds (stage (model_tree limited.typed.model) (map mode_of limited.faults) first second) fault → RefusesStage limited set first second r
+  outside : (position : ℕ) → r ≡ outside_refusal position → IsFirstOutside (length limited.faults) set position →
+      RefusesStage limited set first second r
+  unlawful : (fault : InputFault) → r ≡ stage_refusal fault → IsNumbered (length limited.faults) set →
+      IsFaultNumber (length limited.faults) first → IsFaultNumber (length limited.faults) second →
+      BreaksKinds (stage (model_tree limited.typed.model) (map mode_of limited.faults) first second) fault →
+      RefusesStage limited set first second r
 
 -- The files hold a case; the numbers of the set are those of its faults; and the model staged for the two breaks no rule of kinds.
 pub record HoldsPair (files : List NamedFile) (model faults : Text) (set : List ℕ) (first second : ℕ) (c : Case) : Type 0 where
@@ -73,8 +76,10 @@ pub record HoldsPair (files : List NamedFile) (model faults : Text) (set : List 
 -- limit of size of the staged model, which breaks no other rule of kinds; and the top event.
 pub data RefusesPair (files : List NamedFile) (model faults top : Text) (set : List ℕ) (first second : ℕ) (r : Refusal) : Type 0 where
   at_model : RefusesModel files model r → RefusesPair files model faults top set first second r
-  at_faults : (p : ProgramTree) → HoldsModel files model p → RefusesFaults files faults p r → RefusesPair files model faults top set first second r
-  at_set : (c : Case) (position : ℕ) → r ≡ outside_refusal position → HoldsCase files model faults c → IsFirstOutside (length c.faults) set position →
+  at_faults : (p : ProgramTree) → HoldsModel files model p → RefusesFaults files faults p r →
+      RefusesPair files model faults top set first second r
+  at_set : (c : Case) (position : ℕ) → r ≡ outside_refusal position → HoldsCase files model faults c →
+      IsFirstOutside (length c.faults) set position →
       RefusesPair files model faults top set first second r
   at_stage : (c : Case) → r ≡ stage_refusal (kinds_fault too_large 0) → HoldsCase files model faults c → IsNumbered (length c.faults) set →
       IsFault (stage c.flat c.modes first second) too_large 0 → RefusesPair files model faults top set first second r
@@ -97,7 +102,7 @@ pub record IsStaged (limited : Limited) (set : List ℕ) (first second : ℕ) (m
   pub numbered : IsNumbered (length limited.faults) set
 
 -- the extension of a lawful program with a top event of it, staged so
-pub record IsStagedCase (s : StagedCase) : Type 0 where
+pub record IsStagedCase (s : PairCase) : Type 0 where
   pub event : IsEvent s.asked.top.now s.loaded
   pub pair : IsPair s.set.items s.asked.first s.asked.second
   pub staged : IsStaged s.loaded.case.limited s.set.items s.asked.first s.asked.second s.typed
@@ -109,12 +114,15 @@ IsAsked asked = IsAskedPair asked.set.now asked.first asked.second
 
 -- what was asked for of two faults is refused
 abbrev pub RefusesAsked : List NamedFile → PairWords → Refusal → Type 0
-RefusesAsked files asked r = RefusesPair files asked.model.now asked.faults.now asked.top.now (numbers_of asked.set.now) asked.first asked.second r
+RefusesAsked files asked r =
+    RefusesPair files asked.model.now asked.faults.now asked.top.now (numbers_of asked.set.now) asked.first asked.second r
 
 -- the words of an order ask for two numbers of a set
 abbrev pub OrdersAskPairs : Type 0
-OrdersAskPairs = (words : List Text) (model faults top set : Text) (first second depth : ℕ) (cert : Text) → Means words (orders model faults top set first second depth cert) → IsAskedPair set first second
+OrdersAskPairs = (words : List Text) (model faults top set : Text) (first second depth : ℕ) (cert : Text) →
+    Means words (orders model faults top set first second depth cert) → IsAskedPair set first second
 
 -- the words of a check of an order ask for two numbers of a set
 abbrev pub ChecksAskPairs : Type 0
-ChecksAskPairs = (words : List Text) (model faults top set : Text) (first second : ℕ) (claim cert : Text) → Means words (check_orders model faults top set first second claim cert) → IsAskedPair set first second
+ChecksAskPairs = (words : List Text) (model faults top set : Text) (first second : ℕ) (claim cert : Text) →
+    Means words (check_orders model faults top set first second claim cert) → IsAskedPair set first second

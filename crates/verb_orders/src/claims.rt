@@ -5,19 +5,20 @@ ghost use Rattle.std.specs.Prelude.{◌≡◌, ◌≤◌, ◌⊎◌, [], codes, 
 ghost use Rattle.base_files.specs.Desk.{Rose, SaysPrefix};
 ghost use Rattle.smv_language.specs.ModelTree.{model_tree, flat_tree};
 ghost use Rattle.cut_search_laws.specs.Searchable.{IsSearchable};
-ghost use Rattle.cert_text.specs.Seen.{seen};
+ghost use Rattle.cert_text.specs.CertificateView.{seen};
 ghost use Rattle.cert_check.specs.Fit.{IsCheckable};
-ghost use Rattle.cert_check.specs.Found.{IsJudgedUnlisted};
+ghost use Rattle.cert_check.specs.SiteFindings.{IsJudgedUnlisted};
 ghost use Rattle.verb_loading.specs.LoadedEvents.{case_in};
 ghost use Rattle.verb_command_line.specs.Sets.{numbers_of};
 ghost use Rattle.verb_loading.specs.declared.status.Refusal.{Refusal};
 ghost use Rattle.verb_loading.specs.declared.input.Stop.TheVariants as stop;
 ghost use Rattle.verb_loading.specs.Statuses.{IsFinished};
 ghost use Rattle.verb_orders.specs.Pairs.{IsAskedPair, IsStagedCase};
-ghost use Rattle.verb_orders.specs.Orders.{RefusesCheck, AcceptsOrder, HasCheckedOrder, RefusesFile, AcceptsFile, RefusesClaim, IsAcceptedClaim, claim_in, staged_of, against_of, staged_matter};
-ghost use Rattle.verb_orders.specs.Claimed.{staged_in, against_in};
+ghost use Rattle.verb_orders.specs.Orders.{RefusesCheck, AcceptsOrder, HasCheckedOrder, RefusesFile, AcceptsFile, RefusesClaim};
+ghost use Rattle.verb_orders.specs.Orders.{IsAcceptedClaim, claim_in, staged_of, against_of, staged_matter};
+ghost use Rattle.verb_orders.specs.ClaimSearch.{staged_in, against_in};
 
-use crate::pair::{PairWords, StagedCase, discard_case, load_pair};
+use crate::pair::{PairCase, PairWords, discard_case, load_pair};
 use crate::searched::{count_few, expression};
 use base_files::{Desk, say_whole};
 use base_values::OutOfMemory;
@@ -98,7 +99,7 @@ fn prepare<D: Desk>(alloc: Global, desk: &mut D, asked: &CheckOrders) -> Result<
 fn judge_file<D: Desk>(
     alloc: Global,
     desk: &mut D,
-    staged: &StagedCase,
+    staged: &PairCase,
     claim: &str,
     cert: &str,
 ) -> Result<(), Stop>
@@ -106,7 +107,8 @@ fn judge_file<D: Desk>(
     ensures ok { OnOk result (IfSome (D.files desk.old) (λ files.
         AcceptsFile files cert.now (staged_in staged.now) (against_in staged.now (claim_in claim.now)))) }
     ensures refused { (r : Refusal) → IsErrOf result (stop.Refused r) →
-        IfSome (D.files desk.old) (λ files. RefusesFile files cert.now (staged_in staged.now) (against_in staged.now (claim_in claim.now)) r) }
+        IfSome (D.files desk.old)
+        (λ files. RefusesFile files cert.now (staged_in staged.now) (against_in staged.now (claim_in claim.now)) r) }
     ensures failed { IsErrOf result stop.Desk → Rose (D.faults desk.old) (D.faults desk.new) }
     ensures files { D.files desk.new ≡ D.files desk.old }
     ensures said { D.said desk.new ≡ D.said desk.old }
@@ -133,7 +135,7 @@ fn claim_of(word: &str) -> Option<Relation>
 /// more faults than a weave takes.
 fn judge(
     alloc: Global,
-    staged: &StagedCase,
+    staged: &PairCase,
     claim: Option<Relation>,
     certificate: &Certificate,
 ) -> Result<(), Stop>
@@ -159,7 +161,7 @@ fn judge(
 /// What is found of a certificate for an expression over the staged model.
 fn judged(
     alloc: Global,
-    staged: &StagedCase,
+    staged: &PairCase,
     top: &Expr<Flat>,
     certificate: &Certificate,
 ) -> Result<Judged, OutOfMemory>

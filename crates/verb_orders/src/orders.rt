@@ -14,9 +14,10 @@ ghost use Rattle.verb_loading.specs.declared.input.Stop.TheVariants as stop;
 ghost use Rattle.verb_loading.specs.Statuses.{ended_with, IsBoundedAt, IsFinished};
 ghost use Rattle.verb_orders.specs.Pairs.{IsAskedPair, RefusesPair, IsStagedCase};
 ghost use Rattle.verb_orders.specs.Orders.{CertifiesClaim, HasOrder, OrdersInPart};
-ghost use Rattle.verb_orders.specs.Claimed.{IsSearchOf, IsTraceAgainst, IsToldBy, HasClaimCertificate, IsConclusion, ConcludesFrom, relation_in};
+ghost use Rattle.verb_orders.specs.ClaimSearch.{IsSearchOf, IsTraceAgainst, IsToldBy, HasClaimCertificate, IsConclusion, ConcludesFrom};
+ghost use Rattle.verb_orders.specs.ClaimSearch.{relation_in};
 
-use crate::pair::{PairWords, StagedCase, discard_case, load_pair};
+use crate::pair::{PairCase, PairWords, discard_case, load_pair};
 use crate::searched::{Searched, discard_search, search};
 use crate::verdict::{cut, relation_of, report_claim, report_either};
 use base_files::Desk;
@@ -47,7 +48,8 @@ pub fn find_orders<D: Desk>(
     ensures depth { IfOk result (IsBoundedAt asked.now.depth) }
     ensures refused { (r : Refusal) → IsErrOf result (stop.Refused r) →
         IsAskedPair asked.now.set.now asked.now.first asked.now.second → IfSome (D.files desk.old) (λ files.
-        RefusesPair files asked.now.model.now asked.now.faults.now asked.now.top.now (numbers_of asked.now.set.now) asked.now.first asked.now.second r) }
+        RefusesPair files asked.now.model.now asked.now.faults.now asked.now.top.now (numbers_of asked.now.set.now) asked.now.first
+        asked.now.second r) }
     ensures untouched { (r : Refusal) → IsErrOf result (stop.Refused r) →
         (D.files desk.new ≡ D.files desk.old) × (D.said desk.new ≡ D.said desk.old) }
     ensures failed { IsErrOf result stop.Desk → Rose (D.faults desk.old) (D.faults desk.new) }
@@ -78,7 +80,8 @@ fn prepare<D: Desk>(
     ensures depth { IfOk result (λ k. IsBoundedAt asked.now.depth (ended_with (told_ending k.ending))) }
     ensures refused { (r : Refusal) → IsErrOf result (stop.Refused r) →
         IsAskedPair asked.now.set.now asked.now.first asked.now.second → IfSome (D.files desk.old) (λ files.
-        RefusesPair files asked.now.model.now asked.now.faults.now asked.now.top.now (numbers_of asked.now.set.now) asked.now.first asked.now.second r) }
+        RefusesPair files asked.now.model.now asked.now.faults.now asked.now.top.now (numbers_of asked.now.set.now) asked.now.first
+        asked.now.second r) }
     ensures failed { IsErrOf result stop.Desk → Rose (D.faults desk.old) (D.faults desk.new) }
     ensures files { D.files desk.new ≡ D.files desk.old }
     ensures said { D.said desk.new ≡ D.said desk.old }
@@ -102,7 +105,7 @@ fn prepare<D: Desk>(
 /// The order of the two faults: a first search looks for any trace that reaches the event with exactly the set.
 fn answer(
     alloc: Global,
-    staged: &StagedCase,
+    staged: &PairCase,
     depth: u32,
     panel: &mut Panel,
 ) -> Result<Conclusion, OutOfMemory>
@@ -119,7 +122,7 @@ fn answer(
 /// none.
 fn answer_from(
     alloc: Global,
-    staged: &StagedCase,
+    staged: &PairCase,
     depth: u32,
     some: &Searched,
     panel: &mut Panel,
@@ -138,7 +141,7 @@ fn answer_from(
 /// The order of the two faults, of which a trace shows one: a second search looks for another trace that speaks against that.
 fn answer_of(
     alloc: Global,
-    staged: &StagedCase,
+    staged: &PairCase,
     depth: u32,
     trace: &MomentList,
     panel: &mut Panel,
@@ -158,7 +161,7 @@ fn answer_of(
 /// against that.
 fn answer_against(
     alloc: Global,
-    staged: &StagedCase,
+    staged: &PairCase,
     depth: u32,
     trace: &MomentList,
     other: &Searched,
@@ -180,7 +183,7 @@ fn answer_against(
 /// The answer of a search that found no trace.
 fn concluded(
     alloc: Global,
-    staged: &StagedCase,
+    staged: &PairCase,
     claim: Option<Relation>,
     depth: u32,
     searched: &Searched,
@@ -205,7 +208,7 @@ fn concluded(
 /// The answer of two traces that differ, which has no certificate.
 fn differing(
     alloc: Global,
-    staged: &StagedCase,
+    staged: &PairCase,
     one: &MomentList,
     other: &MomentList,
 ) -> Result<Conclusion, OutOfMemory>
@@ -228,7 +231,7 @@ fn differing(
 /// The text of a certificate, where the search is complete.
 fn certificate(
     alloc: Global,
-    staged: &StagedCase,
+    staged: &PairCase,
     claim: Option<Relation>,
     depth: u32,
     searched: &Searched,
@@ -251,7 +254,7 @@ fn certificate(
 /// The text of a certificate of a complete search that found no trace.
 fn certificate_text(
     alloc: Global,
-    staged: &StagedCase,
+    staged: &PairCase,
     claim: Option<Relation>,
     depth: u32,
     searched: &Searched,

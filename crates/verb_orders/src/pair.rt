@@ -18,7 +18,8 @@ ghost use Rattle.verb_loading.specs.LoadedEvents.{case_in};
 ghost use Rattle.verb_loading.specs.Cases.{HoldsCase};
 ghost use Rattle.verb_loading.specs.declared.status.Refusal.{Refusal};
 ghost use Rattle.verb_loading.specs.declared.input.Stop.TheVariants as stops;
-ghost use Rattle.verb_orders.specs.Pairs.{IsPair, IsAsked, IsFirstOutside, outside_refusal, stage_refusal, RefusesStage, RefusesAsked, IsStaged, IsStagedCase};
+ghost use Rattle.verb_orders.specs.Pairs.{IsPair, IsAsked, IsFirstOutside, outside_refusal, stage_refusal, RefusesStage, RefusesAsked};
+ghost use Rattle.verb_orders.specs.Pairs.{IsStaged, IsStagedCase};
 
 use base_files::Desk;
 use cert_check::is_fault;
@@ -50,7 +51,7 @@ pub struct PairWords<'a> {
 /// An extension with a top event, a set of its faults, and its flat model staged for two faults of the set. The staged model
 /// has no faults of its own.
 #[derive(Drop)]
-pub struct StagedCase<'a> {
+pub struct PairCase<'a> {
     pub asked: PairWords<'a>,
     pub loaded: LoadedEvent,
     pub set: Vec<u32>,
@@ -59,15 +60,16 @@ pub struct StagedCase<'a> {
 }
 
 /// Lets a staged case go. Its expressions are taken apart here, once for all that had it.
-pub(crate) fn discard_case(_staged: StagedCase<'_>) {}
+pub(crate) fn discard_case(_staged: PairCase<'_>) {}
 
 /// The extension of two files, staged for two faults of a set, with a top event.
 pub(crate) fn load_pair<'a, D: Desk>(
     alloc: Global,
     desk: &mut D,
     asked: &PairWords<'a>,
-) -> Result<StagedCase<'a>, Stop>
-    ensures ok { IfOk result (λ s. IfSome (D.files desk.old) (λ files. HoldsCase files asked.now.model.now asked.now.faults.now (case_in s.loaded))) }
+) -> Result<PairCase<'a>, Stop>
+    ensures ok { IfOk result
+        (λ s. IfSome (D.files desk.old) (λ files. HoldsCase files asked.now.model.now asked.now.faults.now (case_in s.loaded))) }
     ensures staged { IfOk result IsStagedCase }
     ensures asked { IfOk result (λ s. s.asked ≡ asked.now) }
     ensures numbers { IfOk result (λ s. IsAsked asked.now → s.set.items ≡ numbers_of asked.now.set.now) }
@@ -84,7 +86,7 @@ pub(crate) fn load_pair<'a, D: Desk>(
     let case = load_case(alloc, desk, asked.faults, &model)?;
     let typed = staged(alloc, &case.limited, &set, asked.first, asked.second)?;
     let top = load_top(alloc, asked.top, &model, &case)?;
-    Ok(StagedCase {
+    Ok(PairCase {
         asked: *asked,
         loaded: LoadedEvent { model, case, top },
         set,
@@ -154,7 +156,8 @@ fn staged_model(alloc: Global, limited: &Limited, first: u32, second: u32) -> Re
     requires first { IsFaultNumber (length limited.now.faults) first }
     requires second { IsFaultNumber (length limited.now.faults) second }
     requires apart { first ≢ second }
-    ensures ok { IfOk result (λ t. (model_tree t.model ≡ stage_of (model_tree limited.now.typed.model) (map mode_of limited.now.faults) first second)
+    ensures ok { IfOk result (λ t. (model_tree t.model
+        ≡ stage_of (model_tree limited.now.typed.model) (map mode_of limited.now.faults) first second)
         × IsTyped (model_tree t.model)) }
     ensures refused { (r : Refusal) → IsErrOf result (stops.Refused r) →
         (fault : InputFault) × (r ≡ stage_refusal fault)

@@ -5,9 +5,9 @@ ghost use Rattle.std.specs.Prelude.{◌≡◌, [], IfOk, IsOk, OnOk};
 ghost use Rattle.smv_language.specs.ModelTree.{model_tree, flat_tree};
 ghost use Rattle.cut_search_laws.specs.Searchable.{IsSearchable};
 ghost use Rattle.verb_orders.specs.Pairs.{IsStagedCase};
-ghost use Rattle.verb_orders.specs.Claimed.{HasFew, SpeaksFor, IsAnswerAlone, IsSearchOf};
+ghost use Rattle.verb_orders.specs.ClaimSearch.{HasFew, SpeaksFor, IsAnswerAlone, IsSearchOf};
 
-use crate::pair::StagedCase;
+use crate::pair::PairCase;
 use base_values::OutOfMemory;
 use cut_model_search::analyse;
 use cut_search::answer::Analysis;
@@ -37,7 +37,7 @@ pub(crate) fn discard_search(_searched: Searched) {}
 /// than numbers of them are want of memory, and so are more faults than a weave takes.
 pub(crate) fn search(
     alloc: Global,
-    staged: &StagedCase,
+    staged: &PairCase,
     claim: Option<Relation>,
     depth: u32,
     panel: &mut Panel,
@@ -53,7 +53,7 @@ pub(crate) fn search(
 
 /// Want of memory where there are more symbols than a search has numbers for, or more faults than a weave takes, and only
 /// there.
-pub(crate) fn count_few(staged: &StagedCase) -> Result<(), OutOfMemory>
+pub(crate) fn count_few(staged: &PairCase) -> Result<(), OutOfMemory>
     ensures few { OnOk result (HasFew staged.now) }
     ensures fits { HasFew staged.now → IsOk result }
 {
@@ -69,7 +69,7 @@ pub(crate) fn count_few(staged: &StagedCase) -> Result<(), OutOfMemory>
 /// What speaks against a claim.
 pub(crate) fn expression(
     alloc: Global,
-    staged: &StagedCase,
+    staged: &PairCase,
     claim: Option<Relation>,
 ) -> Result<Expr<Flat>, OutOfMemory>
     requires staged { IsStagedCase staged.now }
@@ -91,7 +91,7 @@ pub(crate) fn expression(
 /// The analysis of a staged model for an expression.
 fn analysed(
     alloc: Global,
-    staged: &StagedCase,
+    staged: &PairCase,
     top: &Expr<Flat>,
     depth: u32,
     panel: &mut Panel,

@@ -6,11 +6,11 @@ ghost use Rattle.std.specs.Fmt.{decimal};
 ghost use Rattle.smv_language.specs.ModelTree.{model_tree};
 ghost use Rattle.cut_text_laws.specs.TraceText.{trace_text};
 ghost use Rattle.cut_text_laws.specs.Analysis.{told_ending};
-ghost use Rattle.smv_language.specs.Told.{told_trace};
+ghost use Rattle.smv_language.specs.NumberedValues.{told_trace};
 ghost use Rattle.verb_orders.specs.Orders.{claimed, either, claim_word, order_text, reach_text, traces_text};
-ghost use Rattle.verb_orders.specs.Claimed.{is_true_value, relation_at as relation_at_end, relation_in};
+ghost use Rattle.verb_orders.specs.ClaimSearch.{is_true_value, relation_at as relation_at_end, relation_in};
 
-use crate::pair::StagedCase;
+use crate::pair::PairCase;
 use base_values::{ByteList, Ending, MomentList, OutOfMemory, Valuation, Value};
 use cut_report::print_trace;
 use fault_orders::Relation;
@@ -86,12 +86,14 @@ fn cut_moment(alloc: Global, moment: &Valuation, variables: usize) -> Result<Val
 #[tactic(auto, using(verb_loading::proofs::ReportLaws::report_rules))]
 pub(crate) fn report_claim(
     alloc: Global,
-    staged: &StagedCase,
+    staged: &PairCase,
     claim: Option<Relation>,
     ending: Ending,
     bits: u32,
 ) -> Result<ByteList, OutOfMemory>
-    ensures { IfOk result (λ text. text ≡ order_text (model_tree staged.now.loaded.case.limited.typed.model) staged.now.asked.first staged.now.asked.second (claimed claim) (told_ending ending) bits) }
+    ensures { IfOk result (λ text. text
+        ≡ order_text (model_tree staged.now.loaded.case.limited.typed.model) staged.now.asked.first staged.now.asked.second
+        (claimed claim) (told_ending ending) bits) }
 {
     let mut text = pair(alloc, staged.asked.first, staged.asked.second)?;
     text.append(claim_name(claim))?;
@@ -103,7 +105,7 @@ pub(crate) fn report_claim(
 #[tactic(auto, using(verb_loading::proofs::ReportLaws::report_rules))]
 pub(crate) fn report_either(
     alloc: Global,
-    staged: &StagedCase,
+    staged: &PairCase,
     one: &MomentList,
     other: &MomentList,
 ) -> Result<ByteList, OutOfMemory>

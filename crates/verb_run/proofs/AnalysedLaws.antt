@@ -4,7 +4,7 @@ use Rattle.std.specs.Prelude.{codes}
 use Rattle.base_files.specs.declared.files.NamedFile.{NamedFile}
 use Rattle.base_files.specs.Files.{with_file}
 use Rattle.smv_language.specs.ProgramTree.{Text}
-use Rattle.verb_command_line.specs.declared.choice.Kind.TheVariants as kind
+use Rattle.verb_command_line.specs.declared.choice.OptionKind.TheVariants as kind
 use Rattle.verb_command_line.specs.declared.verb.Verb.TheVariants as verb
 use Rattle.verb_command_line.specs.Commands.{Given, analyse}
 use Rattle.verb_command_line.specs.Table.{Choice, options_of, kind_in}
@@ -15,10 +15,10 @@ use Rattle.verb_loading.specs.declared.status.Refusal.TheVariants as refusal
 use Rattle.verb_loading.specs.declared.status.Status.{Status}
 use Rattle.verb_loading.specs.declared.status.Status.TheVariants as status
 use Rattle.verb_loading.specs.Statuses.{status_of}
-use Rattle.verb_run.specs.Asked.{AsksToAnalyse}
+use Rattle.verb_run.specs.Requests.{AsksToAnalyse}
 use Rattle.verb_loading.specs.Cases.{Case, HoldsCase}
 use Rattle.verb_run.specs.AnswerTexts.{extension_text}
-use Rattle.cut_model_search.specs.Found.{size_for}
+use Rattle.cut_model_search.specs.CaseAnalysis.{size_for}
 use Rattle.verb_run.specs.Analyses.{AreWritten, HasAnalysed}
 use Rattle.cut_report_laws.specs.ExtendedTraces.{Ending, complete, bounded}
 use Rattle.verb_run.specs.Headline.{IsComplete, IsBounded}

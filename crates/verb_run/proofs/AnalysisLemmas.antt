@@ -6,7 +6,7 @@ use Rattle.verb_loading.specs.declared.status.Refusal.{Refusal}
 use Rattle.verb_loading.specs.declared.event.LoadedEvent.{LoadedEvent}
 use Rattle.verb_loading.specs.Cases.{HoldsCase}
 use Rattle.verb_loading.specs.Events.{RefusesEvent}
-use Rattle.cut_model_search.specs.Found.{size_for}
+use Rattle.cut_model_search.specs.CaseAnalysis.{size_for}
 use Rattle.verb_loading.specs.LoadedEvents.{case_in, IsEvent}
 use Rattle.verb_run.specs.Runs.{refuses, analyses, AnalysisComesTo, refuses_event, is_analysed}
 

@@ -3,15 +3,15 @@
 use Rattle.std.proofs.Common.{◌≤◌, ℕ, List, Result, Ok, Err, IfOk, refl, subst}
 use Rattle.std.specs.Prelude.{codes}
 use Rattle.smv_language.specs.ProgramTree.{Text}
-use Rattle.verb_run.specs.Commanded.{IsAskable}
-use Rattle.verb_command_line.specs.declared.choice.Kind.TheVariants as kind
+use Rattle.verb_run.specs.CommandNumbers.{IsAskable}
+use Rattle.verb_command_line.specs.declared.choice.OptionKind.TheVariants as kind
 use Rattle.verb_command_line.specs.declared.verb.Verb.TheVariants as verb
 use Rattle.verb_command_line.specs.declared.command.Command.{Command}
 use Rattle.verb_command_line.specs.declared.command.Command.TheVariants as ask
 use Rattle.verb_command_line.specs.Commands.{fmea, make, causes, odds}
 use Rattle.verb_command_line.specs.Table.{options_of}
 use Rattle.verb_command_line.specs.Meaning.{AreLawful, Makes, tabulates as makes_table, generates, finds_causes, finds_odds, Means as WordsMean}
-use Rattle.verb_command_line.specs.Seen.{seen}
+use Rattle.verb_command_line.specs.CommandView.{seen}
 use Rattle.verb_command_line.proofs.ValueLemmas.{fits_given}
 use Rattle.verb_orders.proofs.AskedWords.{orders_ask, checks_ask}
 

@@ -10,22 +10,22 @@ use Rattle.smv_flat_laws.specs.FaultModes.{mode_of}
 use Rattle.smv_language.specs.Flat.{FlatLeaf}
 use Rattle.smv_flat_laws.specs.FlatTrace.{IsFlatTrace}
 use Rattle.sat_encoding_laws.specs.FlatTraces.{ReachesTop, HasFailedNumber}
-use Rattle.cut_text_laws.specs.Given.{GivesTrace}
+use Rattle.cut_text_laws.specs.TraceOfText.{GivesTrace}
 use Rattle.cert_laws.specs.Certificate.{Certificate}
-use Rattle.cert_laws.specs.Accepted.{IsAccepted, IsObjection}
+use Rattle.cert_laws.specs.Acceptance.{IsAccepted, IsObjection}
 use Rattle.cert_laws.specs.Completeness.{Certifies}
 use Rattle.cert_laws.proofs.Completeness.{certified_completeness, certified_minimal}
 use Rattle.cert_laws.specs.Subject.{subject_of}
 use Rattle.cert_laws.proofs.Subjects.{subjects_right}
 use Rattle.cert_check.specs.Matter.{matter_of, IsAcceptedIn}
-use Rattle.cert_check.specs.Found.{IsObjectionOf}
+use Rattle.cert_check.specs.SiteFindings.{IsObjectionOf}
 use Rattle.cert_check.specs.Fit.{IsFit, IsCheckable}
 use Rattle.verb_loading.specs.declared.status.Objection.TheVariants as objection
 use Rattle.verb_loading.specs.declared.status.Refusal.{Refusal}
 use Rattle.verb_loading.specs.declared.status.Refusal.TheVariants as refusal
 use Rattle.verb_loading.specs.declared.event.LoadedEvent.{LoadedEvent}
 use Rattle.verb_loading.specs.Cases.{Case}
-use Rattle.verb_loading.specs.Answered.{Said}
+use Rattle.verb_loading.specs.CaseAnswers.{Said}
 use Rattle.verb_run.specs.AnswerTexts.{check_text}
 use Rattle.verb_loading.specs.LoadedEvents.{case_in}
 use Rattle.cert_file.specs.CertificateFiles.{RefusesCertificate, HoldsCertificate}

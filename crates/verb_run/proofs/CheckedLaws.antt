@@ -9,7 +9,7 @@ use Rattle.verb_loading.specs.declared.event.LoadedEvent.{LoadedEvent}
 use Rattle.verb_loading.specs.declared.status.Refusal.{Refusal}
 use Rattle.verb_loading.specs.declared.status.Status.{Status}
 use Rattle.verb_loading.specs.declared.status.Status.TheVariants as status
-use Rattle.verb_run.specs.Asked.{AsksToCheck}
+use Rattle.verb_run.specs.Requests.{AsksToCheck}
 use Rattle.verb_loading.specs.Cases.{HoldsCase}
 use Rattle.verb_loading.specs.Events.{RefusesEvent}
 use Rattle.verb_loading.specs.LoadedEvents.{case_in, IsEvent}

@@ -14,10 +14,10 @@ use Rattle.smv_language.specs.Flat.{FlatLeaf}
 use Rattle.cut_search_laws.specs.Problem.{problem_of}
 use Rattle.cut_search.specs.Answer.{IsAnswer}
 use Rattle.cut_search.specs.declared.answer.Analysis.{Analysis as Searched}
-use Rattle.cut_report_laws.specs.Answered.{ending_of, analysis_of}
+use Rattle.cut_report_laws.specs.SearchAnswer.{ending_of, analysis_of}
 use Rattle.base_values.specs.declared.ending.Ending.{Ending as Ended}
 use Rattle.verb_loading.specs.declared.loaded.LoadedCase.{LoadedCase}
-use Rattle.verb_loading.specs.Loaded.{case_of}
+use Rattle.verb_loading.specs.LoadedCases.{case_of}
 use Rattle.verb_loading.specs.Cases.{Case, HoldsCase, HoldsTops}
 use Rattle.verb_run.specs.Tables.{IsExtensible, IsEventOf, IsColumn, AreColumns, AreFound, HasTabulated, TabulatesInPart, MeansColumn, IsTabulated, table_of, after_column, ended_with_all}
 use Rattle.verb_run.proofs.TopEvents.{counts_in_case, event_found}
@@ -35,10 +35,10 @@ use Rattle.cut_report_laws.specs.ExtendedTraces.{Analysis}
 use Rattle.cut_report_laws.proofs.EntryLaws.{entries_are_right, at_place as there_too}
 use Rattle.verb_loading.specs.declared.status.Status.{Status}
 use Rattle.verb_loading.specs.declared.status.Status.TheVariants as status
-use Rattle.verb_loading.specs.Answered.{Told, Said, faults_text}
+use Rattle.verb_loading.specs.CaseAnswers.{Told, Said, faults_text}
 use Rattle.verb_loading.proofs.ListedLaws.{are_listed, named_lines}
 use Rattle.verb_run.proofs.TableLemmas.{both_over, both_back}
-use Rattle.cut_model_search.specs.Found.{IsFound}
+use Rattle.cut_model_search.specs.CaseAnalysis.{IsFound}
 use Rattle.cut_model_search.proofs.Places.{all_by_place}
 use Rattle.smv_language.specs.Trace.{EachBoth}
 

@@ -10,7 +10,7 @@ use Rattle.cert_file.specs.declared.conclusion.Conclusion.{Conclusion}
 use Rattle.verb_run.specs.declared.analysis.Analysing.{Analysing}
 use Rattle.verb_loading.specs.declared.status.Status.{Status}
 use Rattle.verb_loading.specs.Cases.{Case, extension_of}
-use Rattle.verb_loading.specs.Answered.{Told, Said, told_maybe, WritesPrefixMaybe}
+use Rattle.verb_loading.specs.CaseAnswers.{Told, Said, told_maybe, WritesPrefixMaybe}
 use Rattle.verb_run.specs.AnswerTexts.{extension_text}
 use Rattle.verb_run.specs.Analyses.{ended_with, AreWritten, HasAnalysed, AnalysesInPart, part_of_extension, part_of_certificate, part_of_report}
 use Rattle.verb_run.specs.Findings.{IsCertifiedAs, IsFinding, analysed_case}

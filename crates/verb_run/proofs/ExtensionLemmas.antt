@@ -11,7 +11,7 @@ use Rattle.smv_language.specs.Lexemes.{lexemes_of}
 use Rattle.smv_language.specs.SpellsProgram.{SpellsProgram}
 use Rattle.smv_language.proofs.OneProgram.{one_program}
 use Rattle.smv_language.specs.Bytes.{BytesSpellProgram}
-use Rattle.fault_weave.specs.Woven.{woven}
+use Rattle.fault_weave.specs.WovenProgram.{woven}
 use Rattle.fault_weave.proofs.WovenNominal.{woven_extends}
 use Rattle.verb_loading.specs.declared.status.Refusal.{Refusal}
 use Rattle.verb_loading.specs.declared.status.Refusal.TheVariants as refusal
@@ -20,11 +20,11 @@ use Rattle.verb_loading.specs.declared.status.Status.TheVariants as status
 use Rattle.verb_loading.specs.Statuses.{status_of}
 use Rattle.verb_command_line.specs.Commands.{Command, extend}
 use Rattle.verb_command_line.specs.Meaning.{Means as WordsMean, BreaksFirst}
-use Rattle.verb_command_line.specs.Seen.{rule_of, place_of}
+use Rattle.verb_command_line.specs.CommandView.{rule_of, place_of}
 use Rattle.verb_command_line.specs.declared.fault.WordFault.{WordFault}
 use Rattle.verb_command_line.proofs.SeenLemmas.{same_fault}
 use Rattle.verb_command_line.proofs.ReadingLaws.{one_command, one_fault, commands_have_no_fault}
-use Rattle.verb_run.specs.Asked.{AsksToExtend, RefusesWords}
+use Rattle.verb_run.specs.Requests.{AsksToExtend, RefusesWords}
 use Rattle.verb_loading.specs.Inputs.{HoldsModel, HoldsFaults}
 use Rattle.verb_run.specs.Runs.{Outcome, ComesTo, refuses_model, refuses_faults, is_extended, Means, refuses_words, asked, IsAnswer, IsDelivered, HasAnswered, CommandComesTo}
 use Rattle.verb_run.specs.Extension.{IsExtended}

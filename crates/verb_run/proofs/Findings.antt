@@ -13,16 +13,16 @@ use Rattle.cut_search_laws.specs.Problem.{problem_of}
 use Rattle.cut_search_laws.specs.Searchable.{IsSearchable}
 use Rattle.fault_extend.specs.WovenFaults.{fault_tree}
 use Rattle.cut_report.specs.FaultText as lines
-use Rattle.smv_language.specs.Told.{told_trace}
-use Rattle.cut_report.specs.Analysed.{told_analysis}
+use Rattle.smv_language.specs.NumberedValues.{told_trace}
+use Rattle.cut_report.specs.AnalysisView.{told_analysis}
 use Rattle.cut_text_laws.specs.Analysis.{told_ending}
 use Rattle.base_values.specs.declared.ending.Ending.{Ending as Printed}
 use Rattle.cut_search.specs.Answer.{IsAnswer}
 use Rattle.cut_search.specs.declared.answer.Analysis.{Analysis as Searched}
 use Rattle.cut_search.specs.declared.answer.End.{End}
 use Rattle.cut_search.specs.declared.answer.End.TheVariants.{Complete, Bounded}
-use Rattle.cut_report_laws.specs.Answered as found
-use Rattle.cut_report_laws.specs.Answered.{ending_of, analysis_of}
+use Rattle.cut_report_laws.specs.SearchAnswer as found
+use Rattle.cut_report_laws.specs.SearchAnswer.{ending_of, analysis_of}
 use Rattle.cut_report_laws.proofs.Analyses.{answers_are_analyses}
 use Rattle.cut_report_laws.proofs.Printed.{answers_printed}
 use Rattle.cut_report_laws.specs.ExtendedTraces.{Ending, complete, bounded, Analysis}
@@ -30,9 +30,9 @@ use Rattle.cut_report_laws.specs.AnalysisText.{analysis_text}
 use Rattle.verb_loading.specs.declared.loaded.LoadedCase.{LoadedCase}
 use Rattle.verb_loading.specs.Cases.{Case}
 use Rattle.verb_loading.specs.Tasks.{IsTopTree}
-use Rattle.verb_loading.specs.Loaded.{case_of}
-use Rattle.verb_loading.specs.Answered.{faults_text}
-use Rattle.cut_model_search.specs.Found.{size_for, EndsBy, IsCertificateFor}
+use Rattle.verb_loading.specs.LoadedCases.{case_of}
+use Rattle.verb_loading.specs.CaseAnswers.{faults_text}
+use Rattle.cut_model_search.specs.CaseAnalysis.{size_for, EndsBy, IsCertificateFor}
 use Rattle.verb_run.specs.Analyses.{report_of}
 use Rattle.verb_loading.specs.LoadedEvents.{IsAnalysable}
 use Rattle.cut_model_search.specs.Searches.{IsSearched, HasCertificate}

@@ -11,8 +11,8 @@ use Rattle.verb_loading.specs.declared.status.Status.{Status}
 use Rattle.verb_loading.specs.declared.status.Status.TheVariants as status
 use Rattle.verb_loading.specs.declared.input.Stop.{Stop}
 use Rattle.verb_loading.specs.declared.input.Stop.TheVariants as stopped
-use Rattle.verb_loading.specs.Answered.{Told, Said}
-use Rattle.verb_run.specs.Delivered.{Concluded}
+use Rattle.verb_loading.specs.CaseAnswers.{Told, Said}
+use Rattle.verb_run.specs.RunEndings.{Concluded}
 use Rattle.verb_run.specs.Runs.{Outcome, refuses, RefusedOr, is_refused, is_done, CommandComesTo, Means, refuses_words, asked, IsAnswer, IsFinished, IsDelivered, IsDeliveredInPart, Stands, StandsInPart, HasAnswered}
 use Rattle.verb_run.proofs.ExtensionLemmas.{refused_not_asked}
 use Rattle.verb_run.proofs.OutcomeLemmas.{no_answer, answers_stop, leaves_stop}

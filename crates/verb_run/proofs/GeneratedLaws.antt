@@ -20,18 +20,18 @@ use Rattle.smv_flat_laws.specs.Model.{IsFlatOf}
 use Rattle.smv_flat_laws.specs.Rules.{IsAccepted}
 use Rattle.smv_flat_laws.proofs.Laws.{accepted_unbroken}
 use Rattle.smv_flat_laws.proofs.Lists.{each_more}
-use Rattle.smv_type_laws.specs.Judged.{KindRule, too_large}
+use Rattle.smv_type_laws.specs.ExpressionKinds.{KindRule, too_large}
 use Rattle.smv_type_laws.specs.Models.{breaches, IsFault, at_an_item, of_its_size, is_too_large}
 use Rattle.smv_type_laws.proofs.Typed.{typed_has_none}
 use Rattle.smv_type_laws.proofs.ClosedLaws.{models_closed}
 use Rattle.fault_instructions.specs.InstructionText.{instructions_text}
 use Rattle.fault_instructions.proofs.InstructionSpells.{instructions_spell}
 use Rattle.fault_weave.specs.Faults.{Fault, HasFaults}
-use Rattle.fault_weave.specs.Woven.{woven}
+use Rattle.fault_weave.specs.WovenProgram.{woven}
 use Rattle.fault_woven_laws.specs.Modes.{HasSymbols, IsSliceMode}
 use Rattle.fault_woven_laws.specs.Laws.{AreWoven}
 use Rattle.fault_woven_laws.proofs.WovenLaws.{woven_none, modes_symbols, history_none, none_among}
-use Rattle.fault_extend.specs.Refused.{KeepsRules, IsTold, IsWant}
+use Rattle.fault_extend.specs.FirstRefusal.{KeepsRules, IsTold, IsWant}
 use Rattle.fault_extend.specs.declared.fault.WeaveFault.{WeaveFault}
 use Rattle.fault_extend.proofs.OneFault.{none_told}
 use Rattle.fault_generator.specs.Generator.{generated_model, generated_instructions, generated_top}
@@ -57,7 +57,7 @@ use Rattle.verb_loading.specs.Models.{IsModelText, IsLawful, IsWrongModel, not_r
 use Rattle.verb_loading.specs.Wholes.{PassesLimit, by_number, by_size}
 use Rattle.verb_loading.specs.Inputs.{AreTaken, IsWrongFaults, not_spelled, not_woven, past_limit}
 use Rattle.verb_loading.specs.Cases.{IsWrongTop, by_names, by_kinds, IsWrongWord, too_long, not_spelled as no_word, not_kept}
-use Rattle.verb_run.specs.Made.{IsOfGenerator, IsGeneratedText}
+use Rattle.verb_run.specs.GeneratedCase.{IsOfGenerator, IsGeneratedText}
 use Rattle.verb_loading.proofs.LimitLaws.{of_program, slice_modes, are_woven}
 use Rattle.smv_flat_laws.proofs.BothLaws.{both_long}
 use Rattle.cert_laws.specs.ExtendedTraces.{IsModeOfFault}

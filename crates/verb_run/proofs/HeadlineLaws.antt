@@ -8,16 +8,16 @@ use Rattle.base_files.specs.Files.{file_of, with_file}
 use Rattle.base_files.proofs.Writing.{file_of-with_file}
 use Rattle.smv_language.specs.ProgramTree.{Text, Formula}
 use Rattle.fault_weave.proofs.WovenNominal.{woven_extends}
-use Rattle.fault_weave.specs.Extended.{Moment, IsExtended, Reaches}
+use Rattle.fault_weave.specs.ExtensionTraces.{Moment, IsExtended, Reaches}
 use Rattle.cut_right_laws.proofs.Minimal.{right_sets_minimal}
 use Rattle.cert_laws.specs.ExtendedTraces.{HasFailedFault, IsRightExtended}
 use Rattle.cut_report_laws.specs.ExtendedTraces.{Ending, complete, bounded, Analysis, IsOfClass, IsAnalysisOf}
 use Rattle.verb_loading.specs.declared.status.Status.{Status}
 use Rattle.verb_loading.specs.declared.status.Status.TheVariants as status
 use Rattle.verb_loading.specs.Cases.{Case, HoldsCase}
-use Rattle.verb_loading.specs.Answered.{Said}
+use Rattle.verb_loading.specs.CaseAnswers.{Said}
 use Rattle.verb_run.specs.AnswerTexts.{extension_text}
-use Rattle.cut_model_search.specs.Found.{size_for, HasChain, EndsBy}
+use Rattle.cut_model_search.specs.CaseAnalysis.{size_for, HasChain, EndsBy}
 use Rattle.verb_run.specs.Analyses.{ended_with, Certifies, AreWritten, HasAnalysed}
 use Rattle.verb_run.specs.Headline.{IsAnalysed, AreMinimal, IsComplete, IsBounded, AnswersAreTheHeadline}
 use Rattle.verb_loading.proofs.WovenSpells.{woven_text_spells}

@@ -13,9 +13,9 @@ use Rattle.verb_command_line.specs.Table.{options_of}
 use Rattle.verb_command_line.specs.Meaning.{AreDifferent, Makes, generates as makes_case}
 use Rattle.verb_command_line.proofs.ReadingLaws.{one_command}
 use Rattle.verb_loading.specs.declared.status.Status.{Status}
-use Rattle.verb_run.specs.Asked.{AsksToMake}
+use Rattle.verb_run.specs.Requests.{AsksToMake}
 use Rattle.verb_loading.specs.Cases.{Case}
-use Rattle.verb_run.specs.Made.{IsGenerated, HasMade, IsMade}
+use Rattle.verb_run.specs.GeneratedCase.{IsGenerated, HasMade, IsMade}
 use Rattle.verb_run.specs.Runs.{Outcome, MakeComesTo, is_made, CommandComesTo, Means, refuses_words, asked, IsAnswer, IsFinished, IsDelivered, HasAnswered}
 use Rattle.verb_run.proofs.AnalysedLaws.{apart}
 use Rattle.verb_run.proofs.HeadlineLaws.{other_file}

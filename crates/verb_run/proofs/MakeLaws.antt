@@ -18,7 +18,7 @@ use Rattle.base_values.specs.declared.ending.Ending.{Ending as Printed}
 use Rattle.cut_search_laws.specs.Problem.{problem_of}
 use Rattle.cut_search.specs.Answer.{IsAnswer}
 use Rattle.cut_search.specs.declared.answer.Analysis.{Analysis as Searched}
-use Rattle.cut_report_laws.specs.Answered.{ending_of, analysis_of}
+use Rattle.cut_report_laws.specs.SearchAnswer.{ending_of, analysis_of}
 use Rattle.cut_report_laws.proofs.Analyses.{answers_are_analyses}
 use Rattle.verb_loading.specs.declared.loaded.LoadedCase.{LoadedCase}
 use Rattle.verb_run.specs.declared.make.Making.{Making}
@@ -27,13 +27,13 @@ use Rattle.verb_loading.specs.declared.status.Status.{Status}
 use Rattle.verb_loading.specs.Models.{IsModelText}
 use Rattle.verb_loading.specs.Inputs.{IsInstructionText}
 use Rattle.verb_loading.specs.Cases.{Case}
-use Rattle.verb_loading.specs.Loaded.{case_of}
-use Rattle.verb_loading.specs.Answered.{Told, Said, bits_of}
+use Rattle.verb_loading.specs.LoadedCases.{case_of}
+use Rattle.verb_loading.specs.CaseAnswers.{Told, Said, bits_of}
 use Rattle.verb_run.specs.AnswerTexts.{summary_text}
-use Rattle.cut_model_search.specs.Found.{IsFound}
+use Rattle.cut_model_search.specs.CaseAnalysis.{IsFound}
 use Rattle.verb_run.specs.Analyses.{ended_with}
 use Rattle.verb_loading.specs.LoadedEvents.{IsAnalysable}
-use Rattle.verb_run.specs.Made.{dead_word, both_written, HasMade, MakesInPart, part_of_model, part_of_faults, part_of_summary, summary_line, made_case, IsMaking, IsSummary}
+use Rattle.verb_run.specs.GeneratedCase.{dead_word, both_written, HasMade, MakesInPart, part_of_model, part_of_faults, part_of_summary, summary_line, made_case, IsMaking, IsSummary}
 use Rattle.cut_model_search.proofs.Analysable.{model_of_case, case_counts}
 use Rattle.verb_run.proofs.Concluded.{whole_prefix}
 use Rattle.verb_run.proofs.Findings.{ends_by}

@@ -7,8 +7,8 @@ use Rattle.smv_language.specs.Values.{Value}
 use Rattle.smv_language.specs.Flat.{FlatLeaf}
 use Rattle.smv_flat_laws.specs.FlatTrace.{IsFlatTrace}
 use Rattle.sat_encoding_laws.specs.FlatTraces.{ReachesTop, HasFailedNumber}
-use Rattle.cut_text_laws.specs.Given.{GivesTrace}
-use Rattle.cert_laws.specs.Accepted.{number_of}
+use Rattle.cut_text_laws.specs.TraceOfText.{GivesTrace}
+use Rattle.cert_laws.specs.Acceptance.{number_of}
 use Rattle.cert_laws.specs.Certificate.{Certificate}
 use Rattle.cert_laws.proofs.Objections.{one_objection, accepted_has_none}
 use Rattle.verb_loading.specs.declared.status.Objection.TheVariants as objection

@@ -7,7 +7,7 @@ use Rattle.verb_loading.specs.declared.status.Refusal.TheVariants as refusal
 use Rattle.verb_loading.specs.Inputs.{RefusesFaults}
 use Rattle.verb_loading.specs.Cases.{Case, HoldsCase, IsTopWord, IsWrongWord}
 use Rattle.verb_loading.specs.Events.{RefusesEvent, at_model, at_faults, at_top}
-use Rattle.cut_model_search.specs.Found.{size_for}
+use Rattle.cut_model_search.specs.CaseAnalysis.{size_for}
 use Rattle.verb_run.specs.Runs.{Outcome, refuses, analyses, AnalysisComesTo, refuses_event, is_analysed}
 use Rattle.verb_loading.proofs.OneExtending.{one_refused_faults}
 use Rattle.verb_loading.proofs.OneModelFault.{one_refused_model, held_not_refused, one_held_model}

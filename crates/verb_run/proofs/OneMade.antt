@@ -1,7 +1,7 @@
 -- A number and stages have one generated case.
 use Rattle.std.proofs.Common.{◌≡◌, ℕ, [], sym, ap, subst, ◌∙◌}
 use Rattle.verb_loading.specs.Cases.{Case, IsCase}
-use Rattle.verb_run.specs.Made.{IsGenerated}
+use Rattle.verb_run.specs.GeneratedCase.{IsGenerated}
 use Rattle.verb_loading.proofs.OneCase.{same_case}
 
 pub one_generated : (number stages : ℕ) (c d : Case) → IsGenerated number stages c → IsGenerated number stages d → c ≡ d

@@ -5,10 +5,10 @@ use Rattle.smv_language.specs.ProgramTree.{Text}
 use Rattle.smv_language.specs.Tree.{Tree}
 use Rattle.smv_language.specs.Values.{Value}
 use Rattle.smv_language.specs.Flat.{FlatLeaf, FlatModel}
-use Rattle.smv_evaluation.specs.Replayed.{IsReaching}
+use Rattle.smv_evaluation.specs.Replay.{IsReaching}
 use Rattle.smv_evaluation.proofs.StopLaws.{one_stop, reaching_does_not}
-use Rattle.cut_text_laws.specs.Given.{IsPrintable, BytesGive}
-use Rattle.cut_text_laws.specs.Wrong.{IsFirstFault}
+use Rattle.cut_text_laws.specs.TraceOfText.{IsPrintable, BytesGive}
+use Rattle.cut_text_laws.specs.TraceFaults.{IsFirstFault}
 use Rattle.cut_text_laws.proofs.OneTrace.{one_trace}
 use Rattle.cut_text_laws.proofs.OneFault.{one_fault}
 use Rattle.cut_text_laws.proofs.GivenHasNone.{given_has_none}

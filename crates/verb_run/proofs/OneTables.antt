@@ -11,7 +11,7 @@ use Rattle.smv_language.specs.Trace.{Each}
 use Rattle.smv_expression_reader.specs.declared.fault.ParseFault.{ParseFault}
 use Rattle.smv_expression_reader.specs.Stops.{FaultMeans}
 use Rattle.smv_expression_reader.specs.Lists.{IsExpressions}
-use Rattle.smv_expression_reader.specs.Within.{HaveDepths, AreTooDeep}
+use Rattle.smv_expression_reader.specs.ExpressionDepths.{HaveDepths, AreTooDeep}
 use Rattle.smv_flat_laws.specs.Rules.{IsAccepted}
 use Rattle.verb_loading.specs.declared.status.InputFault.{InputFault}
 use Rattle.verb_loading.specs.declared.status.Refusal.{Refusal}

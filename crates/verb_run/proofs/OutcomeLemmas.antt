@@ -11,14 +11,14 @@ use Rattle.verb_command_line.specs.declared.fault.WordFault.{WordFault}
 use Rattle.verb_loading.specs.declared.faults.Made.{Made}
 use Rattle.base_files.specs.declared.desk.WriteStop.{WriteStop}
 use Rattle.base_files.specs.declared.desk.WriteStop.TheVariants as write_stop
-use Rattle.verb_run.specs.Delivered.{Stopped}
+use Rattle.verb_run.specs.RunEndings.{Stopped}
 use Rattle.verb_run.specs.Findings.{finished_as}
 use Rattle.verb_run.specs.Analyses.{ended_with}
 use Rattle.verb_run.specs.Tables.{ended_with_all}
 use Rattle.cut_report_laws.specs.ExtendedTraces.{Ending, complete, bounded}
 use Rattle.verb_loading.specs.Inputs.{RefusesModel, HoldsModel, RefusesFaults, HoldsExtension}
 use Rattle.verb_loading.specs.Cases.{Case, HoldsCase, IsWrongWord}
-use Rattle.verb_loading.specs.Loaded.{IsTopIn}
+use Rattle.verb_loading.specs.LoadedCases.{IsTopIn}
 use Rattle.verb_run.specs.Runs.{Outcome, rejects, refuses, extends, ComesTo, refuses_model, refuses_faults, is_extended, TraceComesTo, ReplayComesTo, refuses_its_model, refuses_its_faults, refuses_its_top, reads_its_trace, Means, asked, refuses_words, IsAnswer, IsDelivered, IsDeliveredInPart, Stands, StandsInPart, IsCarriedOut, IsLeftInPart, HasAnswered, HasStopped}
 use Rattle.verb_loading.specs.declared.status.InputFault.{InputFault}
 use Rattle.verb_loading.specs.declared.status.Refusal.{Refusal}
@@ -28,7 +28,7 @@ use Rattle.verb_loading.specs.declared.status.Status.TheVariants as status
 use Rattle.verb_loading.specs.declared.input.Stop.{Stop}
 use Rattle.verb_loading.specs.declared.input.Stop.TheVariants as stopped
 use Rattle.verb_loading.specs.Statuses.{status_of, refusal_text, words_text}
-use Rattle.verb_run.specs.Asked.{RefusesWords}
+use Rattle.verb_run.specs.Requests.{RefusesWords}
 
 module _ (model faults extended : Text) where
   -- the model is refused

@@ -7,19 +7,19 @@ use Rattle.smv_language.specs.Tree.{Tree}
 use Rattle.smv_language.specs.ProgramTree.{Text, Formula}
 use Rattle.smv_language.specs.Values.{Value}
 use Rattle.smv_language.specs.ModelTree.{flat_tree}
-use Rattle.smv_language.specs.Told.{told_trace}
+use Rattle.smv_language.specs.NumberedValues.{told_trace}
 use Rattle.smv_language.specs.Flat.{FlatLeaf, FlatModel}
 use Rattle.smv_flat_laws.specs.FlatTrace.{IsFlatTrace}
 use Rattle.smv_flat_laws.specs.History.{Mode, with_history}
 use Rattle.smv_flat_laws.proofs.HistoryLaws.{no_bits}
 use Rattle.sat_encoding_laws.specs.FlatTraces.{ReachesTop, HasFailedNumber}
-use Rattle.cut_text_laws.specs.Given.{GivesTrace}
+use Rattle.cut_text_laws.specs.TraceOfText.{GivesTrace}
 use Rattle.cut_text_laws.specs.Analysis.{Ending, complete, bounded, told_ending}
 use Rattle.cut_search.specs.declared.answer.End.{End}
 use Rattle.cut_search.specs.declared.answer.End.TheVariants.{Complete, Bounded}
-use Rattle.cut_report_laws.specs.Answered.{ending_of}
+use Rattle.cut_report_laws.specs.SearchAnswer.{ending_of}
 use Rattle.cert_laws.specs.Certificate.{Certificate}
-use Rattle.cert_laws.specs.Certified.{IsCertified}
+use Rattle.cert_laws.specs.Certification.{IsCertified}
 use Rattle.cert_laws.specs.Subject.{subject_of}
 use Rattle.cert_laws.proofs.Objections.{accepted_has_none}
 use Rattle.cert_file.specs.CertificateFiles.{HoldsCertificate}
@@ -35,11 +35,11 @@ use Rattle.verb_loading.specs.declared.status.Refusal.{Refusal}
 use Rattle.verb_loading.specs.declared.status.Status.{Status}
 use Rattle.verb_loading.specs.declared.status.Status.TheVariants as status
 use Rattle.verb_loading.specs.Statuses.{ended_with}
-use Rattle.verb_loading.specs.Answered.{Told, Said, told_maybe}
+use Rattle.verb_loading.specs.CaseAnswers.{Told, Said, told_maybe}
 use Rattle.verb_loading.specs.Cases.{Case, HoldsCase, IsTopWord}
 use Rattle.verb_loading.specs.Tasks.{IsTopTree}
 use Rattle.verb_loading.specs.LoadedEvents.{case_in}
-use Rattle.cut_model_search.specs.Found.{size_for, IsCertificateFor}
+use Rattle.cut_model_search.specs.CaseAnalysis.{size_for, IsCertificateFor}
 use Rattle.cut_model_search.specs.Searches.{HasCertificate}
 use Rattle.verb_causes.specs.declared.staged.StagedEvent.{StagedEvent}
 use Rattle.verb_causes.specs.Causes.{staged_in, events_in, HasCauses, causes_in, HoldsStaged, BreaksNoLine, HasFoundCauses}
@@ -51,7 +51,7 @@ use Rattle.verb_orders.proofs.OneRefusal.{certified_check}
 use Rattle.verb_run.specs.Analyses.{Certifies}
 use Rattle.verb_run.specs.Certificates.{subject_in, RefusesLine, at_line, CertRefuses, no_certificate, not_accepted, CheckRefuses, no_event, its_certificate}
 use Rattle.verb_run.specs.Runs.{Outcome, CheckComesTo, refuses_check, is_checked, RefusedOr, is_refused, is_done, CommandComesTo, Means, refuses_words, asked, IsDelivered, HasAnswered}
-use Rattle.verb_run.specs.Rechecked.{KeepsCertificate, IsAcceptedBy, AnalysesAreAccepted, CausesAreAccepted, OrdersAreAccepted}
+use Rattle.verb_run.specs.LaterChecks.{KeepsCertificate, IsAcceptedBy, AnalysesAreAccepted, CausesAreAccepted, OrdersAreAccepted}
 use Rattle.verb_run.proofs.ExtensionLemmas.{refused_not_asked}
 use Rattle.verb_run.proofs.OneEvent.{event_not_refused}
 

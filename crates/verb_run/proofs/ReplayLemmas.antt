@@ -11,16 +11,16 @@ use Rattle.smv_language.specs.ModelTree.{model_tree}
 use Rattle.smv_flat_laws.specs.FaultModes.{mode_of}
 use Rattle.smv_language.specs.Flat.{FlatLeaf, FlatModel}
 use Rattle.smv_flat_laws.specs.FlatTrace.{stands_in_some}
-use Rattle.smv_evaluation.specs.Replayed.{IsReaching}
+use Rattle.smv_evaluation.specs.Replay.{IsReaching}
 use Rattle.smv_evaluation.specs.Stops.{Stops}
 use Rattle.fault_extend.specs.WovenFaults.{fault_tree}
 use Rattle.fault_extend.specs.NumberedFaults.{AreNumbered}
-use Rattle.smv_language.specs.Told.{told_trace, told_moment}
+use Rattle.smv_language.specs.NumberedValues.{told_trace, told_moment}
 use Rattle.cut_report.specs.Faults.{IsFaultOf}
 use Rattle.cut_report.specs.declared.fault.TraceFault as read
 use Rattle.cut_report.specs.declared.fault.TraceFault.TheVariants as fault
-use Rattle.cut_text_laws.specs.Given.{BytesGive}
-use Rattle.cut_text_laws.specs.Wrong.{TraceFault, wrong_line, missing_value, bad_line, unknown_name, outside, twice, IsFirstFault}
+use Rattle.cut_text_laws.specs.TraceOfText.{BytesGive}
+use Rattle.cut_text_laws.specs.TraceFaults.{TraceFault, wrong_line, missing_value, bad_line, unknown_name, outside, twice, IsFirstFault}
 use Rattle.verb_loading.specs.declared.loaded.LoadedCase.{LoadedCase}
 use Rattle.verb_loading.specs.declared.status.InputFault.{InputFault}
 use Rattle.verb_loading.specs.declared.status.Why.{Why}
@@ -30,7 +30,7 @@ use Rattle.verb_loading.specs.declared.status.Refusal.TheVariants as refusal
 use Rattle.verb_loading.specs.declared.input.Stop.TheVariants as stop
 use Rattle.verb_loading.specs.Tasks.{IsRefusedAbove, HasAtMost}
 use Rattle.verb_run.specs.AnswerTexts.{replay_text}
-use Rattle.verb_loading.specs.Loaded.{case_of}
+use Rattle.verb_loading.specs.LoadedCases.{case_of}
 use Rattle.verb_run.specs.Replays.{text_fault, stop_at_text, RefusesTrace, trace_file, trace_bytes, HoldsTrace, reason_of, RefusesMoment, at_moment, names_where}
 use Rattle.verb_run.specs.Runs.{refuses, says, TraceComesTo, refuses_trace, refuses_moment, is_reached}
 use Rattle.verb_run.proofs.FailedLaws.{said_of_replay}

@@ -15,26 +15,26 @@ use Rattle.smv_language.specs.Flat.{FlatLeaf}
 use Rattle.smv_flat_laws.specs.FlatTrace.{IsFlatTrace, stands_in_some}
 use Rattle.smv_type_laws.specs.Laws.{values_by_number}
 use Rattle.smv_type_laws.proofs.TraceLaws.{traces_are}
-use Rattle.fault_weave.specs.Extended.{Moment, IsExtended, Reaches}
+use Rattle.fault_weave.specs.ExtensionTraces.{Moment, IsExtended, Reaches}
 use Rattle.fault_weave.proofs.WovenNominal.{woven_extends}
 use Rattle.cert_laws.specs.ExtendedTraces.{HasFailedFault, IsExtensionModel, IsFlatCut}
 use Rattle.cert_laws.proofs.Carried.{correspond, flat_traces_cut}
 use Rattle.fault_woven_laws.specs.Tops.{IsReadAs}
 use Rattle.fault_woven_laws.proofs.Meanings.{tops_of_extensions}
 use Rattle.fault_woven_laws.proofs.Resolving.{woven_resolves}
-use Rattle.smv_evaluation.specs.Replayed.{IsReaching}
+use Rattle.smv_evaluation.specs.Replay.{IsReaching}
 use Rattle.verb_command_line.specs.Commands.{replay}
 use Rattle.verb_command_line.proofs.ReadingLaws.{one_command}
 use Rattle.verb_loading.specs.declared.status.Refusal.TheVariants as refusal
 use Rattle.verb_loading.specs.declared.status.Status.{Status}
 use Rattle.verb_loading.specs.declared.status.Status.TheVariants as status
-use Rattle.verb_run.specs.Asked.{AsksToReplay}
+use Rattle.verb_run.specs.Requests.{AsksToReplay}
 use Rattle.verb_loading.specs.Cases.{Case, extension_of, HoldsCase, IsTopWord}
 use Rattle.verb_loading.specs.Tasks.{IsTopTree}
 use Rattle.verb_run.specs.AnswerTexts.{replay_text}
 use Rattle.verb_run.specs.Replays.{HoldsTrace}
 use Rattle.verb_run.specs.Runs.{Outcome, says, TraceComesTo, refuses_trace, refuses_moment, is_reached, ReplayComesTo, refuses_its_model, refuses_its_faults, refuses_its_top, reads_its_trace, CommandComesTo, Means, refuses_words, asked, IsAnswer, IsDelivered, HasAnswered}
-use Rattle.verb_run.specs.Replayed.{HoldsReaching, IsReplayed}
+use Rattle.verb_run.specs.ReplayFindings.{HoldsReaching, IsReplayed}
 use Rattle.verb_run.proofs.ExtensionLemmas.{never_done, refused_not_asked}
 use Rattle.verb_run.proofs.OneOutcome.{one_outcome}
 use Rattle.verb_loading.proofs.TopLaws.{have_models}

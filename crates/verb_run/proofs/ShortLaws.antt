@@ -13,7 +13,7 @@ use Rattle.cut_search.specs.Progress.{CodeFound}
 use Rattle.cut_search.specs.Answer.{IsEnd}
 use Rattle.cut_search.specs.declared.answer.End.{End}
 use Rattle.cut_search.specs.declared.answer.End.TheVariants.{Complete, Bounded}
-use Rattle.cut_report_laws.specs.Answered.{ending_of}
+use Rattle.cut_report_laws.specs.SearchAnswer.{ending_of}
 use Rattle.cut_report_laws.specs.ExtendedTraces.{Analysis}
 use Rattle.verb_command_line.specs.Commands.{Command, extend, replay, analyse, check, fmea, make, causes, check_causes, orders, check_orders, odds}
 use Rattle.verb_command_line.specs.Sets.{numbers_of}
@@ -22,14 +22,14 @@ use Rattle.verb_loading.specs.declared.status.Status.{Status}
 use Rattle.verb_loading.specs.declared.status.Status.TheVariants as status
 use Rattle.verb_loading.specs.declared.status.Refusal.TheVariants as refusal
 use Rattle.verb_loading.specs.Statuses.{ended_with, IsFinished}
-use Rattle.verb_loading.specs.Answered.{Told, Said, bits_of}
+use Rattle.verb_loading.specs.CaseAnswers.{Told, Said, bits_of}
 use Rattle.verb_loading.specs.Cases.{Case}
-use Rattle.cut_model_search.specs.Found.{EndsBy}
+use Rattle.cut_model_search.specs.CaseAnalysis.{EndsBy}
 use Rattle.verb_causes.specs.declared.staged.StagedEvent.{StagedEvent}
 use Rattle.verb_causes.specs.Causes.{staged_in, events_in, HasFoundCauses}
 use Rattle.verb_orders.specs.Orders.{Order, claimed, either, staged_of, EndsOrder, HasOrder}
 use Rattle.verb_odds.specs.Odds.{HasOdds}
-use Rattle.verb_run.specs.Short.{IsBelow, IsShort}
+use Rattle.verb_run.specs.BoundedAnswers.{IsBelow, IsShort}
 use Rattle.verb_run.specs.Tables.{ended_with_all, AreFound}
 use Rattle.verb_run.specs.Runs.{Outcome, ComesTo, refuses_model, refuses_faults, is_extended, TraceComesTo, refuses_trace, refuses_moment, is_reached, ReplayComesTo, refuses_its_model, refuses_its_faults, refuses_its_top, reads_its_trace, AnalysisComesTo, refuses_event, is_analysed, CheckComesTo, refuses_check, is_checked, TableComesTo, refuses_table, is_tabulated, MakeComesTo, is_made, CommandComesTo, IsAnswer, IsDelivered, HasAnswered}
 use Rattle.verb_run.proofs.TabulatedLaws.{never_finished}

@@ -8,7 +8,7 @@ use Rattle.cut_report_laws.specs.ExtendedTraces.{Analysis}
 use Rattle.verb_command_line.specs.declared.fault.WordFault.{WordFault}
 use Rattle.verb_command_line.specs.Commands.{Command}
 use Rattle.verb_command_line.specs.Meaning.{Means as WordsMean, BreaksFirst}
-use Rattle.verb_command_line.specs.Seen.{rule_of, place_of}
+use Rattle.verb_command_line.specs.CommandView.{rule_of, place_of}
 use Rattle.verb_command_line.proofs.ReadingLaws.{one_command, one_fault}
 use Rattle.verb_loading.specs.declared.status.Refusal.{Refusal}
 use Rattle.verb_loading.specs.declared.status.Refusal.TheVariants as refusal
@@ -17,14 +17,14 @@ use Rattle.verb_loading.specs.declared.status.Status.TheVariants as status
 use Rattle.verb_loading.specs.declared.input.Stop.{Stop}
 use Rattle.verb_loading.specs.declared.input.Stop.TheVariants as stopped
 use Rattle.verb_loading.specs.Statuses.{status_of, ended_with, IsFinished, IsBoundedAt, IsAnswer}
-use Rattle.verb_loading.specs.Answered.{Told, Said}
+use Rattle.verb_loading.specs.CaseAnswers.{Told, Said}
 use Rattle.verb_loading.specs.Cases.{Case}
-use Rattle.cut_model_search.specs.Found.{EndsBy}
-use Rattle.verb_run.specs.Asked.{depth_of, RefusesWords}
-use Rattle.verb_run.specs.Delivered.{Stopped, Concluded}
+use Rattle.cut_model_search.specs.CaseAnalysis.{EndsBy}
+use Rattle.verb_run.specs.Requests.{depth_of, RefusesWords}
+use Rattle.verb_run.specs.RunEndings.{Stopped, Concluded}
 use Rattle.verb_run.specs.Findings.{finished_as}
 use Rattle.verb_run.specs.Tables.{ended_with_all, AreFound}
-use Rattle.verb_run.specs.Short.{IsOfCommand}
+use Rattle.verb_run.specs.BoundedAnswers.{IsOfCommand}
 use Rattle.verb_run.proofs.OutcomeLemmas.{no_answer}
 
 module _ (c : Command) where

@@ -11,7 +11,7 @@ use Rattle.verb_loading.specs.declared.status.Refusal.TheVariants as refusal
 use Rattle.verb_loading.specs.declared.status.Status.{Status}
 use Rattle.verb_loading.specs.declared.status.Status.TheVariants as status
 use Rattle.verb_loading.specs.Statuses.{status_of}
-use Rattle.verb_run.specs.Asked.{AsksToTabulate}
+use Rattle.verb_run.specs.Requests.{AsksToTabulate}
 use Rattle.verb_loading.specs.Cases.{HoldsCase, HoldsTops}
 use Rattle.verb_run.specs.Tables.{RefusesTable, IsTabulated, tabulated_case, tabulated_events}
 use Rattle.verb_run.specs.Runs.{Outcome, refuses, tabulates, TableComesTo, refuses_table, is_tabulated, CommandComesTo, Means, refuses_words, asked, IsAnswer, IsFinished, IsDelivered, HasAnswered}

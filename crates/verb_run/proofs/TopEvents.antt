@@ -13,8 +13,8 @@ use Rattle.cut_search_laws.proofs.Fitting.{few_faults}
 use Rattle.cut_search.specs.Answer.{IsAnswer}
 use Rattle.cut_search.specs.declared.answer.Analysis.{Analysis as Searched}
 use Rattle.cut_report_laws.proofs.Searchables.{extensions_searchable}
-use Rattle.cut_report_laws.specs.Answered as found
-use Rattle.cut_report_laws.specs.Answered.{ending_of, analysis_of}
+use Rattle.cut_report_laws.specs.SearchAnswer as found
+use Rattle.cut_report_laws.specs.SearchAnswer.{ending_of, analysis_of}
 use Rattle.cut_report_laws.proofs.Analyses.{answers_are_analyses}
 use Rattle.fault_extend.specs.WovenFaults.{fault_tree}
 use Rattle.cert_laws.specs.ExtendedTraces.{IsExtensionModel}
@@ -24,8 +24,8 @@ use Rattle.fault_woven_laws.proofs.Meanings.{tops_of_extensions}
 use Rattle.cut_report_laws.specs.ExtendedTraces.{Ending, complete, bounded}
 use Rattle.verb_loading.specs.declared.loaded.LoadedCase.{LoadedCase}
 use Rattle.verb_loading.specs.Cases.{Case, whole_of}
-use Rattle.verb_loading.specs.Loaded.{case_of}
-use Rattle.cut_model_search.specs.Found.{EndsBy, IsFound}
+use Rattle.verb_loading.specs.LoadedCases.{case_of}
+use Rattle.cut_model_search.specs.CaseAnalysis.{EndsBy, IsFound}
 use Rattle.verb_run.specs.Tables.{IsExtensible, IsEventOf}
 use Rattle.verb_loading.proofs.FlatLimits.{flat_typed}
 use Rattle.verb_loading.proofs.LoadedLaws.{same_counts}

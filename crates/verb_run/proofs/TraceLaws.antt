@@ -4,8 +4,8 @@ use Rattle.std.proofs.lemmas.List.{length-append}
 use Rattle.base_values.specs.declared.value.Value.{Value}
 use Rattle.smv_language.specs.Flat.{FlatModel}
 use Rattle.cut_text_laws.specs.Lines.{Line, fed}
-use Rattle.smv_language.specs.Told.{told_trace}
-use Rattle.cut_text_laws.specs.Given.{IsPrintable, BytesGive}
+use Rattle.smv_language.specs.NumberedValues.{told_trace}
+use Rattle.cut_text_laws.specs.TraceOfText.{IsPrintable, BytesGive}
 use Rattle.cert_check.proofs.TraceLaws.{all_lawful, few_moments, some_moments}
 use Rattle.cert_check.specs.Moments.{CanBeReplayed}
 

@@ -10,7 +10,7 @@ use Rattle.cut_report_laws.specs.ExtendedTraces.{Ending, complete, bounded, Anal
 use Rattle.cut_report_laws.specs.AnalysisText.{size_line}
 use Rattle.verb_loading.specs.Reports.{name_text}
 use Rattle.verb_loading.specs.Cases.{Case, extension_of}
-use Rattle.verb_loading.specs.Answered.{bits_of}
+use Rattle.verb_loading.specs.CaseAnswers.{bits_of}
 
 -- the name of a fault, where there is one
 abbrev pub name_or_none : Option Fault → Text

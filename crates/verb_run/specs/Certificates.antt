@@ -8,14 +8,14 @@ use Rattle.smv_language.specs.Values.{Value}
 use Rattle.smv_language.specs.Flat.{FlatLeaf}
 use Rattle.smv_flat_laws.specs.FlatTrace.{IsFlatTrace}
 use Rattle.sat_encoding_laws.specs.FlatTraces.{ReachesTop, HasFailedNumber}
-use Rattle.fault_weave.specs.Extended.{Moment, IsExtended, Reaches}
+use Rattle.fault_weave.specs.ExtensionTraces.{Moment, IsExtended, Reaches}
 use Rattle.cut_right_laws.specs.Laws.{AreBoth}
 use Rattle.cut_right_laws.specs.Right.{HasAtMost as HasFew, IsMinimalCutSet, IsListed}
 use Rattle.cert_laws.specs.ExtendedTraces.{HasFailedFault, IsRightExtended}
-use Rattle.cut_text_laws.specs.Given.{GivesTrace}
+use Rattle.cut_text_laws.specs.TraceOfText.{GivesTrace}
 use Rattle.cert_laws.specs.Certificate.{Certificate}
-use Rattle.cert_laws.specs.Accepted.{Subject, Rule, number_of, IsObjection}
-use Rattle.cert_laws.specs.Certified.{IsSubjectOf, IsCertified}
+use Rattle.cert_laws.specs.Acceptance.{Subject, Rule, number_of, IsObjection}
+use Rattle.cert_laws.specs.Certification.{IsSubjectOf, IsCertified}
 use Rattle.cert_laws.specs.Completeness.{GivesExtended}
 use Rattle.cert_laws.specs.Subject.{subject_of}
 use Rattle.verb_loading.specs.declared.event.LoadedEvent.{LoadedEvent}
@@ -24,7 +24,7 @@ use Rattle.verb_loading.specs.declared.status.Refusal.{Refusal}
 use Rattle.verb_loading.specs.declared.status.Refusal.TheVariants as refusal
 use Rattle.verb_loading.specs.Cases.{Case, whole_of, HoldsCase, IsTopWord}
 use Rattle.verb_loading.specs.Tasks.{IsTopTree}
-use Rattle.verb_loading.specs.Answered.{Said}
+use Rattle.verb_loading.specs.CaseAnswers.{Said}
 use Rattle.verb_run.specs.AnswerTexts.{check_text}
 use Rattle.verb_loading.specs.Events.{RefusesEvent}
 use Rattle.verb_loading.specs.LoadedEvents.{IsEvent}
@@ -37,7 +37,8 @@ subject_in c tree = subject_of (whole_of c) c.flat c.modes tree
 -- the certificate breaks a rule: the first line where one is broken, and the first rule there, are told
 pub data RefusesLine (c : Case) (tree : Tree FlatLeaf) (a : Certificate) (r : Refusal) : Type 0 where
   at_line : (line : ℕ) (rule : Rule) → r ≡ refusal.NotAccepted (objection.Line line (number_of rule)) →
-      IsObjection (List (List Value)) (GivesTrace c.flat) (IsFlatTrace c.flat) (ReachesTop c.flat tree) (HasFailedNumber c.flat c.modes) (subject_in c tree) a line rule → RefusesLine c tree a r
+      IsObjection (List (List Value)) (GivesTrace c.flat) (IsFlatTrace c.flat) (ReachesTop c.flat tree) (HasFailedNumber c.flat c.modes)
+      (subject_in c tree) a line rule → RefusesLine c tree a r
 
 -- It is accepted, and the clause lists are those of the case: they encode the flat model with history, and its bad states.
 pub record IsAcceptedFor (c : Case) (tree : Tree FlatLeaf) (a : Certificate) : Type 0 where
@@ -60,7 +61,8 @@ pub record CertSays (files : List NamedFile) (c : Case) (tree : Tree FlatLeaf) (
 -- refused, or these hold and the certificate is,
 pub data CheckRefuses (files : List NamedFile) (model faults top cert : Text) (r : Refusal) : Type 0 where
   no_event : RefusesEvent files model faults top r → CheckRefuses files model faults top cert r
-  its_certificate : (c : Case) (e : Formula) (tree : Tree FlatLeaf) → HoldsCase files model faults c → IsTopWord c.program top e → IsTopTree c e tree → CertRefuses files c tree cert r →
+  its_certificate : (c : Case) (e : Formula) (tree : Tree FlatLeaf) → HoldsCase files model faults c → IsTopWord c.program top e →
+      IsTopTree c e tree → CertRefuses files c tree cert r →
       CheckRefuses files model faults top cert r
 
 -- or the certificate is accepted.
@@ -83,12 +85,15 @@ pub record IsChecked (files : List NamedFile) (said now : Said) (model faults to
   pub is_event : IsTopWord c.program top event
   pub certificate : Certificate
   pub has_certificate : HoldsCertificate files cert certificate
-  pub gives : (traces : List (List Moment)) × AreBoth (GivesExtended (GivesTrace c.flat) c.program c.instructions c.flat) certificate.traces traces
-  pub right : (traces : List (List Moment)) → AreBoth (GivesExtended (GivesTrace c.flat) c.program c.instructions c.flat) certificate.traces traces →
+  pub gives : (traces : List (List Moment))
+      × AreBoth (GivesExtended (GivesTrace c.flat) c.program c.instructions c.flat) certificate.traces traces
+  pub right : (traces : List (List Moment)) →
+      AreBoth (GivesExtended (GivesTrace c.flat) c.program c.instructions c.flat) certificate.traces traces →
       IsRightExtended c.program c.instructions c.faults event certificate.size (IsExtended c.program c.instructions) certificate.sets traces
   pub minimal : (set : List ℕ) →
       (IsListed (List Moment) (IsExtended c.program c.instructions) (Reaches c.program event) (HasFailedFault c.faults) certificate.sets set
-      ↔ (IsMinimalCutSet (List Moment) (IsExtended c.program c.instructions) (Reaches c.program event) (HasFailedFault c.faults) set × HasFew certificate.size set))
+      ↔ (IsMinimalCutSet (List Moment) (IsExtended c.program c.instructions) (Reaches c.program event) (HasFailedFault c.faults) set
+      × HasFew certificate.size set))
   pub has_said : now ≡ said_more said (check_text c certificate.size)
 
 -- the event in memory is one that some word spells

@@ -10,7 +10,7 @@ use Rattle.fault_instructions.specs.SpellsInstructions.{BytesSpellInstructions}
 use Rattle.fault_weave.specs.Conservative.{IsExtensionOf}
 use Rattle.fault_weave.specs.Faults.{Fault, HasFaults}
 use Rattle.fault_instructions.specs.Weavable.{IsWeavable}
-use Rattle.fault_weave.specs.Woven.{woven}
+use Rattle.fault_weave.specs.WovenProgram.{woven}
 use Rattle.verb_loading.specs.Reports.{report_text}
 
 -- The file that is written spells the program, and no other, that the weave makes of the program that the model's bytes at

@@ -10,7 +10,7 @@ use Rattle.verb_run.specs.declared.analysis.Analysing.{Analysing}
 use Rattle.verb_loading.specs.declared.status.Status.{Status}
 use Rattle.verb_loading.specs.declared.status.Status.TheVariants as status
 use Rattle.verb_loading.specs.Cases.{Case, IsTopWord}
-use Rattle.cut_model_search.specs.Found.{size_for, IsFound}
+use Rattle.cut_model_search.specs.CaseAnalysis.{size_for, IsFound}
 use Rattle.verb_run.specs.Analyses.{Certifies, report_of}
 use Rattle.verb_loading.specs.LoadedEvents.{case_in}
 

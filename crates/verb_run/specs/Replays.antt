@@ -8,8 +8,8 @@ use Rattle.base_values.specs.declared.value.Value.{Value as Numbered}
 use Rattle.smv_language.specs.Flat.{FlatLeaf, FlatModel}
 use Rattle.smv_flat_laws.specs.History.{Mode}
 use Rattle.smv_evaluation.specs.Stops as stops
-use Rattle.cut_text_laws.specs.Given.{BytesGive}
-use Rattle.cut_text_laws.specs.Wrong.{TraceFault, wrong_line, missing_value, number_of, IsFirstFault}
+use Rattle.cut_text_laws.specs.TraceOfText.{BytesGive}
+use Rattle.cut_text_laws.specs.TraceFaults.{TraceFault, wrong_line, missing_value, number_of, IsFirstFault}
 use Rattle.cut_report.specs.declared.fault.TraceFault as read
 use Rattle.cut_report.specs.declared.fault.TraceFault.TheVariants as fault
 use Rattle.fault_weave.specs.Faults.{Fault}
@@ -31,7 +31,7 @@ use Rattle.smv_flat_laws.specs.FaultModes.{mode_of}
 use Rattle.smv_flat_laws.specs.FlatTrace.{stands_in_some}
 use Rattle.fault_extend.specs.declared.faults.WovenFault.{WovenFault}
 use Rattle.fault_extend.specs.WovenFaults.{fault_tree}
-use Rattle.smv_language.specs.Told.{told_trace}
+use Rattle.smv_language.specs.NumberedValues.{told_trace}
 
 -- what is wrong first with the text of a trace, as it is told: its number, and the line from 1, or the moment from 0
 abbrev pub text_fault : TraceFault → InputFault
@@ -40,8 +40,10 @@ text_fault (missing_value k) = record { part = part.Read; number = 4; place = k 
 
 -- the file of a trace is refused, or its text
 pub data RefusesTrace (files : List NamedFile) (name : Text) (m : FlatModel) (r : Refusal) : Type 0 where
-  trace_file : (fault : InputFault) → r ≡ refusal.NotAccepted (objection.Trace fault) → IsRefusedAbove 16777216 files name fault → RefusesTrace files name m r
-  trace_bytes : (bytes : List ℕ) (f : TraceFault) → r ≡ refusal.NotAccepted (objection.Trace (text_fault f)) → HasAtMost 16777216 files name bytes → IsFirstFault m bytes f →
+  trace_file : (fault : InputFault) → r ≡ refusal.NotAccepted (objection.Trace fault) → IsRefusedAbove 16777216 files name fault →
+      RefusesTrace files name m r
+  trace_bytes : (bytes : List ℕ) (f : TraceFault) → r ≡ refusal.NotAccepted (objection.Trace (text_fault f)) →
+      HasAtMost 16777216 files name bytes → IsFirstFault m bytes f →
       RefusesTrace files name m r
 
 -- the file holds a text that gives this trace
@@ -71,7 +73,8 @@ reason_of why.Top = stops.at_top
 
 -- the moment of a number is the first that stops the trace from reaching the event
 pub data RefusesMoment (m : FlatModel) (top : Tree FlatLeaf) (trace : List (List Value)) (r : Refusal) : Type 0 where
-  at_moment : (i : ℕ) (w : Why) → r ≡ refusal.NotAccepted (objection.Moment i w) → stops.Stops m top trace i (reason_of w) → RefusesMoment m top trace r
+  at_moment : (i : ℕ) (w : Why) → r ≡ refusal.NotAccepted (objection.Moment i w) → stops.Stops m top trace i (reason_of w) →
+      RefusesMoment m top trace r
 
 -- the names of the faults whose modes pass the test, each after a space
 abbrev pub names_where : (Mode → Bool) → List Fault → List Mode → Text
@@ -82,4 +85,5 @@ names_where test (f ∷ faults) (mode ∷ modes) =
 
 -- the names of the faults that a trace of a model in memory has failed, each after a space
 abbrev pub failed_in : Model → List WovenFault → List Numbering → List (List Numbered) → Text
-failed_in m woven faults trace = names_where (λ f. stands_in_some (model_tree m) f (told_trace m.symbols trace)) (map fault_tree woven) (map mode_of faults)
+failed_in m woven faults trace =
+    names_where (λ f. stands_in_some (model_tree m) f (told_trace m.symbols trace)) (map fault_tree woven) (map mode_of faults)

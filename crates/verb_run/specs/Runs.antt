@@ -6,8 +6,9 @@ use Rattle.smv_language.specs.ProgramTree.{Text, Formula, ProgramTree}
 use Rattle.smv_language.specs.Tree.{Tree}
 use Rattle.smv_language.specs.Values.{Value}
 use Rattle.smv_language.specs.Flat.{FlatLeaf}
-use Rattle.smv_evaluation.specs.Replayed.{IsReaching}
-use Rattle.verb_command_line.specs.Commands.{Command, extend, replay, analyse, check, fmea, make, causes, check_causes, orders, check_orders, odds}
+use Rattle.smv_evaluation.specs.Replay.{IsReaching}
+use Rattle.verb_command_line.specs.Commands.{Command, extend, replay, analyse, check, fmea, make, causes, check_causes, orders}
+use Rattle.verb_command_line.specs.Commands.{check_orders, odds}
 use Rattle.verb_command_line.specs.Sets.{numbers_of}
 use Rattle.verb_command_line.specs.Meaning.{Means as WordsMean}
 use Rattle.verb_command_line.specs.declared.fault.WordFault.{WordFault}
@@ -18,18 +19,18 @@ use Rattle.verb_loading.specs.declared.status.Status.TheVariants as status
 use Rattle.verb_loading.specs.declared.status.InputFault.{InputFault}
 pub use Rattle.verb_loading.specs.Statuses.{IsAnswer, IsFinished}
 use Rattle.verb_loading.specs.Statuses.{status_of, refusal_text, words_text}
-use Rattle.verb_run.specs.Asked.{RefusesWords}
+use Rattle.verb_run.specs.Requests.{RefusesWords}
 use Rattle.verb_loading.specs.Inputs.{RefusesModel, HoldsModel, RefusesFaults, HoldsFaults}
 use Rattle.verb_loading.specs.Cases.{Case, HoldsCase, HoldsTops, IsTopWord, IsWrongWord}
 use Rattle.verb_loading.specs.Tasks.{IsTopTree}
-use Rattle.verb_loading.specs.Answered.{Told, Said}
+use Rattle.verb_loading.specs.CaseAnswers.{Told, Said}
 use Rattle.verb_run.specs.AnswerTexts.{replay_text}
 use Rattle.verb_loading.specs.Events.{RefusesEvent}
-use Rattle.cut_model_search.specs.Found.{size_for}
+use Rattle.cut_model_search.specs.CaseAnalysis.{size_for}
 use Rattle.verb_run.specs.Analyses.{HasAnalysed, AnalysesInPart}
 use Rattle.verb_run.specs.Certificates.{CheckRefuses, CheckSays}
 use Rattle.verb_run.specs.Tables.{RefusesTable, HasTabulated, TabulatesInPart}
-use Rattle.verb_run.specs.Made.{IsGenerated, HasMade, MakesInPart}
+use Rattle.verb_run.specs.GeneratedCase.{IsGenerated, HasMade, MakesInPart}
 use Rattle.verb_run.specs.Replays.{RefusesTrace, HoldsTrace, RefusesMoment}
 use Rattle.verb_causes.specs.Causes.{AcceptsCauses, HasFoundCauses, FindsCausesInPart, HasCheckedCauses, ChecksCausesInPart}
 use Rattle.verb_causes.specs.Refusals.{RefusesStaged, HoldsCaused, RefusesCauseCheck}
@@ -58,7 +59,8 @@ pub data Outcome : Type 0 where
 -- what the two files come to, with the file for the extension, in the order of the work
 pub data ComesTo (files : List NamedFile) (model faults extended : Text) : Outcome → Type 0 where
   refuses_model : (r : Refusal) → RefusesModel files model r → ComesTo files model faults extended (refuses r)
-  refuses_faults : (p : ProgramTree) (r : Refusal) → HoldsModel files model p → RefusesFaults files faults p r → ComesTo files model faults extended (refuses r)
+  refuses_faults : (p : ProgramTree) (r : Refusal) → HoldsModel files model p → RefusesFaults files faults p r →
+      ComesTo files model faults extended (refuses r)
   is_extended : (p : ProgramTree) (text report : Text) → HoldsModel files model p → HoldsFaults files faults p text report →
       ComesTo files model faults extended (extends extended text report)
 
@@ -66,20 +68,27 @@ pub data ComesTo (files : List NamedFile) (model faults extended : Text) : Outco
 -- no trace that reaches the event, or they are one, and the names of the faults that it has failed are said
 pub data TraceComesTo (files : List NamedFile) (c : Case) (tree : Tree FlatLeaf) (trace : Text) : Outcome → Type 0 where
   refuses_trace : (r : Refusal) → RefusesTrace files trace c.flat r → TraceComesTo files c tree trace (refuses r)
-  refuses_moment : (moments : List (List Value)) (r : Refusal) → HoldsTrace files trace c.flat moments → RefusesMoment c.flat tree moments r → TraceComesTo files c tree trace (refuses r)
-  is_reached : (moments : List (List Value)) → HoldsTrace files trace c.flat moments → IsReaching c.flat tree moments → TraceComesTo files c tree trace (says (replay_text c moments))
+  refuses_moment : (moments : List (List Value)) (r : Refusal) → HoldsTrace files trace c.flat moments →
+      RefusesMoment c.flat tree moments r → TraceComesTo files c tree trace (refuses r)
+  is_reached : (moments : List (List Value)) → HoldsTrace files trace c.flat moments → IsReaching c.flat tree moments →
+      TraceComesTo files c tree trace (says (replay_text c moments))
 
 -- what the files and the word of a replay come to, in the order of the work
 pub data ReplayComesTo (files : List NamedFile) (model faults trace top : Text) : Outcome → Type 0 where
   refuses_its_model : (r : Refusal) → RefusesModel files model r → ReplayComesTo files model faults trace top (refuses r)
-  refuses_its_faults : (p : ProgramTree) (r : Refusal) → HoldsModel files model p → RefusesFaults files faults p r → ReplayComesTo files model faults trace top (refuses r)
-  refuses_its_top : (c : Case) (fault : InputFault) → HoldsCase files model faults c → IsWrongWord c.program top fault → ReplayComesTo files model faults trace top (refuses (refusal.Top fault))
-  reads_its_trace : (c : Case) (e : Formula) (tree : Tree FlatLeaf) (o : Outcome) → HoldsCase files model faults c → IsTopWord c.program top e → IsTopTree c e tree →
+  refuses_its_faults : (p : ProgramTree) (r : Refusal) → HoldsModel files model p → RefusesFaults files faults p r →
+      ReplayComesTo files model faults trace top (refuses r)
+  refuses_its_top : (c : Case) (fault : InputFault) → HoldsCase files model faults c → IsWrongWord c.program top fault →
+      ReplayComesTo files model faults trace top (refuses (refusal.Top fault))
+  reads_its_trace : (c : Case) (e : Formula) (tree : Tree FlatLeaf) (o : Outcome) → HoldsCase files model faults c →
+      IsTopWord c.program top e → IsTopTree c e tree →
       TraceComesTo files c tree trace o → ReplayComesTo files model faults trace top o
 
 -- what the files and the word of an analysis come to
-pub data AnalysisComesTo (files : List NamedFile) (model faults top : Text) (depth : ℕ) (extended cert : Text) (size : Option ℕ) : Outcome → Type 0 where
-  refuses_event : (r : Refusal) → RefusesEvent files model faults top r → AnalysisComesTo files model faults top depth extended cert size (refuses r)
+pub data AnalysisComesTo (files : List NamedFile) (model faults top : Text) (depth : ℕ) (extended cert : Text)
+    (size : Option ℕ) : Outcome → Type 0 where
+  refuses_event : (r : Refusal) → RefusesEvent files model faults top r →
+      AnalysisComesTo files model faults top depth extended cert size (refuses r)
   is_analysed : (c : Case) (e : Formula) → HoldsCase files model faults c → IsTopWord c.program top e →
       AnalysisComesTo files model faults top depth extended cert size (analyses c top depth (size_for size (length c.faults)) extended cert)
 
@@ -107,21 +116,27 @@ pub data RefusedOr (Refuses : Refusal → Type 0) (Holds : Type 0) (work : Outco
 abbrev pub CommandComesTo : List NamedFile → Command → Outcome → Type 0
 CommandComesTo files (extend model faults extended) o = ComesTo files model faults extended o
 CommandComesTo files (replay model faults trace top) o = ReplayComesTo files model faults trace top o
-CommandComesTo files (analyse model faults top depth extended cert size) o = AnalysisComesTo files model faults top depth extended cert size o
+CommandComesTo files (analyse model faults top depth extended cert size) o =
+    AnalysisComesTo files model faults top depth extended cert size o
 CommandComesTo files (check model faults top cert) o = CheckComesTo files model faults top cert o
 CommandComesTo files (fmea model faults tops size depth) o = TableComesTo files model faults tops size depth o
 CommandComesTo files (make number stages depth model faults) o = MakeComesTo number stages depth model faults o
 CommandComesTo files (causes model faults file top depth cert) o =
-    RefusedOr (RefusesStaged files model faults file top) (HoldsCaused files model faults file top) (finds_causes files model faults file top depth cert) o
+    RefusedOr (RefusesStaged files model faults file top) (HoldsCaused files model faults file top)
+    (finds_causes files model faults file top depth cert) o
 CommandComesTo files (check_causes model faults file top cert) o =
-    RefusedOr (RefusesCauseCheck files model faults file top cert) ((report : Text) × AcceptsCauses files model faults file top cert report) (accepts_causes files model faults file top cert) o
+    RefusedOr (RefusesCauseCheck files model faults file top cert) ((report : Text)
+    × AcceptsCauses files model faults file top cert report) (accepts_causes files model faults file top cert) o
 CommandComesTo files (orders model faults top set first second depth cert) o =
-    RefusedOr (RefusesPair files model faults top (numbers_of set) first second) (HoldsPairEvent files model faults top (numbers_of set) first second)
+    RefusedOr (RefusesPair files model faults top (numbers_of set) first second)
+    (HoldsPairEvent files model faults top (numbers_of set) first second)
     (finds_order files model faults top (numbers_of set) first second depth cert) o
 CommandComesTo files (check_orders model faults top set first second claim cert) o =
-    RefusedOr (RefusesCheck files model faults top (numbers_of set) first second claim cert) (AcceptsOrder files model faults top (numbers_of set) first second claim cert)
+    RefusedOr (RefusesCheck files model faults top (numbers_of set) first second claim cert)
+    (AcceptsOrder files model faults top (numbers_of set) first second claim cert)
     (accepts_order files model faults top (numbers_of set) first second claim cert) o
-CommandComesTo files (odds model faults top depth) o = RefusedOr (RefusesOdds files model faults top) (HoldsMarked files model faults top) (finds_odds files model faults top depth) o
+CommandComesTo files (odds model faults top depth) o =
+    RefusedOr (RefusesOdds files model faults top) (HoldsMarked files model faults top) (finds_odds files model faults top depth) o
 
 -- what a run over these files with these words comes to
 pub data Means (files : List NamedFile) (words : List Text) : Outcome → Type 0 where
@@ -135,19 +150,24 @@ pub data Means (files : List NamedFile) (words : List Text) : Outcome → Type 0
 abbrev pub IsDelivered : Outcome → Status → Told → Told → Said → Said → Type 0
 IsDelivered (rejects f) ended before after said now = (ended ≡ status.Words f) × (after ≡ before) × (now ≡ said_more said (words_text f))
 IsDelivered (refuses r) ended before after said now = (ended ≡ status_of r) × (after ≡ before) × (now ≡ said_more said (refusal_text r))
-IsDelivered (extends file text report) ended before after said now = (ended ≡ status.Done) × (after ≡ told_with before file text) × (now ≡ said_more said report)
+IsDelivered (extends file text report) ended before after said now = (ended ≡ status.Done) × (after ≡ told_with before file text)
+    × (now ≡ said_more said report)
 IsDelivered (says report) ended before after said now = (ended ≡ status.Done) × (after ≡ before) × (now ≡ said_more said report)
-IsDelivered (analyses c word depth size extended cert) ended before after said now = HasAnalysed c word depth size extended cert ended before after said now
+IsDelivered (analyses c word depth size extended cert) ended before after said now =
+    HasAnalysed c word depth size extended cert ended before after said now
 IsDelivered (tabulates c events size depth) ended before after said now = HasTabulated c events size depth ended before after said now
-IsDelivered (makes c stages depth model faults) ended before after said now = HasMade c stages depth model faults ended before after said now
-IsDelivered (finds_causes files model faults file top depth cert) ended before after said now = HasFoundCauses files model faults file top cert depth ended before after said now
+IsDelivered (makes c stages depth model faults) ended before after said now =
+    HasMade c stages depth model faults ended before after said now
+IsDelivered (finds_causes files model faults file top depth cert) ended before after said now =
+    HasFoundCauses files model faults file top cert depth ended before after said now
 IsDelivered (accepts_causes files model faults file top cert) ended before after said now =
     (ended ≡ status.Done) × (after ≡ before) × HasCheckedCauses files model faults file top cert said now
 IsDelivered (finds_order files model faults top set first second depth cert) ended before after said now =
     HasOrder files model faults top set first second depth cert ended before after said now
 IsDelivered (accepts_order files model faults top set first second claim cert) ended before after said now =
     (ended ≡ status.Done) × (after ≡ before) × HasCheckedOrder files model faults top set first second claim cert ended said now
-IsDelivered (finds_odds files model faults top depth) ended before after said now = (after ≡ before) × HasOdds files model faults top depth ended said now
+IsDelivered (finds_odds files model faults top depth) ended before after said now = (after ≡ before)
+    × HasOdds files model faults top depth ended said now
 
 -- A part of the outcome stands: at most a prefix of what would be written and said. Nothing of a report is said before each file is
 -- whole.
@@ -157,16 +177,20 @@ IsDeliveredInPart (refuses r) before after said now = (after ≡ before) × Says
 IsDeliveredInPart (extends file text report) before after said now =
     (WritesPrefix before after file text × (now ≡ said)) ⊎ ((after ≡ told_with before file text) × SaysPrefix said now report)
 IsDeliveredInPart (says report) before after said now = (after ≡ before) × SaysPrefix said now report
-IsDeliveredInPart (analyses c word depth size extended cert) before after said now = AnalysesInPart c word depth size extended cert before after said now
+IsDeliveredInPart (analyses c word depth size extended cert) before after said now =
+    AnalysesInPart c word depth size extended cert before after said now
 IsDeliveredInPart (tabulates c events size depth) before after said now = TabulatesInPart c events size depth before after said now
 IsDeliveredInPart (makes c stages depth model faults) before after said now = MakesInPart c stages depth model faults before after said now
-IsDeliveredInPart (finds_causes files model faults file top depth cert) before after said now = FindsCausesInPart files model faults file top cert depth before after said now
-IsDeliveredInPart (accepts_causes files model faults file top cert) before after said now = (after ≡ before) × ChecksCausesInPart files model faults file top cert said now
+IsDeliveredInPart (finds_causes files model faults file top depth cert) before after said now =
+    FindsCausesInPart files model faults file top cert depth before after said now
+IsDeliveredInPart (accepts_causes files model faults file top cert) before after said now = (after ≡ before)
+    × ChecksCausesInPart files model faults file top cert said now
 IsDeliveredInPart (finds_order files model faults top set first second depth cert) before after said now =
     OrdersInPart files model faults top set first second depth cert before after said now
 IsDeliveredInPart (accepts_order files model faults top set first second claim cert) before after said now =
     (after ≡ before) × AcceptsOrder files model faults top set first second claim cert × SaysPrefix said now (codes "accepted\n")
-IsDeliveredInPart (finds_odds files model faults top depth) before after said now = (after ≡ before) × SaysOddsInPart files model faults top depth said now
+IsDeliveredInPart (finds_odds files model faults top depth) before after said now = (after ≡ before)
+    × SaysOddsInPart files model faults top depth said now
 
 -- what stands is the whole of an outcome that something comes to
 pub record Stands (Comes : Outcome → Type 0) (answer : Status) (before after : Told) (said now : Said) : Type 0 where
@@ -190,8 +214,10 @@ HasStopped files words before after said now = StandsInPart (Means files words) 
 
 -- a command was carried out, over the files as they were: where there is an answer, the whole outcome stands
 abbrev pub IsCarriedOut : Command → Status → Told → Told → Said → Said → Type 0
-IsCarriedOut command answer before after said now = IsAnswer answer → IfSome before (λ files. Stands (CommandComesTo files command) answer before after said now)
+IsCarriedOut command answer before after said now = IsAnswer answer →
+    IfSome before (λ files. Stands (CommandComesTo files command) answer before after said now)
 
 -- and however it ended, nothing was done, or a part of the outcome stands
 abbrev pub IsLeftInPart : Command → Told → Told → Said → Said → Type 0
-IsLeftInPart command before after said now = ((after ≡ before) × (now ≡ said)) ⊎ IfSome before (λ files. StandsInPart (CommandComesTo files command) before after said now)
+IsLeftInPart command before after said now = ((after ≡ before) × (now ≡ said))
+    ⊎ IfSome before (λ files. StandsInPart (CommandComesTo files command) before after said now)

@@ -5,11 +5,11 @@ use Rattle.base_files.specs.declared.files.NamedFile.{NamedFile}
 use Rattle.base_files.specs.Desk.{said_more, SaysPrefix}
 use Rattle.smv_language.specs.Tree.{Tree}
 use Rattle.smv_language.specs.ProgramTree.{Text, Formula, ProgramTree, program_tree}
-use Rattle.smv_language.specs.Written.{tree_of}
+use Rattle.smv_language.specs.ExpressionTree.{tree_of}
 use Rattle.smv_expression_reader.specs.declared.fault.ParseFault.{ParseFault}
 use Rattle.smv_expression_reader.specs.Stops.{FaultMeans}
 use Rattle.smv_expression_reader.specs.Lists.{IsExpressions, BytesSpellExpressions}
-use Rattle.smv_expression_reader.specs.Within.{HaveDepths, AreTooDeep}
+use Rattle.smv_expression_reader.specs.ExpressionDepths.{HaveDepths, AreTooDeep}
 use Rattle.smv_language.specs.Flat.{FlatLeaf, FlatModel}
 use Rattle.smv_language.specs.ModelTree.{flat_tree}
 use Rattle.cut_tables.specs.Tables.{table_text, rows_of, entry_of}
@@ -33,9 +33,9 @@ use Rattle.verb_loading.specs.Models.{IsLawful}
 use Rattle.verb_loading.specs.Inputs.{IsRefusedFile, HasBytes, RefusesModel, HoldsModel, RefusesFaults}
 use Rattle.verb_loading.specs.Cases.{Case, HoldsCase, IsTop, IsWrongTop, HoldsTops}
 use Rattle.verb_loading.specs.Tasks.{IsTopTree}
-use Rattle.verb_loading.specs.Loaded.{case_of, IsLoaded}
-use Rattle.verb_loading.specs.Answered.{Told, Said, faults_text, bits_of}
-use Rattle.cut_model_search.specs.Found.{IsFound}
+use Rattle.verb_loading.specs.LoadedCases.{case_of, IsLoaded}
+use Rattle.verb_loading.specs.CaseAnswers.{Told, Said, faults_text, bits_of}
+use Rattle.cut_model_search.specs.CaseAnalysis.{IsFound}
 use Rattle.smv_language.specs.Trace.{EachBoth}
 
 -- there are more than 64
@@ -55,7 +55,8 @@ pub record AreTopTexts (bytes : List ℕ) (es : List Formula) : Type 0 where
 
 -- the bytes spell no expressions within the depths, or too many
 pub data IsWrongList (bytes : List ℕ) (fault : InputFault) : Type 0 where
-  no_list : (f : ParseFault) → FaultMeans IsExpressions (AreTooDeep bytes) bytes f → wrong.Refused fault ≡ parse_wrong f → IsWrongList bytes fault
+  no_list : (f : ParseFault) → FaultMeans IsExpressions (AreTooDeep bytes) bytes f → wrong.Refused fault ≡ parse_wrong f →
+      IsWrongList bytes fault
   long_list : (es : List Formula) → IsListText bytes es → 64 < length es → fault ≡ too_many_tops → IsWrongList bytes fault
 
 -- the first that is no top event of the program, told at its number, from 1 on
@@ -74,7 +75,8 @@ pub data IsWrongTops (p : ProgramTree) (bytes : List ℕ) (fault : InputFault) :
 -- the file of top events is refused
 pub data RefusesTops (files : List NamedFile) (name : Text) (p : ProgramTree) (r : Refusal) : Type 0 where
   tops_file : (fault : InputFault) → r ≡ refusal.Top fault → IsRefusedFile files name fault → RefusesTops files name p r
-  tops_bytes : (bytes : List ℕ) (fault : InputFault) → r ≡ refusal.Top fault → HasBytes files name bytes → IsWrongTops p bytes fault → RefusesTops files name p r
+  tops_bytes : (bytes : List ℕ) (fault : InputFault) → r ≡ refusal.Top fault → HasBytes files name bytes → IsWrongTops p bytes fault →
+      RefusesTops files name p r
 
 -- What the three files of a table come to, in the order of the work: the model is refused; or it holds, and the instructions are;
 -- or these hold too, and the top events are.
@@ -102,22 +104,25 @@ abbrev pub AreFound : Case → ℕ → List Formula → List Analysis → Type 0
 AreFound c depth events columns = EachBoth (λ e a. IsFound c e (length c.faults) depth a) events columns
 
 -- a table was said, with a column for each event
-pub record HasTabulated (c : Case) (events : List Formula) (size depth : ℕ) (s : Status) (before after : Told) (said now : Said) : Type 0 where
-  pub columns : List Analysis
-  pub found : AreFound c depth events columns
-  pub ends : s ≡ ended_with_all (map (λ a. a.ending) columns)
-  pub kept : after ≡ before
-  pub reported : now ≡ said_more said (table_of c size columns)
+pub record HasTabulated (c : Case) (events : List Formula) (size depth : ℕ) (s : Status) (before after : Told) (said now : Said) : Type 0
+  where
+    pub columns : List Analysis
+    pub found : AreFound c depth events columns
+    pub ends : s ≡ ended_with_all (map (λ a. a.ending) columns)
+    pub kept : after ≡ before
+    pub reported : now ≡ said_more said (table_of c size columns)
 
 -- a part of a table: nothing, or the beginning of one
 abbrev pub TabulatesInPart : Case → List Formula → ℕ → ℕ → Told → Told → Said → Said → Type 0
 TabulatesInPart c events size depth before after said now =
-    (after ≡ before) × ((now ≡ said) ⊎ ((columns : List Analysis) × AreFound c depth events columns × SaysPrefix said now (table_of c size columns)))
+    (after ≡ before) × ((now ≡ said)
+    ⊎ ((columns : List Analysis) × AreFound c depth events columns × SaysPrefix said now (table_of c size columns)))
 
 -- Each entry of a column means what it says of the extended traces: some reaches the event and fails no fault outside the row, or
 -- none does, or none of at most so many steps.
 abbrev pub MeansColumn : Case → ℕ → Formula → Analysis → Type 0
-MeansColumn c size e a = (row : List ℕ) → Contains (rows_of size (length c.faults)) row → IsEntry c.program c.instructions c.faults e a.ending row (entry_of row a)
+MeansColumn c size e a = (row : List ℕ) → Contains (rows_of size (length c.faults)) row →
+    IsEntry c.program c.instructions c.faults e a.ending row (entry_of row a)
 
 -- What a table has done that was said: the files hold a case with top events, each entry that is said means what it says, and the
 -- run is bounded where some column is, by the depth.

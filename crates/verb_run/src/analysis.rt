@@ -39,7 +39,8 @@ pub(crate) fn deliver_analysis<D: Desk>(
     ensures ok { IfOk result (λ s. HasAnalysed (analysed_case asked.now) asked.now.word.now asked.now.depth
         (analysed_size asked.now) asked.now.extended.now asked.now.cert.now
         s (D.files desk.old) (D.files desk.new) (D.said desk.old) (D.said desk.new)) }
-    ensures part { AnalysesInPart (analysed_case asked.now) asked.now.word.now asked.now.depth (analysed_size asked.now) asked.now.extended.now asked.now.cert.now
+    ensures part { AnalysesInPart (analysed_case asked.now) asked.now.word.now asked.now.depth (analysed_size asked.now)
+        asked.now.extended.now asked.now.cert.now
         (D.files desk.old) (D.files desk.new) (D.said desk.old) (D.said desk.new) }
     ensures later { D.faults desk.old ≤ D.faults desk.new }
     ensures failed { IsErrOf result write_stop.Failed → Rose (D.faults desk.old) (D.faults desk.new) }

@@ -1,9 +1,9 @@
 //! What the words of a command line ask for, and what is known of its numbers.
 ghost use Rattle.std.specs.Prelude.{◌≡◌, IfOk, IfErr, map};
 ghost use Rattle.verb_command_line.specs.Meaning.{Means as WordsMean};
-ghost use Rattle.verb_command_line.specs.Seen.{seen};
-ghost use Rattle.verb_run.specs.Asked.{RefusesWords};
-ghost use Rattle.verb_run.specs.Commanded.{IsAskable};
+ghost use Rattle.verb_command_line.specs.CommandView.{seen};
+ghost use Rattle.verb_run.specs.Requests.{RefusesWords};
+ghost use Rattle.verb_run.specs.CommandNumbers.{IsAskable};
 
 use std::marker::Model;
 use verb_command_line::{Command, WordFault, read_words};
@@ -16,7 +16,7 @@ pub(crate) struct Askable<'a> {
 
 impl<'a> Model for Askable<'a> {
     ghost use Rattle.verb_command_line.specs.declared.command.Command.{Command as Asks};
-    ghost use Rattle.verb_run.specs.Commanded.{IsAskable};
+    ghost use Rattle.verb_run.specs.CommandNumbers.{IsAskable};
 
     ghost Value = { Asks };
 

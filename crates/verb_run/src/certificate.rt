@@ -4,7 +4,7 @@
 ghost use Rattle.std.specs.Prelude.{◌≡◌, ◌≤◌, ◌<◌, ◌^◌, length, IfOk, IsOk, OnOk, IfSome, IsErrOf};
 ghost use Rattle.base_files.specs.Desk.{Rose};
 ghost use Rattle.smv_language.specs.ModelTree.{flat_tree};
-ghost use Rattle.cert_text.specs.Seen.{seen};
+ghost use Rattle.cert_text.specs.CertificateView.{seen};
 ghost use Rattle.cert_check.specs.Fit.{IsCheckable};
 ghost use Rattle.verb_loading.specs.LoadedEvents.{case_in};
 ghost use Rattle.verb_run.specs.Certificates.{RefusesLine, IsAcceptedFor, CertRefuses, CertSays, IsSomeEvent};

@@ -8,7 +8,7 @@ ghost use Rattle.base_files.specs.declared.desk.WriteStop.TheVariants as write_s
 ghost use Rattle.verb_loading.specs.declared.input.Stop.TheVariants as stops;
 ghost use Rattle.verb_loading.specs.Statuses.{IsFinished, status_of, refusal_text, words_text};
 ghost use Rattle.verb_run.specs.Findings.{finished_as};
-ghost use Rattle.verb_run.specs.Delivered.{ended_as, Stopped, Concluded};
+ghost use Rattle.verb_run.specs.RunEndings.{ended_as, Stopped, Concluded};
 
 use base_files::{Desk, WriteStop, say_whole, write_whole};
 use base_values::OutOfMemory;

@@ -4,10 +4,10 @@
 ghost use Rattle.std.specs.Prelude.{◌≡◌, ◌≤◌};
 ghost use Rattle.base_files.specs.Desk.{Rose};
 ghost use Rattle.verb_command_line.specs.declared.command.Command.TheVariants as ask;
-ghost use Rattle.verb_command_line.specs.Seen.{seen};
+ghost use Rattle.verb_command_line.specs.CommandView.{seen};
 ghost use Rattle.verb_orders.specs.Pairs.{IsAskedPair};
 ghost use Rattle.verb_run.specs.Runs.{IsCarriedOut, IsLeftInPart};
-ghost use Rattle.verb_run.specs.Short.{IsOfCommand};
+ghost use Rattle.verb_run.specs.BoundedAnswers.{IsOfCommand};
 
 use crate::ending::concluded;
 use base_files::Desk;
@@ -28,7 +28,8 @@ pub(crate) fn causes<D: Desk>(
     panel: &mut Panel,
 ) -> Status
     requires { asked.now.depth ≤ 1000000000 }
-    ensures answered { IsCarriedOut (seen (ask.Causes asked.now)) result (D.files desk.old) (D.files desk.new) (D.said desk.old) (D.said desk.new) }
+    ensures answered { IsCarriedOut (seen (ask.Causes asked.now)) result (D.files desk.old) (D.files desk.new) (D.said desk.old)
+        (D.said desk.new) }
     ensures left { IsLeftInPart (seen (ask.Causes asked.now)) (D.files desk.old) (D.files desk.new) (D.said desk.old) (D.said desk.new) }
     ensures status { IsOfCommand (seen (ask.Causes asked.now)) result }
     ensures failed { result ≡ Status.Desk → Rose (D.faults desk.old) (D.faults desk.new) }
@@ -41,8 +42,10 @@ pub(crate) fn causes<D: Desk>(
 
 /// Judges a certificate of faults and common causes.
 pub(crate) fn checked_causes<D: Desk>(alloc: Global, desk: &mut D, asked: &CheckCauses) -> Status
-    ensures answered { IsCarriedOut (seen (ask.CheckCauses asked.now)) result (D.files desk.old) (D.files desk.new) (D.said desk.old) (D.said desk.new) }
-    ensures left { IsLeftInPart (seen (ask.CheckCauses asked.now)) (D.files desk.old) (D.files desk.new) (D.said desk.old) (D.said desk.new) }
+    ensures answered { IsCarriedOut (seen (ask.CheckCauses asked.now)) result (D.files desk.old) (D.files desk.new) (D.said desk.old)
+        (D.said desk.new) }
+    ensures left { IsLeftInPart (seen (ask.CheckCauses asked.now)) (D.files desk.old) (D.files desk.new) (D.said desk.old)
+        (D.said desk.new) }
     ensures status { IsOfCommand (seen (ask.CheckCauses asked.now)) result }
     ensures failed { result ≡ Status.Desk → Rose (D.faults desk.old) (D.faults desk.new) }
     ensures later { D.faults desk.old ≤ D.faults desk.new }
@@ -60,7 +63,8 @@ pub(crate) fn orders<D: Desk>(
     panel: &mut Panel,
 ) -> Status
     requires { IsAskedPair asked.now.set.now asked.now.first asked.now.second }
-    ensures answered { IsCarriedOut (seen (ask.Orders asked.now)) result (D.files desk.old) (D.files desk.new) (D.said desk.old) (D.said desk.new) }
+    ensures answered { IsCarriedOut (seen (ask.Orders asked.now)) result (D.files desk.old) (D.files desk.new) (D.said desk.old)
+        (D.said desk.new) }
     ensures left { IsLeftInPart (seen (ask.Orders asked.now)) (D.files desk.old) (D.files desk.new) (D.said desk.old) (D.said desk.new) }
     ensures status { IsOfCommand (seen (ask.Orders asked.now)) result }
     ensures failed { result ≡ Status.Desk → Rose (D.faults desk.old) (D.faults desk.new) }
@@ -74,8 +78,10 @@ pub(crate) fn orders<D: Desk>(
 /// Judges a certificate of such an order.
 pub(crate) fn checked_orders<D: Desk>(alloc: Global, desk: &mut D, asked: &CheckOrders) -> Status
     requires { IsAskedPair asked.now.set.now asked.now.first asked.now.second }
-    ensures answered { IsCarriedOut (seen (ask.CheckOrders asked.now)) result (D.files desk.old) (D.files desk.new) (D.said desk.old) (D.said desk.new) }
-    ensures left { IsLeftInPart (seen (ask.CheckOrders asked.now)) (D.files desk.old) (D.files desk.new) (D.said desk.old) (D.said desk.new) }
+    ensures answered { IsCarriedOut (seen (ask.CheckOrders asked.now)) result (D.files desk.old) (D.files desk.new) (D.said desk.old)
+        (D.said desk.new) }
+    ensures left { IsLeftInPart (seen (ask.CheckOrders asked.now)) (D.files desk.old) (D.files desk.new) (D.said desk.old)
+        (D.said desk.new) }
     ensures status { IsOfCommand (seen (ask.CheckOrders asked.now)) result }
     ensures failed { result ≡ Status.Desk → Rose (D.faults desk.old) (D.faults desk.new) }
     ensures later { D.faults desk.old ≤ D.faults desk.new }
@@ -93,7 +99,8 @@ pub(crate) fn odds<D: Desk>(
     panel: &mut Panel,
 ) -> Status
     requires { asked.now.depth ≤ 1000000000 }
-    ensures answered { IsCarriedOut (seen (ask.Odds asked.now)) result (D.files desk.old) (D.files desk.new) (D.said desk.old) (D.said desk.new) }
+    ensures answered { IsCarriedOut (seen (ask.Odds asked.now)) result (D.files desk.old) (D.files desk.new) (D.said desk.old)
+        (D.said desk.new) }
     ensures left { IsLeftInPart (seen (ask.Odds asked.now)) (D.files desk.old) (D.files desk.new) (D.said desk.old) (D.said desk.new) }
     ensures status { IsOfCommand (seen (ask.Odds asked.now)) result }
     ensures failed { result ≡ Status.Desk → Rose (D.faults desk.old) (D.faults desk.new) }

@@ -4,9 +4,9 @@
 //! [`run::run`] reads the words and the files that they name, and writes and says the answer. Its contract says
 //! what a run comes to (`specs/Runs.antt`): the one line of the first refusal; the extension and its fault list;
 //! that a trace reaches the top event and what it has failed; the analysis of a case; that a certificate is
-//! accepted; a table; or a generated case; and what is left where the desk fails on the way. What words ask for stands in `specs/Asked.antt`,
-//! traces in `specs/Replays.antt`, analyses in `specs/Analyses.antt` and `specs/Headline.antt`, certificates in
-//! `specs/Certificates.antt`, tables in `specs/Tables.antt`, generated cases in `specs/Made.antt`,
+//! accepted; a table; or a generated case; and what is left where the desk fails on the way. What words ask for stands in
+//! `specs/Requests.antt`, traces in `specs/Replays.antt`, analyses in `specs/Analyses.antt` and `specs/Headline.antt`, certificates in
+//! `specs/Certificates.antt`, tables in `specs/Tables.antt`, generated cases in `specs/GeneratedCase.antt`,
 //! and that the written file is the extension in `specs/Extension.antt`.
 //!
 //! Models, instructions and top events are loaded in `verb_loading`, where also stands what is wrong with each and what a refusal

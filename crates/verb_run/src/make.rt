@@ -18,11 +18,12 @@ ghost use Rattle.cut_text_laws.specs.Analysis.{told_ending};
 ghost use Rattle.verb_run.specs.AnswerTexts.{summary_ending};
 ghost use Rattle.verb_loading.specs.Models.{IsModelText, IsLawful, IsSpelled};
 ghost use Rattle.verb_loading.specs.Inputs.{IsInstructionText};
-ghost use Rattle.verb_loading.specs.Loaded.{case_of as case_with, IsLoaded, IsLoadedFrom, IsTopIn};
+ghost use Rattle.verb_loading.specs.LoadedCases.{case_of as case_with, IsLoaded, IsLoadedFrom, IsTopIn};
 ghost use Rattle.verb_loading.specs.LoadedEvents.{case_in, IsEvent};
 ghost use Rattle.verb_loading.specs.declared.input.Stop.TheVariants as stops;
 ghost use Rattle.verb_loading.specs.Wrongs.{IfRefused};
-ghost use Rattle.verb_run.specs.Made.{dead_word, IsOfGenerator, IsGeneratedText, HasMade, MakesInPart, summary_line, made_case, IsMaking, IsSummary};
+ghost use Rattle.verb_run.specs.GeneratedCase.{dead_word, IsOfGenerator, IsGeneratedText, HasMade, MakesInPart, summary_line, made_case};
+ghost use Rattle.verb_run.specs.GeneratedCase.{IsMaking, IsSummary};
 
 use base_files::{Desk, WriteStop, say_whole, write_whole};
 use base_values::{ByteList, Ending, OutOfMemory};

@@ -7,13 +7,13 @@ ghost use Rattle.smv_flat_laws.specs.FaultModes.{mode_of};
 ghost use Rattle.smv_flat_laws.specs.FlatTrace.{stands_in_some};
 ghost use Rattle.smv_type_laws.specs.Laws.{ReadsOwn};
 ghost use Rattle.smv_type_laws.specs.Models.{judged_in, broken_condition};
-ghost use Rattle.smv_evaluation.specs.Named.{IsEvaluable};
-ghost use Rattle.smv_evaluation.specs.Replayed.{IsReaching};
+ghost use Rattle.smv_evaluation.specs.EvaluableModels.{IsEvaluable};
+ghost use Rattle.smv_evaluation.specs.Replay.{IsReaching};
 ghost use Rattle.fault_extend.specs.WovenFaults.{fault_tree};
 ghost use Rattle.fault_extend.specs.NumberedFaults.{IsNumbered, AreNumbered};
 ghost use Rattle.base_files.specs.Desk.{Rose};
 ghost use Rattle.smv_language.specs.ProgramTree.{program_tree};
-ghost use Rattle.verb_loading.specs.Loaded.{case_of, IsLoaded};
+ghost use Rattle.verb_loading.specs.LoadedCases.{case_of, IsLoaded};
 ghost use Rattle.verb_run.specs.Runs.{refuses, says, TraceComesTo};
 ghost use Rattle.verb_loading.specs.Reports.{name_text};
 ghost use Rattle.verb_run.specs.Replays.{RefusesMoment, failed_in};
@@ -22,7 +22,7 @@ ghost use Rattle.verb_loading.specs.declared.status.Refusal.TheVariants as refus
 ghost use Rattle.verb_loading.specs.declared.status.Objection.TheVariants as objection;
 ghost use Rattle.verb_loading.specs.declared.input.Stop.TheVariants as stop;
 ghost use Rattle.cert_check.specs.Moments.{CanBeReplayed};
-ghost use Rattle.smv_language.specs.Told.{told_trace};
+ghost use Rattle.smv_language.specs.NumberedValues.{told_trace};
 
 use crate::trace::load_trace;
 use base_files::Desk;
@@ -54,7 +54,8 @@ pub(crate) fn replay_file<D: Desk>(
     ensures ok { IfOk result (λ report. IfSome (D.files desk.old) (λ files.
         TraceComesTo files (case_of (program_tree model.now.program) case.now) (flat_tree top.now) name.now (says report))) }
     ensures refused { (r : Refusal) → IsErrOf result (stop.Refused r) →
-        IfSome (D.files desk.old) (λ files. TraceComesTo files (case_of (program_tree model.now.program) case.now) (flat_tree top.now) name.now (refuses r)) }
+        IfSome (D.files desk.old)
+        (λ files. TraceComesTo files (case_of (program_tree model.now.program) case.now) (flat_tree top.now) name.now (refuses r)) }
     ensures failed { IsErrOf result stop.Desk → Rose (D.faults desk.old) (D.faults desk.new) }
     ensures files { D.files desk.new ≡ D.files desk.old }
     ensures said { D.said desk.new ≡ D.said desk.old }

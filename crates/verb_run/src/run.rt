@@ -6,19 +6,21 @@ ghost use Rattle.base_files.specs.Desk.{Rose};
 ghost use Rattle.smv_language.specs.ProgramTree.{Text};
 ghost use Rattle.verb_command_line.specs.Commands.{Command as Asked};
 ghost use Rattle.verb_command_line.specs.Meaning.{Means as WordsMean, BreaksFirst};
-ghost use Rattle.verb_command_line.specs.Seen.{rule_of, place_of};
+ghost use Rattle.verb_command_line.specs.CommandView.{rule_of, place_of};
 ghost use Rattle.verb_command_line.specs.Sets.{numbers_of};
 ghost use Rattle.verb_command_line.specs.declared.fault.WordFault.{WordFault};
 ghost use Rattle.verb_run.specs.Runs.{Outcome, Means, IsAnswer, IsFinished, IsDelivered, HasAnswered, HasStopped};
 ghost use Rattle.verb_run.specs.Headline.{IsComplete, IsBounded};
-ghost use Rattle.verb_run.specs.Asked.{AsksToExtend, AsksToReplay, AsksToAnalyse, AsksToCheck, AsksToTabulate, AsksToMake, AsksForCauses, AsksToCheckCauses, AsksForOrder, AsksToCheckOrder, AsksForOdds, RefusesWords, depth_of};
-ghost use Rattle.verb_run.specs.Short.{IsShort};
-ghost use Rattle.verb_run.specs.Rechecked.{AnalysesAreAccepted, CausesAreAccepted, OrdersAreAccepted};
+ghost use Rattle.verb_run.specs.Requests.{AsksToExtend, AsksToReplay, AsksToAnalyse, AsksToCheck, AsksToTabulate, AsksToMake};
+ghost use Rattle.verb_run.specs.Requests.{AsksForCauses, AsksToCheckCauses, AsksForOrder, AsksToCheckOrder, AsksForOdds, RefusesWords};
+ghost use Rattle.verb_run.specs.Requests.{depth_of};
+ghost use Rattle.verb_run.specs.BoundedAnswers.{IsShort};
+ghost use Rattle.verb_run.specs.LaterChecks.{AnalysesAreAccepted, CausesAreAccepted, OrdersAreAccepted};
 ghost use Rattle.verb_run.specs.Extension.{IsExtended};
-ghost use Rattle.verb_run.specs.Replayed.{HoldsReaching, IsReplayed};
+ghost use Rattle.verb_run.specs.ReplayFindings.{HoldsReaching, IsReplayed};
 ghost use Rattle.verb_run.specs.Certificates.{IsChecked};
 ghost use Rattle.verb_run.specs.Tables.{IsTabulated};
-ghost use Rattle.verb_run.specs.Made.{IsMade};
+ghost use Rattle.verb_run.specs.GeneratedCase.{IsMade};
 ghost use Rattle.verb_causes.specs.Causes.{HasFoundCauses, HasCheckedCauses};
 ghost use Rattle.verb_orders.specs.Orders.{HasOrder, HasCheckedOrder};
 ghost use Rattle.verb_odds.specs.Odds.{HasOdds};
@@ -65,16 +67,19 @@ pub fn run<D: Desk>(
         IsDelivered o result (D.files desk.old) (D.files desk.new) (D.said desk.old) (D.said desk.new)) }
     // A run that is done has written the woven program, as the one program that the model spells and the instructions make it:
     // its traces are the extended traces, and its faultless ones the model's. It has said the list of its faults.
-    ensures extended { (model faults extended : Text) → result ≡ Status.Done → AsksToExtend (map (λ w. w.now) words.now) model faults extended →
+    ensures extended { (model faults extended : Text) → result ≡ Status.Done →
+        AsksToExtend (map (λ w. w.now) words.now) model faults extended →
         IfSome (D.files desk.old) (λ before. IsSomeAnd (D.files desk.new) (λ after.
         IsExtended before after (D.said desk.old) (D.said desk.new) model faults extended)) }
     // A run that is done has replayed the trace: its values are cut to an extended trace that reaches the event, and the names of
     // exactly the faults that it has failed were said; no file was changed.
-    ensures replayed { (model faults trace top : Text) → result ≡ Status.Done → AsksToReplay (map (λ w. w.now) words.now) model faults trace top →
+    ensures replayed { (model faults trace top : Text) → result ≡ Status.Done →
+        AsksToReplay (map (λ w. w.now) words.now) model faults trace top →
         IfSome (D.files desk.old) (λ files. IsReplayed files (D.said desk.old) (D.said desk.new) model faults trace top
         × (D.files desk.new ≡ D.files desk.old)) }
     // And such a trace is refused for nothing.
-    ensures reaching { (model faults trace top : Text) → IsAnswer result → AsksToReplay (map (λ w. w.now) words.now) model faults trace top →
+    ensures reaching { (model faults trace top : Text) → IsAnswer result →
+        AsksToReplay (map (λ w. w.now) words.now) model faults trace top →
         IfSome (D.files desk.old) (λ files. HoldsReaching files model faults trace top → result ≡ Status.Done) }
     // A run that is done has analysed the extended traces, of every length: it has written the extension, found exactly the sets
     // that the headline says, shown a trace for each, and written an accepted certificate.
@@ -89,7 +94,8 @@ pub fn run<D: Desk>(
         (k ≡ depth) × IsBounded before after (D.said desk.old) (D.said desk.new) model faults top extended cert depth size)) }
     // A run that is done has checked the certificate: the sets that its bytes spell are right for all extended traces, of every
     // length, with the traces that its texts give; no file was changed.
-    ensures accepted { (model faults top cert : Text) → result ≡ Status.Done → AsksToCheck (map (λ w. w.now) words.now) model faults top cert →
+    ensures accepted { (model faults top cert : Text) → result ≡ Status.Done →
+        AsksToCheck (map (λ w. w.now) words.now) model faults top cert →
         IfSome (D.files desk.old) (λ files. IsChecked files (D.said desk.old) (D.said desk.new) model faults top cert
         × (D.files desk.new ≡ D.files desk.old)) }
     // A run that has finished a table has said it: each entry means what it says of the extended traces; no file was changed.
@@ -108,7 +114,8 @@ pub fn run<D: Desk>(
     ensures caused { (model faults file top cert : Text) (depth : ℕ) → IsFinished result →
         AsksForCauses (map (λ w. w.now) words.now) model faults file top depth cert →
         IfSome (D.files desk.old) (λ files.
-        HasFoundCauses files model faults file top cert depth result (D.files desk.old) (D.files desk.new) (D.said desk.old) (D.said desk.new)) }
+        HasFoundCauses files model faults file top cert depth result (D.files desk.old) (D.files desk.new) (D.said desk.old)
+        (D.said desk.new)) }
     // A run that is done has checked such a certificate: its sets are shown for all caused traces, of every length; no file was
     // changed.
     ensures caused_accepted { (model faults file top cert : Text) → result ≡ Status.Done →
@@ -120,7 +127,8 @@ pub fn run<D: Desk>(
     ensures ordered { (model faults top set cert : Text) (first second depth : ℕ) → IsFinished result →
         AsksForOrder (map (λ w. w.now) words.now) model faults top set first second depth cert →
         IfSome (D.files desk.old) (λ files.
-        HasOrder files model faults top (numbers_of set) first second depth cert result (D.files desk.old) (D.files desk.new) (D.said desk.old) (D.said desk.new)) }
+        HasOrder files model faults top (numbers_of set) first second depth cert result (D.files desk.old) (D.files desk.new)
+        (D.said desk.old) (D.said desk.new)) }
     // A run that is done has checked a certificate of what is claimed of two faults, and the claim holds; no file was changed.
     ensures order_accepted { (model faults top set claim cert : Text) (first second : ℕ) → result ≡ Status.Done →
         AsksToCheckOrder (map (λ w. w.now) words.now) model faults top set first second claim cert →

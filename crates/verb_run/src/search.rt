@@ -5,9 +5,9 @@ ghost use Rattle.std.specs.Prelude.{◌≡◌, ℕ, IfOk, map};
 ghost use Rattle.smv_language.specs.ModelTree.{model_tree, flat_tree};
 ghost use Rattle.smv_flat_laws.specs.FaultModes.{mode_of};
 ghost use Rattle.smv_flat_laws.specs.History.{with_history};
-ghost use Rattle.smv_language.specs.Told.{told_trace};
+ghost use Rattle.smv_language.specs.NumberedValues.{told_trace};
 ghost use Rattle.cut_search.specs.declared.answer.End.TheVariants as ends;
-ghost use Rattle.cut_model_search.specs.Found.{IsCertificateFor};
+ghost use Rattle.cut_model_search.specs.CaseAnalysis.{IsCertificateFor};
 ghost use Rattle.verb_loading.specs.LoadedEvents.{IsEvent};
 ghost use Rattle.cut_model_search.specs.Searches.{IsSearched, HasCertificate};
 ghost use Rattle.verb_run.specs.Findings.{IsFinding, analysed_case, analysed_size};
@@ -37,7 +37,8 @@ fn certificate_text(
 ) -> Result<ByteList, OutOfMemory>
     requires whole { model_tree case.now.limited.full.model
         ≡ with_history (model_tree case.now.limited.typed.model) (map mode_of case.now.limited.faults) }
-    requires searched { IsSearched (model_tree case.now.limited.typed.model) (map mode_of case.now.limited.faults) (flat_tree top.now) depth a.now.size a.now }
+    requires searched { IsSearched (model_tree case.now.limited.typed.model) (map mode_of case.now.limited.faults) (flat_tree top.now)
+        depth a.now.size a.now }
     requires complete { (k : ℕ) → a.now.end ≡ ends.Bounded k → ⊥ }
     ensures { IfOk result (IsCertificateFor (model_tree case.now.limited.typed.model) (map mode_of case.now.limited.faults)
         (flat_tree top.now) a.now.size a.now.sets (map (told_trace case.now.limited.typed.model.symbols) a.now.traces)) }
@@ -66,7 +67,8 @@ pub fn certificate(
 ) -> Result<Option<ByteList>, OutOfMemory>
     requires whole { model_tree case.now.limited.full.model
         ≡ with_history (model_tree case.now.limited.typed.model) (map mode_of case.now.limited.faults) }
-    requires searched { IsSearched (model_tree case.now.limited.typed.model) (map mode_of case.now.limited.faults) (flat_tree top.now) depth a.now.size a.now }
+    requires searched { IsSearched (model_tree case.now.limited.typed.model) (map mode_of case.now.limited.faults) (flat_tree top.now)
+        depth a.now.size a.now }
     ensures { IfOk result (HasCertificate (model_tree case.now.limited.typed.model)
         (map mode_of case.now.limited.faults) (flat_tree top.now) case.now.limited.typed.model.symbols a.now a.now.end) }
 {

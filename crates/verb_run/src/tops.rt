@@ -7,7 +7,7 @@ ghost use Rattle.base_files.specs.Desk.{Rose};
 ghost use Rattle.base_files.specs.declared.desk.WriteStop.TheVariants as write_stop;
 ghost use Rattle.smv_language.specs.ProgramTree.{Formula, program_tree};
 ghost use Rattle.smv_language.specs.Trace.{Each, EachBoth};
-ghost use Rattle.smv_language.specs.Written.{tree_of};
+ghost use Rattle.smv_language.specs.ExpressionTree.{tree_of};
 ghost use Rattle.smv_language.specs.ModelTree.{model_tree, flat_tree};
 ghost use Rattle.smv_flat_laws.specs.Model.{IsFlatOf};
 ghost use Rattle.smv_flat_laws.specs.ResolvedAt.{IsResolvedAt};
@@ -20,8 +20,10 @@ ghost use Rattle.verb_loading.specs.Wrongs.{IfRefused};
 ghost use Rattle.verb_loading.specs.Models.{IsLawful};
 ghost use Rattle.verb_loading.specs.Inputs.{IsRefusedFile, HasBytes};
 ghost use Rattle.verb_loading.specs.Cases.{IsTop, IsWrongTop, HoldsTops, HoldsCase, whole_of};
-ghost use Rattle.verb_loading.specs.Loaded.{case_of, IsLoaded};
-ghost use Rattle.verb_run.specs.Tables.{AreTopTexts, IsWrongList, IsFirstNoTop, IsWrongTops, RefusesTops, RefusesTable, IsEventOf, IsExtensible, IsColumn, AreColumns, ended_with_all, table_of, tabulated_case, tabulated_events, IsTabulable, HasTabulated, TabulatesInPart, told_at};
+ghost use Rattle.verb_loading.specs.LoadedCases.{case_of, IsLoaded};
+ghost use Rattle.verb_run.specs.Tables.{AreTopTexts, IsWrongList, IsFirstNoTop, IsWrongTops, RefusesTops, RefusesTable, IsEventOf};
+ghost use Rattle.verb_run.specs.Tables.{IsExtensible, IsColumn, AreColumns, ended_with_all, table_of, tabulated_case, tabulated_events};
+ghost use Rattle.verb_run.specs.Tables.{IsTabulable, HasTabulated, TabulatesInPart, told_at};
 ghost use Rattle.verb_loading.specs.declared.status.InputFault.{InputFault};
 ghost use Rattle.verb_loading.specs.declared.status.Refusal.{Refusal};
 ghost use Rattle.verb_loading.specs.declared.status.Refusal.TheVariants as refusal;
@@ -119,7 +121,8 @@ pub(crate) fn load_tops<D: Desk>(
     requires loaded { IsLoaded (program_tree model.now.program) case.now }
     ensures ok { IfOk result (λ t. IfSome (D.files desk.old) (λ files.
         HoldsTops files name.now (program_tree model.now.program) (map tree_of t.written))) }
-    ensures events { IfOk result (λ t. EachBoth (IsEventOf (case_of (program_tree model.now.program) case.now)) (map tree_of t.written) (map flat_tree t.over)) }
+    ensures events { IfOk result
+        (λ t. EachBoth (IsEventOf (case_of (program_tree model.now.program) case.now)) (map tree_of t.written) (map flat_tree t.over)) }
     ensures refused { (r : Refusal) → IsErrOf result (stop.Refused r) →
         IfSome (D.files desk.old) (λ files. RefusesTops files name.now (program_tree model.now.program) r) }
     ensures failed { IsErrOf result stop.Desk → Rose (D.faults desk.old) (D.faults desk.new) }
@@ -179,7 +182,8 @@ fn tops_of(
     requires loaded { IsLoaded (program_tree model.now.program) case.now }
     ensures text { IfOk result (λ t. AreTopTexts bytes.now (map tree_of t.written)) }
     ensures tops { IfOk result (λ t. Each (IsTop (program_tree model.now.program)) (map tree_of t.written)) }
-    ensures events { IfOk result (λ t. EachBoth (IsEventOf (case_of (program_tree model.now.program) case.now)) (map tree_of t.written) (map flat_tree t.over)) }
+    ensures events { IfOk result
+        (λ t. EachBoth (IsEventOf (case_of (program_tree model.now.program) case.now)) (map tree_of t.written) (map flat_tree t.over)) }
     ensures wrong { IfErr result (IfRefused (IsWrongTops (program_tree model.now.program) bytes.now)) }
 {
     let written = written_tops(alloc, bytes)?;

@@ -4,8 +4,8 @@
 ghost use Rattle.std.specs.Prelude.{◌≡◌, ◌≤◌, length, IfOk, IfSome, IsErrOf};
 ghost use Rattle.base_files.specs.Desk.{Rose};
 ghost use Rattle.smv_language.specs.ModelTree.{model_tree};
-ghost use Rattle.smv_language.specs.Told.{told_trace};
-ghost use Rattle.cut_text_laws.specs.Given.{IsPrintable, HasItsSymbols};
+ghost use Rattle.smv_language.specs.NumberedValues.{told_trace};
+ghost use Rattle.cut_text_laws.specs.TraceOfText.{IsPrintable, HasItsSymbols};
 ghost use Rattle.verb_loading.specs.Tasks.{IsRefusedAbove, HasAtMost};
 ghost use Rattle.verb_run.specs.Replays.{RefusesTrace, HoldsTrace, stop_at_text};
 ghost use Rattle.verb_loading.specs.declared.status.InputFault.{InputFault};

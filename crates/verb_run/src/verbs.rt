@@ -7,13 +7,15 @@ ghost use Rattle.base_files.specs.Desk.{Rose};
 ghost use Rattle.verb_loading.specs.declared.status.Refusal.{Refusal};
 ghost use Rattle.verb_loading.specs.declared.input.Stop.TheVariants as stops;
 ghost use Rattle.verb_command_line.specs.declared.command.Command.TheVariants as ask;
-ghost use Rattle.verb_command_line.specs.Seen.{seen};
-ghost use Rattle.verb_run.specs.Runs.{refuses, extends, says, analyses, tabulates, makes, ComesTo, ReplayComesTo, CheckComesTo, TableComesTo, MakeComesTo, CommandComesTo, IsAnswer, IsDelivered, IsDeliveredInPart, IsCarriedOut, IsLeftInPart};
-ghost use Rattle.verb_run.specs.Short.{IsOfCommand};
+ghost use Rattle.verb_command_line.specs.CommandView.{seen};
+ghost use Rattle.verb_run.specs.Runs.{refuses, extends, says, analyses, tabulates, makes, ComesTo, ReplayComesTo, CheckComesTo};
+ghost use Rattle.verb_run.specs.Runs.{TableComesTo, MakeComesTo, CommandComesTo, IsAnswer, IsDelivered, IsDeliveredInPart, IsCarriedOut};
+ghost use Rattle.verb_run.specs.Runs.{IsLeftInPart};
+ghost use Rattle.verb_run.specs.BoundedAnswers.{IsOfCommand};
 ghost use Rattle.verb_loading.specs.LoadedEvents.{IsEvent};
 ghost use Rattle.verb_run.specs.Findings.{analysed_case, analysed_size};
 ghost use Rattle.verb_run.specs.Tables.{IsTabulable, tabulated_case, tabulated_events};
-ghost use Rattle.verb_run.specs.Made.{IsMaking, made_case};
+ghost use Rattle.verb_run.specs.GeneratedCase.{IsMaking, made_case};
 
 use crate::analysis::{Analysing, deliver_analysis};
 use crate::asked::Askable;
@@ -67,7 +69,8 @@ pub(crate) fn carry_out<D: Desk>(
 
 /// Reads both files, writes the extension, and says its faults.
 fn extend_model<D: Desk>(alloc: Global, desk: &mut D, asked: &Extend) -> Status
-    ensures answered { IsCarriedOut (seen (ask.Extend asked.now)) result (D.files desk.old) (D.files desk.new) (D.said desk.old) (D.said desk.new) }
+    ensures answered { IsCarriedOut (seen (ask.Extend asked.now)) result (D.files desk.old) (D.files desk.new) (D.said desk.old)
+        (D.said desk.new) }
     ensures left { IsLeftInPart (seen (ask.Extend asked.now)) (D.files desk.old) (D.files desk.new) (D.said desk.old) (D.said desk.new) }
     ensures status { IsOfCommand (seen (ask.Extend asked.now)) result }
     ensures failed { result ≡ Status.Desk → Rose (D.faults desk.old) (D.faults desk.new) }
@@ -82,7 +85,8 @@ fn extend_model<D: Desk>(alloc: Global, desk: &mut D, asked: &Extend) -> Status
 
 /// Reads the three files and the top event, and says what a reaching trace has failed.
 fn replay_trace<D: Desk>(alloc: Global, desk: &mut D, asked: &Replay) -> Status
-    ensures answered { IsCarriedOut (seen (ask.Replay asked.now)) result (D.files desk.old) (D.files desk.new) (D.said desk.old) (D.said desk.new) }
+    ensures answered { IsCarriedOut (seen (ask.Replay asked.now)) result (D.files desk.old) (D.files desk.new) (D.said desk.old)
+        (D.said desk.new) }
     ensures left { IsLeftInPart (seen (ask.Replay asked.now)) (D.files desk.old) (D.files desk.new) (D.said desk.old) (D.said desk.new) }
     ensures status { IsOfCommand (seen (ask.Replay asked.now)) result }
     ensures failed { result ≡ Status.Desk → Rose (D.faults desk.old) (D.faults desk.new) }
@@ -97,7 +101,8 @@ fn replay_trace<D: Desk>(alloc: Global, desk: &mut D, asked: &Replay) -> Status
 
 /// Reads both files and the top event, writes the extension, searches, and says the report.
 fn analyse_event<D: Desk>(alloc: Global, desk: &mut D, asked: &Analyse, panel: &mut Panel) -> Status
-    ensures answered { IsCarriedOut (seen (ask.Analyse asked.now)) result (D.files desk.old) (D.files desk.new) (D.said desk.old) (D.said desk.new) }
+    ensures answered { IsCarriedOut (seen (ask.Analyse asked.now)) result (D.files desk.old) (D.files desk.new) (D.said desk.old)
+        (D.said desk.new) }
     ensures left { IsLeftInPart (seen (ask.Analyse asked.now)) (D.files desk.old) (D.files desk.new) (D.said desk.old) (D.said desk.new) }
     ensures status { IsOfCommand (seen (ask.Analyse asked.now)) result }
     ensures failed { result ≡ Status.Desk → Rose (D.faults desk.old) (D.faults desk.new) }
@@ -112,7 +117,8 @@ fn analyse_event<D: Desk>(alloc: Global, desk: &mut D, asked: &Analyse, panel: &
 
 /// Reads the three files and the top event, and says that the certificate is accepted.
 fn check_certificate<D: Desk>(alloc: Global, desk: &mut D, asked: &Check) -> Status
-    ensures answered { IsCarriedOut (seen (ask.Check asked.now)) result (D.files desk.old) (D.files desk.new) (D.said desk.old) (D.said desk.new) }
+    ensures answered { IsCarriedOut (seen (ask.Check asked.now)) result (D.files desk.old) (D.files desk.new) (D.said desk.old)
+        (D.said desk.new) }
     ensures left { IsLeftInPart (seen (ask.Check asked.now)) (D.files desk.old) (D.files desk.new) (D.said desk.old) (D.said desk.new) }
     ensures status { IsOfCommand (seen (ask.Check asked.now)) result }
     ensures failed { result ≡ Status.Desk → Rose (D.faults desk.old) (D.faults desk.new) }
@@ -128,7 +134,8 @@ fn check_certificate<D: Desk>(alloc: Global, desk: &mut D, asked: &Check) -> Sta
 /// Reads the three files, searches for each top event, and says the table.
 fn tabulate<D: Desk>(alloc: Global, desk: &mut D, asked: &Fmea, panel: &mut Panel) -> Status
     requires { asked.now.size ≤ 2 }
-    ensures answered { IsCarriedOut (seen (ask.Fmea asked.now)) result (D.files desk.old) (D.files desk.new) (D.said desk.old) (D.said desk.new) }
+    ensures answered { IsCarriedOut (seen (ask.Fmea asked.now)) result (D.files desk.old) (D.files desk.new) (D.said desk.old)
+        (D.said desk.new) }
     ensures left { IsLeftInPart (seen (ask.Fmea asked.now)) (D.files desk.old) (D.files desk.new) (D.said desk.old) (D.said desk.new) }
     ensures status { IsOfCommand (seen (ask.Fmea asked.now)) result }
     ensures failed { result ≡ Status.Desk → Rose (D.faults desk.old) (D.faults desk.new) }
@@ -144,7 +151,8 @@ fn tabulate<D: Desk>(alloc: Global, desk: &mut D, asked: &Fmea, panel: &mut Pane
 /// Generates a case, writes it, searches it, and says its line.
 fn make_case<D: Desk>(alloc: Global, desk: &mut D, asked: &Make, panel: &mut Panel) -> Status
     requires { asked.now.stages ≤ 64 }
-    ensures answered { IsCarriedOut (seen (ask.Make asked.now)) result (D.files desk.old) (D.files desk.new) (D.said desk.old) (D.said desk.new) }
+    ensures answered { IsCarriedOut (seen (ask.Make asked.now)) result (D.files desk.old) (D.files desk.new) (D.said desk.old)
+        (D.said desk.new) }
     ensures left { IsLeftInPart (seen (ask.Make asked.now)) (D.files desk.old) (D.files desk.new) (D.said desk.old) (D.said desk.new) }
     ensures status { IsOfCommand (seen (ask.Make asked.now)) result }
     ensures failed { result ≡ Status.Desk → Rose (D.faults desk.old) (D.faults desk.new) }
@@ -160,7 +168,8 @@ fn make_case<D: Desk>(alloc: Global, desk: &mut D, asked: &Make, panel: &mut Pan
 /// Reads both files, and makes what is to be written and said.
 fn prepare_extension<D: Desk>(alloc: Global, desk: &mut D, asked: &Extend) -> Result<Made, Stop>
     ensures ok { IfOk result (λ made. IfSome (D.files desk.old) (λ files.
-        ComesTo files asked.now.model.now asked.now.faults.now asked.now.extended.now (extends asked.now.extended.now made.text.items made.report))) }
+        ComesTo files asked.now.model.now asked.now.faults.now asked.now.extended.now
+        (extends asked.now.extended.now made.text.items made.report))) }
     ensures refused { (r : Refusal) → IsErrOf result (stops.Refused r) → IfSome (D.files desk.old) (λ files.
         ComesTo files asked.now.model.now asked.now.faults.now asked.now.extended.now (refuses r)) }
     ensures failed { IsErrOf result stops.Desk → Rose (D.faults desk.old) (D.faults desk.new) }
@@ -198,7 +207,8 @@ fn prepare_analysis<'a, D: Desk>(
     asked: &Analyse<'a>,
 ) -> Result<Analysing<'a>, Stop>
     ensures ok { IfOk result (λ a. IfSome (D.files desk.old) (λ files.
-        CommandComesTo files (seen (ask.Analyse asked.now)) (analyses (analysed_case a) a.word.now a.depth (analysed_size a) a.extended.now a.cert.now))) }
+        CommandComesTo files (seen (ask.Analyse asked.now))
+        (analyses (analysed_case a) a.word.now a.depth (analysed_size a) a.extended.now a.cert.now))) }
     ensures event { IfOk result (λ a. IsEvent a.word.now a.loaded) }
     ensures asked { IfOk result (λ a. a.depth ≡ asked.now.depth) }
     ensures refused { (r : Refusal) → IsErrOf result (stops.Refused r) →
@@ -296,7 +306,8 @@ fn deliver_extension<D: Desk>(desk: &mut D, file: &str, made: &Made) -> Status
 
 /// Says a report alone.
 fn deliver_report<D: Desk>(desk: &mut D, report: &ByteList) -> Status
-    ensures done { IsAnswer result → IsDelivered (says report.now) result (D.files desk.old) (D.files desk.new) (D.said desk.old) (D.said desk.new) }
+    ensures done { IsAnswer result →
+        IsDelivered (says report.now) result (D.files desk.old) (D.files desk.new) (D.said desk.old) (D.said desk.new) }
     ensures part { IsDeliveredInPart (says report.now) (D.files desk.old) (D.files desk.new) (D.said desk.old) (D.said desk.new) }
     ensures failed { result ≡ Status.Desk → Rose (D.faults desk.old) (D.faults desk.new) }
     ensures later { D.faults desk.old ≤ D.faults desk.new }

@@ -2,7 +2,7 @@
 use Rattle.std.proofs.Common.{◌≡◌, ◌⊎◌, inl, inr, ℕ, List, Option, Some, None, IfSome, length, refl, ap, subst, ◌∙◌}
 use Rattle.base_files.specs.Desk.{said_more}
 use Rattle.smv_language.specs.ProgramTree.{Text, Formula}
-use Rattle.cut_model_search.specs.Found.{size_for}
+use Rattle.cut_model_search.specs.CaseAnalysis.{size_for}
 use Rattle.verb_command_line.specs.declared.fault.WordFault.{WordFault}
 use Rattle.verb_loading.specs.declared.input.Stop.{Stop}
 use Rattle.verb_loading.specs.declared.input.Stop.TheVariants as stops
@@ -11,9 +11,9 @@ use Rattle.verb_loading.specs.declared.status.Status.{Status}
 use Rattle.verb_loading.specs.declared.status.Status.TheVariants as status
 use Rattle.verb_loading.specs.Statuses.{IsAnswer, status_of, refusal_text, words_text}
 use Rattle.verb_loading.specs.Cases.{Case, HoldsCase, HoldsTops}
-use Rattle.verb_loading.specs.Answered.{Told, Said}
-use Rattle.verb_run.specs.Asked.{AsksToAnalyse}
-use Rattle.verb_run.specs.Delivered.{Stopped}
+use Rattle.verb_loading.specs.CaseAnswers.{Told, Said}
+use Rattle.verb_run.specs.Requests.{AsksToAnalyse}
+use Rattle.verb_run.specs.RunEndings.{Stopped}
 use Rattle.verb_run.specs.Tables.{RefusesTable}
 use Rattle.verb_run.proofs.OutcomeLemmas.{no_answer}
 use Rattle.verb_tops.specs.Each.{HasAnalysedEach, AnswersEach, is_refused, are_analysed, HasAnsweredEach, refuses_words, answers}

@@ -7,26 +7,26 @@ use Rattle.smv_type_laws.specs.Costs.{state_bits}
 use Rattle.smv_language.specs.ModelTree.{model_tree, name_of_fault}
 use Rattle.smv_flat_laws.specs.FaultModes.{mode_of}
 use Rattle.smv_language.specs.Flat.{FlatLeaf}
-use Rattle.smv_language.specs.Told.{told_trace}
+use Rattle.smv_language.specs.NumberedValues.{told_trace}
 use Rattle.cut_search_laws.specs.Problem.{problem_of}
 use Rattle.fault_extend.specs.WovenFaults.{fault_tree}
 use Rattle.cut_report.specs.FaultText as lines
-use Rattle.cut_report.specs.Analysed.{told_analysis}
+use Rattle.cut_report.specs.AnalysisView.{told_analysis}
 use Rattle.cut_text_laws.specs.Analysis.{told_ending}
 use Rattle.base_values.specs.declared.ending.Ending.{Ending as Printed}
 use Rattle.cut_search.specs.Answer.{IsAnswer}
 use Rattle.cut_search.specs.declared.answer.Analysis.{Analysis as Searched}
-use Rattle.cut_report_laws.specs.Answered.{ending_of, analysis_of}
+use Rattle.cut_report_laws.specs.SearchAnswer.{ending_of, analysis_of}
 use Rattle.cut_report_laws.proofs.Printed.{answers_printed}
 use Rattle.cut_report_laws.specs.ExtendedTraces.{Analysis}
 use Rattle.cut_report_laws.specs.AnalysisText.{analysis_text}
 use Rattle.verb_loading.specs.declared.loaded.LoadedCase.{LoadedCase}
 use Rattle.verb_loading.specs.Cases.{Case}
-use Rattle.verb_loading.specs.Loaded.{case_of}
-use Rattle.verb_loading.specs.Answered.{faults_text}
+use Rattle.verb_loading.specs.LoadedCases.{case_of}
+use Rattle.verb_loading.specs.CaseAnswers.{faults_text}
 use Rattle.verb_loading.proofs.ListedLaws.{are_listed, named_lines}
 use Rattle.verb_loading.proofs.LoadedLaws.{loaded_printable}
-use Rattle.cut_model_search.specs.Found.{size_for}
+use Rattle.cut_model_search.specs.CaseAnalysis.{size_for}
 use Rattle.cut_model_search.specs.Searches.{IsSearched, HasCertificate}
 use Rattle.verb_run.specs.Analyses.{report_of}
 use Rattle.verb_run.specs.Tables.{IsExtensible, IsEventOf}

@@ -11,8 +11,8 @@ use Rattle.cert_file.specs.declared.conclusion.Conclusion.{Conclusion}
 use Rattle.verb_loading.specs.declared.status.Status.{Status}
 use Rattle.verb_loading.specs.declared.status.Status.TheVariants as status
 use Rattle.verb_loading.specs.Cases.{Case}
-use Rattle.verb_loading.specs.Answered.{Told, Said, told_maybe}
-use Rattle.cut_model_search.specs.Found.{IsFound}
+use Rattle.verb_loading.specs.CaseAnswers.{Told, Said, told_maybe}
+use Rattle.cut_model_search.specs.CaseAnalysis.{IsFound}
 use Rattle.verb_run.specs.Analyses.{report_of}
 use Rattle.verb_run.specs.Findings.{IsCertifiedAs}
 use Rattle.verb_run.specs.Tables.{ended_with_all}

@@ -12,11 +12,11 @@ use Rattle.verb_loading.specs.declared.status.Status.{Status}
 use Rattle.verb_loading.specs.declared.status.Status.TheVariants as status
 use Rattle.verb_loading.specs.Statuses.{status_of, refusal_text, words_text}
 use Rattle.verb_loading.specs.Cases.{Case, HoldsCase, HoldsTops}
-use Rattle.verb_loading.specs.Answered.{Told, Said}
-use Rattle.cut_model_search.specs.Found.{size_for, IsFound}
+use Rattle.verb_loading.specs.CaseAnswers.{Told, Said}
+use Rattle.cut_model_search.specs.CaseAnalysis.{size_for, IsFound}
 use Rattle.verb_run.specs.AnswerTexts.{extension_text}
 use Rattle.verb_run.specs.Analyses.{Certifies, report_of}
-use Rattle.verb_run.specs.Asked.{AsksToAnalyse}
+use Rattle.verb_run.specs.Requests.{AsksToAnalyse}
 use Rattle.verb_run.specs.Tables.{RefusesTable, ended_with_all}
 
 -- the line before the report of the event of a number
@@ -42,7 +42,8 @@ AreReported c depth size stem n (e ∷ es) (a ∷ more) before after said now =
 AreReported c depth size stem n es more before after said now = ⊥
 
 -- the events were analysed, each for all traces or for those of at most so many steps: the run is bounded where one of them is
-pub record HasReported (c : Case) (events : List Formula) (depth size : ℕ) (stem : Text) (s : Status) (before after : Told) (said now : Said) : Type 0 where
+pub record HasReported (c : Case) (events : List Formula) (depth size : ℕ) (stem : Text) (s : Status) (before after : Told)
+    (said now : Said) : Type 0 where
   pub analyses : List Analysis
   pub reported : AreReported c depth size stem 1 events analyses before after said now
   pub ends : s ≡ ended_with_all (map (λ a. a.ending) analyses)
@@ -54,8 +55,10 @@ HasAnalysedEach c events depth size extended stem s before after said now =
 
 -- What the files of an analysis of several events came to: the first refusal is the line that was said, and no file changed; or the
 -- files hold a case and top events of it, and each event was analysed.
-pub data AnswersEach (files : List NamedFile) (model faults tops : Text) (depth : ℕ) (extended stem : Text) (size : Option ℕ) (s : Status) (before after : Told) (said now : Said) : Type 0 where
-  is_refused : (r : Refusal) → RefusesTable files model faults tops r → s ≡ status_of r → after ≡ before → now ≡ said_more said (refusal_text r) →
+pub data AnswersEach (files : List NamedFile) (model faults tops : Text) (depth : ℕ) (extended stem : Text) (size : Option ℕ) (s : Status)
+    (before after : Told) (said now : Said) : Type 0 where
+  is_refused : (r : Refusal) → RefusesTable files model faults tops r → s ≡ status_of r → after ≡ before →
+      now ≡ said_more said (refusal_text r) →
       AnswersEach files model faults tops depth extended stem size s before after said now
   are_analysed : (c : Case) (events : List Formula) → HoldsCase files model faults c → HoldsTops files tops c.program events →
       HasAnalysedEach c events depth (size_for size (length c.faults)) extended stem s before after said now →
@@ -64,6 +67,9 @@ pub data AnswersEach (files : List NamedFile) (model faults tops : Text) (depth 
 -- What the words came to: those of another verb or of none are refused, and those of an analysis were carried out, with the word of the
 -- top event as the name of a file of them, and the name of the certificate as the beginning of the names.
 pub data HasAnsweredEach (files : List NamedFile) (words : List Text) (s : Status) (before after : Told) (said now : Said) : Type 0 where
-  refuses_words : (f : WordFault) → s ≡ status.Words f → after ≡ before → now ≡ said_more said (words_text f) → HasAnsweredEach files words s before after said now
-  answers : (model faults tops extended stem : Text) (depth : ℕ) (size : Option ℕ) → AsksToAnalyse words model faults tops depth extended stem size →
-      AnswersEach files model faults tops depth extended stem size s before after said now → HasAnsweredEach files words s before after said now
+  refuses_words : (f : WordFault) → s ≡ status.Words f → after ≡ before → now ≡ said_more said (words_text f) →
+      HasAnsweredEach files words s before after said now
+  answers : (model faults tops extended stem : Text) (depth : ℕ) (size : Option ℕ) →
+      AsksToAnalyse words model faults tops depth extended stem size →
+      AnswersEach files model faults tops depth extended stem size s before after said now →
+      HasAnsweredEach files words s before after said now

@@ -8,7 +8,7 @@ use Rattle.verb_loading.specs.declared.status.Status.{Status}
 use Rattle.verb_loading.specs.declared.status.Status.TheVariants as status
 use Rattle.verb_loading.specs.Statuses.{ended_with}
 use Rattle.verb_loading.specs.Cases.{Case}
-use Rattle.cut_model_search.specs.Found.{size_for, IsFound}
+use Rattle.cut_model_search.specs.CaseAnalysis.{size_for, IsFound}
 use Rattle.verb_run.specs.Analyses.{report_of}
 use Rattle.verb_run.specs.Findings.{IsCertifiedAs}
 use Rattle.verb_run.specs.Tables.{tabulated_case, tabulated_events}

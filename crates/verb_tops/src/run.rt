@@ -29,7 +29,8 @@ pub fn run_each<D: Desk>(
 ) -> Status
     // Unless the desk failed or memory ran out, the words were refused, or the whole of what the files come to stands.
     ensures answered { IsAnswer result → IfSome (D.files desk.old) (λ files.
-        HasAnsweredEach files (map (λ w. w.now) words.now) result (D.files desk.old) (D.files desk.new) (D.said desk.old) (D.said desk.new)) }
+        HasAnsweredEach files (map (λ w. w.now) words.now) result (D.files desk.old) (D.files desk.new) (D.said desk.old)
+        (D.said desk.new)) }
     // The desk's status comes only where its count of faults rose.
     ensures failed { result ≡ Status.Desk → Rose (D.faults desk.old) (D.faults desk.new) }
     ensures later { D.faults desk.old ≤ D.faults desk.new }
@@ -41,7 +42,8 @@ pub fn run_each<D: Desk>(
 /// Reads the words, and carries out what they ask for.
 fn answer<D: Desk>(alloc: Global, words: &[&str], desk: &mut D, panel: &mut Panel) -> Status
     ensures answered { IsAnswer result → IfSome (D.files desk.old) (λ files.
-        HasAnsweredEach files (map (λ w. w.now) words.now) result (D.files desk.old) (D.files desk.new) (D.said desk.old) (D.said desk.new)) }
+        HasAnsweredEach files (map (λ w. w.now) words.now) result (D.files desk.old) (D.files desk.new) (D.said desk.old)
+        (D.said desk.new)) }
     ensures failed { result ≡ Status.Desk → Rose (D.faults desk.old) (D.faults desk.new) }
     ensures later { D.faults desk.old ≤ D.faults desk.new }
     ensures quiet { D.quiet desk.old → D.quiet desk.new × (D.faults desk.new ≡ D.faults desk.old) }
@@ -56,7 +58,8 @@ fn answer<D: Desk>(alloc: Global, words: &[&str], desk: &mut D, panel: &mut Pane
 /// Reads the three files, writes the extension, searches for each event, and prints the reports.
 fn analyse_each<D: Desk>(alloc: Global, desk: &mut D, asked: &Analyse, panel: &mut Panel) -> Status
     ensures answered { IsAnswer result → IfSome (D.files desk.old) (λ files.
-        AnswersEach files asked.now.model.now asked.now.faults.now asked.now.top.now asked.now.depth asked.now.extended.now asked.now.cert.now asked.now.size
+        AnswersEach files asked.now.model.now asked.now.faults.now asked.now.top.now asked.now.depth asked.now.extended.now
+        asked.now.cert.now asked.now.size
         result (D.files desk.old) (D.files desk.new) (D.said desk.old) (D.said desk.new)) }
     ensures failed { result ≡ Status.Desk → Rose (D.faults desk.old) (D.faults desk.new) }
     ensures later { D.faults desk.old ≤ D.faults desk.new }

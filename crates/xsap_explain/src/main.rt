@@ -26,7 +26,7 @@ const LONGEST_FILE: u64 = 268_435_456;
 
 /// How a run ends, by the number that the system gets; from 7 on as for `xsap_program`.
 #[derive(Clone, Copy)]
-enum End {
+enum ExplainEnd {
     /// The line is explained.
     Explained = 0,
     /// The words are not `explain FILE`.
@@ -45,30 +45,30 @@ enum End {
 
 /// Why a run could not go on.
 #[derive(Clone, Copy)]
-enum Stop {
+enum ExplainStop {
     Failed,
     Memory,
 }
 
-impl From<io::Error> for Stop {
-    fn from(error: io::Error) -> Stop {
+impl From<io::Error> for ExplainStop {
+    fn from(error: io::Error) -> ExplainStop {
         if error.kind() == ErrorKind::OutOfMemory {
-            Stop::Memory
+            ExplainStop::Memory
         } else {
-            Stop::Failed
+            ExplainStop::Failed
         }
     }
 }
 
-impl From<AllocError> for Stop {
-    fn from(_refused: AllocError) -> Stop {
-        Stop::Memory
+impl From<AllocError> for ExplainStop {
+    fn from(_refused: AllocError) -> ExplainStop {
+        ExplainStop::Memory
     }
 }
 
-impl From<OutOfMemory> for Stop {
-    fn from(_refused: OutOfMemory) -> Stop {
-        Stop::Memory
+impl From<OutOfMemory> for ExplainStop {
+    fn from(_refused: OutOfMemory) -> ExplainStop {
+        ExplainStop::Memory
     }
 }
 
@@ -77,29 +77,33 @@ fn main(rt: HostRuntime) -> ExitCode {
     let end = match env::args(&rt) {
         Ok(args) => match args.skip(1).collect::<Vec<String>>(alloc) {
             Ok(words) => end_of(&rt, alloc, &words),
-            Err(AllocError) => End::Memory,
+            Err(AllocError) => ExplainEnd::Memory,
         },
-        Err(error) if error.kind() == ErrorKind::OutOfMemory => End::Memory,
-        Err(_) => End::NotText,
+        Err(error) if error.kind() == ErrorKind::OutOfMemory => ExplainEnd::Memory,
+        Err(_) => ExplainEnd::NotText,
     };
     ExitCode::from(end as u8)
 }
 
 /// How a run with these words ends.
-fn end_of<R: Files + Input + Print>(rt: &R, alloc: Global, words: &[String]) -> End {
+fn end_of<R: Files + Input + Print>(rt: &R, alloc: Global, words: &[String]) -> ExplainEnd {
     match run(rt, alloc, words) {
         Ok(end) => end,
-        Err(Stop::Failed) => End::Failed,
-        Err(Stop::Memory) => End::Memory,
+        Err(ExplainStop::Failed) => ExplainEnd::Failed,
+        Err(ExplainStop::Memory) => ExplainEnd::Memory,
     }
 }
 
 /// Explains the line on standard input, or says why it can't.
-fn run<R: Files + Input + Print>(rt: &R, alloc: Global, words: &[String]) -> Result<End, Stop> {
+fn run<R: Files + Input + Print>(
+    rt: &R,
+    alloc: Global,
+    words: &[String],
+) -> Result<ExplainEnd, ExplainStop> {
     let Some(name) = name_in(words) else {
         return ended(
             rt,
-            End::Words,
+            ExplainEnd::Words,
             b"The words are `explain FILE`, where FILE is what was refused.\n",
         );
     };
@@ -107,7 +111,7 @@ fn run<R: Files + Input + Print>(rt: &R, alloc: Global, words: &[String]) -> Res
         Some(explanation) => explained(rt, alloc, &explanation, name),
         None => ended(
             rt,
-            End::NoRefusal,
+            ExplainEnd::NoRefusal,
             b"The line on standard input is no refusal of xsap_program.\n",
         ),
     }
@@ -122,7 +126,7 @@ fn name_in(words: &[String]) -> Option<&str> {
 }
 
 /// Says a text, after which the run ends so.
-fn ended<R: Print>(rt: &R, end: End, text: &[u8]) -> Result<End, Stop> {
+fn ended<R: Print>(rt: &R, end: ExplainEnd, text: &[u8]) -> Result<ExplainEnd, ExplainStop> {
     rt.write_all(text)?;
     Ok(end)
 }
@@ -133,24 +137,24 @@ fn explained<R: Files + Print>(
     alloc: Global,
     explanation: &Explanation,
     name: &str,
-) -> Result<End, Stop> {
+) -> Result<ExplainEnd, ExplainStop> {
     if !explanation.needs_file() {
         let text = explanation.text(alloc, b"")?;
-        return ended(rt, End::Explained, text.as_slice());
+        return ended(rt, ExplainEnd::Explained, text.as_slice());
     }
     match bytes_of(rt, alloc, name) {
         Ok(file) => {
             let text = explanation.text(alloc, file.as_slice())?;
-            ended(rt, End::Explained, text.as_slice())
+            ended(rt, ExplainEnd::Explained, text.as_slice())
         }
-        Err(error) if error.kind() == ErrorKind::OutOfMemory => Err(Stop::Memory),
+        Err(error) if error.kind() == ErrorKind::OutOfMemory => Err(ExplainStop::Memory),
         Err(error) if error.kind() == ErrorKind::NotFound => {
             let text = format!(in alloc; "There is no file {name}.\n")?;
-            ended(rt, End::NoFile, text.as_bytes())
+            ended(rt, ExplainEnd::NoFile, text.as_bytes())
         }
         Err(_) => {
             let text = format!(in alloc; "The file {name} can't be read.\n")?;
-            ended(rt, End::NoFile, text.as_bytes())
+            ended(rt, ExplainEnd::NoFile, text.as_bytes())
         }
     }
 }
@@ -165,7 +169,7 @@ fn bytes_of<R: Files>(rt: &R, alloc: Global, name: &str) -> io::Result<Vec<u8>> 
 }
 
 /// The explanation of the first line on standard input, where it is a refusal.
-fn explanation_of<R: Input>(rt: &R, alloc: Global) -> Result<Option<Explanation>, Stop> {
+fn explanation_of<R: Input>(rt: &R, alloc: Global) -> Result<Option<Explanation>, ExplainStop> {
     let mut bytes = Vec::new(alloc);
     rt.reader().take(LONGEST_LINE).read_to_end(&mut bytes)?;
     let Ok(line) = from_utf8(first_line(bytes.as_slice())) else {

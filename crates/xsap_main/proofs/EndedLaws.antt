@@ -3,8 +3,8 @@ use Rattle.std.proofs.Common.{◌≡◌, ℕ, List}
 use Rattle.smv_language.specs.ProgramTree.{Text}
 use Rattle.verb_command_line.specs.declared.fault.WordFault.{WordFault}
 use Rattle.verb_loading.specs.declared.status.Status.TheVariants as status
-use Rattle.verb_loading.specs.Answered.{Told, Said}
-use Rattle.xsap_main.specs.Ended.{HasRun}
+use Rattle.verb_loading.specs.CaseAnswers.{Told, Said}
+use Rattle.xsap_main.specs.ProgramEnding.{HasRun}
 
 no_words : {P : Type 0} (f : WordFault) → status.Memory ≡ status.Words f → P
 no_words f e = cc

@@ -21,7 +21,7 @@
 #![tactic(auto)]
 
 ghost use Rattle.std.specs.Prelude.{IfOk, map};
-ghost use Rattle.xsap_main.specs.Ended.{HasRun, IsEnded};
+ghost use Rattle.xsap_main.specs.ProgramEnding.{HasRun, IsEnded};
 
 use base_files::Desk;
 use base_values::OutOfMemory;
@@ -77,7 +77,8 @@ fn ended<D: Desk>(alloc: Global, words: &[&str], desk: &mut D) -> u8
 /// The status of a run. Two advisers serve its searches: one in the order of the variables, one that prefers what was learned
 /// lately.
 fn advised<D: Desk>(alloc: Global, words: &[&str], desk: &mut D) -> Result<Status, OutOfMemory>
-    ensures { IfOk result (λ s. HasRun (map (λ w. w.now) words.now) s (D.files desk.old) (D.files desk.new) (D.said desk.old) (D.said desk.new)
+    ensures { IfOk result
+        (λ s. HasRun (map (λ w. w.now) words.now) s (D.files desk.old) (D.files desk.new) (D.said desk.old) (D.said desk.new)
         (D.faults desk.old) (D.faults desk.new)) }
 {
     let mut advisers: Vec<Box<dyn Adviser>> = Vec::new(alloc);

@@ -1,8 +1,8 @@
 -- Where a cause begins in its file.
 use Rattle.xsap_refusals.specs.declared.counting.Counter.{Counter}
 use Rattle.xsap_refusals.specs.declared.counting.Counter.TheVariants as counter
-use Rattle.xsap_refusals.specs.declared.counting.Role.{Role}
-use Rattle.xsap_refusals.specs.declared.counting.Role.TheVariants as role
+use Rattle.xsap_refusals.specs.declared.counting.ItemRole.{ItemRole}
+use Rattle.xsap_refusals.specs.declared.counting.ItemRole.TheVariants as role
 
 -- the next token begins an item of a list
 abbrev pub IsBetween : Counter → Type 0
@@ -10,6 +10,6 @@ IsBetween counter.List = Unit {0}
 IsBetween _ = ⊥
 
 -- the token is the first one of an item
-abbrev pub IsFirst : Role → Type 0
+abbrev pub IsFirst : ItemRole → Type 0
 IsFirst role.First = Unit {0}
 IsFirst _ = ⊥

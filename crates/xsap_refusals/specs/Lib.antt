@@ -1,4 +1,4 @@
 -- What contracts of this crate cite.
 pub mod Items
 pub mod Lines
-pub mod Spelled
+pub mod RefusalLines

@@ -1,14 +1,13 @@
 //! Which tokens begin the items of a file, and which belong to them. A file whose items are counted was read as a whole, so that its
 //! tokens spell a model, instructions, top events or causes; and then a few words tell where each item begins.
-
 ghost use Rattle.std.specs.Prelude.{◌≡◌, ◌↔◌, codes};
 ghost use Rattle.xsap_refusals.specs.Items.{IsBetween, IsFirst};
 
-use crate::finding::Items;
+use crate::finding::ItemsKind;
 
 /// What a token is to the items of its file.
 #[derive(Clone, Copy)]
-pub(crate) enum Role {
+pub(crate) enum ItemRole {
     /// It is the first one of an item.
     First,
     /// It belongs to the item that began last.
@@ -44,21 +43,21 @@ pub(crate) enum Counter {
 
 impl Counter {
     /// The state before the first token of a file.
-    pub(crate) fn new(items: Items) -> Counter {
+    pub(crate) fn new(items: ItemsKind) -> Counter {
         match items {
-            Items::Model => Counter::Outside,
-            Items::Faults => Counter::Between,
-            Items::Events | Items::Causes => Counter::List,
+            ItemsKind::Model => Counter::Outside,
+            ItemsKind::Faults => Counter::Between,
+            ItemsKind::Events | ItemsKind::Causes => Counter::List,
         }
     }
 
     /// Takes the next token of a file with these items, and tells what it is to them.
-    pub(crate) fn take(&mut self, items: Items, token: &[u8]) -> Role {
+    pub(crate) fn take(&mut self, items: ItemsKind, token: &[u8]) -> ItemRole {
         let (next, role) = match items {
-            Items::Model => in_model(*self, token),
-            Items::Faults => in_faults(*self, token),
-            Items::Events => in_list(*self, token),
-            Items::Causes => in_causes(*self, token),
+            ItemsKind::Model => in_model(*self, token),
+            ItemsKind::Faults => in_faults(*self, token),
+            ItemsKind::Events => in_list(*self, token),
+            ItemsKind::Causes => in_causes(*self, token),
         };
         *self = next;
         role
@@ -66,37 +65,40 @@ impl Counter {
 }
 
 /// A token of a model: each header, each item of a list, and each section without a list is one item.
-fn in_model(before: Counter, token: &[u8]) -> (Counter, Role) {
+fn in_model(before: Counter, token: &[u8]) -> (Counter, ItemRole) {
     match token {
-        b"MODULE" | b"CONSTANTS" | b"INIT" | b"INVAR" | b"TRANS" => (Counter::Section, Role::First),
-        b"VAR" | b"IVAR" | b"FROZENVAR" | b"DEFINE" | b"ASSIGN" => (Counter::List, Role::Outer),
+        b"MODULE" | b"CONSTANTS" | b"INIT" | b"INVAR" | b"TRANS" => (
+            Counter::Section,
+            ItemRole::First,
+        ),
+        b"VAR" | b"IVAR" | b"FROZENVAR" | b"DEFINE" | b"ASSIGN" => (Counter::List, ItemRole::Outer),
         b"CTLSPEC" | b"SPEC" | b"LTLSPEC" | b"PSLSPEC" | b"INVARSPEC" | b"COMPUTE" => {
-            (Counter::Outside, Role::Outer)
+            (Counter::Outside, ItemRole::Outer)
         }
         _ => in_list(before, token),
     }
 }
 
 /// A token that begins no section.
-fn in_list(before: Counter, token: &[u8]) -> (Counter, Role) {
+fn in_list(before: Counter, token: &[u8]) -> (Counter, ItemRole) {
     match before {
-        Counter::List => (in_item(0, token), Role::First),
-        Counter::Listed(depth) => (in_item(depth, token), Role::Inner),
-        Counter::Section => (Counter::Section, Role::Inner),
-        _ => (Counter::Outside, Role::Outer),
+        Counter::List => (in_item(0, token), ItemRole::First),
+        Counter::Listed(depth) => (in_item(depth, token), ItemRole::Inner),
+        Counter::Section => (Counter::Section, ItemRole::Inner),
+        _ => (Counter::Outside, ItemRole::Outer),
     }
 }
 
 /// A token of a file of causes. No cause has a `case`, and each ends at its `;`.
-fn in_causes(before: Counter, token: &[u8]) -> (Counter, Role)
+fn in_causes(before: Counter, token: &[u8]) -> (Counter, ItemRole)
     // The token behind begins a cause exactly where this one is a `;`.
     ensures ends { IsBetween result.0 ↔ (token.now ≡ codes ";") }
     // This token begins one exactly where one could begin.
     ensures first { IsFirst result.1 ↔ IsBetween before }
 {
     let role = match before {
-        Counter::List => Role::First,
-        _ => Role::Inner,
+        Counter::List => ItemRole::First,
+        _ => ItemRole::Inner,
     };
     match token {
         b";" => (Counter::List, role),
@@ -115,18 +117,18 @@ fn in_item(depth: u32, token: &[u8]) -> Counter {
 }
 
 /// A token of instructions. Their words are names elsewhere, so a SLICE and an EXTENSION are told by the number of their tokens.
-fn in_faults(before: Counter, token: &[u8]) -> (Counter, Role) {
+fn in_faults(before: Counter, token: &[u8]) -> (Counter, ItemRole) {
     match before {
-        Counter::Heading(0) => (Counter::Between, Role::Outer),
-        Counter::Heading(left) => (Counter::Heading(left.saturating_sub(1)), Role::Outer),
-        Counter::Counted(0) => (Counter::Between, Role::Inner),
-        Counter::Counted(left) => (Counter::Counted(left.saturating_sub(1)), Role::Inner),
-        Counter::Slice(0) => (behind_variable(token), Role::Inner),
-        Counter::Slice(left) => (Counter::Slice(left.saturating_sub(1)), Role::Inner),
-        Counter::Mode(0) => (behind_name(token), Role::Inner),
-        Counter::Mode(left) => (Counter::Mode(left.saturating_sub(1)), Role::Inner),
-        Counter::Mark => (in_mark(token), Role::Inner),
-        Counter::Listed(depth) => (in_mode(depth, token), Role::Inner),
+        Counter::Heading(0) => (Counter::Between, ItemRole::Outer),
+        Counter::Heading(left) => (Counter::Heading(left.saturating_sub(1)), ItemRole::Outer),
+        Counter::Counted(0) => (Counter::Between, ItemRole::Inner),
+        Counter::Counted(left) => (Counter::Counted(left.saturating_sub(1)), ItemRole::Inner),
+        Counter::Slice(0) => (behind_variable(token), ItemRole::Inner),
+        Counter::Slice(left) => (Counter::Slice(left.saturating_sub(1)), ItemRole::Inner),
+        Counter::Mode(0) => (behind_name(token), ItemRole::Inner),
+        Counter::Mode(left) => (Counter::Mode(left.saturating_sub(1)), ItemRole::Inner),
+        Counter::Mark => (in_mark(token), ItemRole::Inner),
+        Counter::Listed(depth) => (in_mode(depth, token), ItemRole::Inner),
         _ => begun(token),
     }
 }
@@ -164,11 +166,11 @@ fn in_mode(depth: u32, token: &[u8]) -> Counter {
 }
 
 /// A token that begins an item of instructions, or `FAULT EXTENSION name` before all of them.
-fn begun(token: &[u8]) -> (Counter, Role) {
+fn begun(token: &[u8]) -> (Counter, ItemRole) {
     match token {
-        b"EXTENSION" => (Counter::Counted(2), Role::First),
-        b"SLICE" => (Counter::Slice(3), Role::First),
-        b"MODE" => (Counter::Mode(1), Role::First),
-        _ => (Counter::Heading(1), Role::Outer),
+        b"EXTENSION" => (Counter::Counted(2), ItemRole::First),
+        b"SLICE" => (Counter::Slice(3), ItemRole::First),
+        b"MODE" => (Counter::Mode(1), ItemRole::First),
+        _ => (Counter::Heading(1), ItemRole::Outer),
     }
 }

@@ -2,15 +2,14 @@
 //!
 //! [`look_up`] finds what a refusal means and how its place is found, and [`Explanation::text`] makes the text, with the place as it
 //! stands in the refused file.
-
 ghost use Rattle.std.specs.Prelude.{◌≡◌, ◌++◌, IfOk, IfSome, List, ℕ, string_bytes};
-ghost use Rattle.xsap_refusals.specs.Spelled.{head_text, place_of};
+ghost use Rattle.xsap_refusals.specs.RefusalLines.{head_text, place_of};
 
-use crate::finding::{Items, Shown, finding_of, shown_of};
+use crate::finding::{ItemsKind, ShownPlace, finding_of, shown_of};
 use crate::items::{between, find_item};
 use crate::lines::spot_of;
 use crate::meanings::meaning;
-use crate::refusal::Refusal;
+use crate::refusal::RefusalLine;
 use crate::showing::{append_line, append_spot, append_text, line_of_moment, line_of_number};
 use smv_lexer::OutOfMemory;
 use std::alloc::Global;
@@ -21,11 +20,11 @@ pub struct Explanation {
     pub meaning: &'static str,
     pub place: u64,
     pub found: &'static str,
-    shown: Shown,
+    shown: ShownPlace,
 }
 
 /// What a refusal means, where it is one that the program says.
-pub fn look_up(refusal: &Refusal) -> Option<Explanation>
+pub fn look_up(refusal: &RefusalLine) -> Option<Explanation>
     ensures { IfSome result (λ explanation. explanation.place ≡ place_of refusal.now) }
 {
     let meaning = meaning(refusal)?;
@@ -40,13 +39,14 @@ pub fn look_up(refusal: &Refusal) -> Option<Explanation>
 impl Explanation {
     /// Whether the place lies in the file, so that the text needs its bytes.
     pub fn needs_file(&self) -> bool {
-        !matches!(self.shown, Shown::Nothing)
+        !matches!(self.shown, ShownPlace::Nothing)
     }
 
     /// The meaning, the place, how it is found, and the place in the file with these bytes, where it lies there; each line ends with
     /// a line feed.
     pub fn text(&self, alloc: Global, file: &[u8]) -> Result<Vec<u8>, OutOfMemory>
-        ensures { IfOk result (λ text. (more : List ℕ) × (text.items ≡ head_text self.now.meaning.now self.now.place self.now.found.now ++ more)) }
+        ensures { IfOk result (λ text. (more : List ℕ)
+            × (text.items ≡ head_text self.now.meaning.now self.now.place self.now.found.now ++ more)) }
     {
         let head = head(alloc, self.meaning, self.place, self.found)?;
         let more = place_text(alloc, &self.shown, file)?;
@@ -65,14 +65,14 @@ fn head(alloc: Global, meaning: &str, place: u64, found: &str) -> Result<String,
 }
 
 /// The lines that show a place in a file.
-fn place_text(alloc: Global, shown: &Shown, file: &[u8]) -> Result<Vec<u8>, OutOfMemory> {
+fn place_text(alloc: Global, shown: &ShownPlace, file: &[u8]) -> Result<Vec<u8>, OutOfMemory> {
     let mut text = Vec::new(alloc);
     match *shown {
-        Shown::Nothing => {}
-        Shown::Byte(at) => append_byte(alloc, &mut text, file, at)?,
-        Shown::Item(items, number) => append_item(alloc, &mut text, file, items, number)?,
-        Shown::Line(number) => append_numbered(alloc, &mut text, file, number)?,
-        Shown::Moment(number) => append_moment(alloc, &mut text, file, number)?,
+        ShownPlace::Nothing => {}
+        ShownPlace::Byte(at) => append_byte(alloc, &mut text, file, at)?,
+        ShownPlace::Item(items, number) => append_item(alloc, &mut text, file, items, number)?,
+        ShownPlace::Line(number) => append_numbered(alloc, &mut text, file, number)?,
+        ShownPlace::Moment(number) => append_moment(alloc, &mut text, file, number)?,
     }
     Ok(text)
 }
@@ -99,13 +99,13 @@ fn append_item(
     alloc: Global,
     text: &mut Vec<u8>,
     file: &[u8],
-    items: Items,
+    items: ItemsKind,
     number: u64,
 ) -> Result<(), OutOfMemory> {
     let name = match items {
-        Items::Model | Items::Faults => "item",
-        Items::Events => "top event",
-        Items::Causes => "cause",
+        ItemsKind::Model | ItemsKind::Faults => "item",
+        ItemsKind::Events => "top event",
+        ItemsKind::Causes => "cause",
     };
     let Some(item) = find_item(alloc, file, items, number)? else {
         let head = format!(in alloc; "the file has no {name} {number}\n")?;

@@ -1,10 +1,9 @@
 //! How the place of a refusal is found, and what is shown of a file there. The table in docs/MANUAL.md on how a place is found has
 //! the same sentences, word for word and in this order; `tools/meanings` compares the two.
-
 ghost use Rattle.std.specs.Prelude.{◌≡◌, ◌<◌};
-ghost use Rattle.xsap_refusals.specs.declared.finding.Shown.TheVariants as shown;
+ghost use Rattle.xsap_refusals.specs.declared.finding.ShownPlace.TheVariants as shown;
 
-use crate::refusal::{Part, Refusal, Subject};
+use crate::refusal::{RefusalLine, RefusedPart, Subject};
 
 /// How a place is found: a row of the manual's table.
 #[derive(Clone, Copy)]
@@ -27,7 +26,7 @@ pub(crate) enum Finding {
 
 /// What the items of a file are.
 #[derive(Clone, Copy)]
-pub(crate) enum Items {
+pub(crate) enum ItemsKind {
     /// Headers, declarations, defines, assignments and sections of a model.
     Model,
     /// EXTENSION, SLICE and MODE of instructions.
@@ -40,10 +39,10 @@ pub(crate) enum Items {
 
 /// What is shown of a file: a byte, counted from 0, an item or a line, from 1, or the line at which a moment begins, from 0.
 #[derive(Clone, Copy)]
-pub(crate) enum Shown {
+pub(crate) enum ShownPlace {
     Nothing,
     Byte(u64),
-    Item(Items, u64),
+    Item(ItemsKind, u64),
     Line(u64),
     Moment(u64),
 }
@@ -60,7 +59,8 @@ impl Finding {
             Finding::FaultsItem =>
                 "the number of the item; 0 for the limits of the extension, `flat 14` and `type 9`",
             Finding::EventByte =>
-                "bytes from the beginning of the word, or of the file, the first being 0; for `parse 2` the number of bytes; for `parse 3` it is 0",
+                "bytes from the beginning of the word, or of the file, the first being 0; for `parse 2` the number of bytes; for `parse \
+                    3` it is 0",
             Finding::Event => "0 for a word; in a file the number of the top event, from 1",
             Finding::Count => "65; of a set the position of the number in it, from 1",
             Finding::Cause =>
@@ -76,22 +76,26 @@ impl Finding {
 }
 
 /// How the place of a refusal is found.
-pub(crate) fn finding_of(refusal: &Refusal) -> Finding {
+pub(crate) fn finding_of(refusal: &RefusalLine) -> Finding {
     match *refusal {
-        Refusal::Words { .. } => Finding::Word,
-        Refusal::File { subject, part, .. } => match part {
-            Part::Absent => Finding::Absent,
-            Part::Length => Finding::Length,
-            Part::Lex | Part::Parse if subject == Subject::Top => Finding::EventByte,
-            Part::Lex | Part::Parse => Finding::Byte,
-            Part::Count => Finding::Count,
-            Part::Cause => Finding::Cause,
-            Part::Read if subject == Subject::Cert => Finding::CertLine,
-            Part::Read => Finding::TraceLine,
-            Part::Flat | Part::Kinds | Part::Weave | Part::Effect | Part::Mark => item_of(subject),
+        RefusalLine::Words { .. } => Finding::Word,
+        RefusalLine::File { subject, part, .. } => match part {
+            RefusedPart::Absent => Finding::Absent,
+            RefusedPart::Length => Finding::Length,
+            RefusedPart::Lex | RefusedPart::Parse if subject == Subject::Top => Finding::EventByte,
+            RefusedPart::Lex | RefusedPart::Parse => Finding::Byte,
+            RefusedPart::Count => Finding::Count,
+            RefusedPart::Cause => Finding::Cause,
+            RefusedPart::Read if subject == Subject::Cert => Finding::CertLine,
+            RefusedPart::Read => Finding::TraceLine,
+            RefusedPart::Flat
+            | RefusedPart::Kinds
+            | RefusedPart::Weave
+            | RefusedPart::Effect
+            | RefusedPart::Mark => item_of(subject),
         },
-        Refusal::Moment { .. } => Finding::Moment,
-        Refusal::Line { .. } => Finding::CertRule,
+        RefusalLine::Moment { .. } => Finding::Moment,
+        RefusalLine::Line { .. } => Finding::CertRule,
     }
 }
 
@@ -106,48 +110,49 @@ fn item_of(subject: Subject) -> Finding {
 }
 
 /// What is shown of the file of a refusal. A set is a word.
-pub(crate) fn shown_of(refusal: &Refusal) -> Shown {
+pub(crate) fn shown_of(refusal: &RefusalLine) -> ShownPlace {
     match *refusal {
-        Refusal::Words { .. } => Shown::Nothing,
-        Refusal::File {
+        RefusalLine::Words { .. } => ShownPlace::Nothing,
+        RefusalLine::File {
             subject: Subject::Set,
             ..
-        } => Shown::Nothing,
-        Refusal::File {
+        } => ShownPlace::Nothing,
+        RefusalLine::File {
             part,
             number,
             place,
             ..
         } => shown_at(finding_of(refusal), part, number, place),
-        Refusal::Moment { moment, .. } => Shown::Moment(moment),
-        Refusal::Line { line, .. } => Shown::Line(line),
+        RefusalLine::Moment { moment, .. } => ShownPlace::Moment(moment),
+        RefusalLine::Line { line, .. } => ShownPlace::Line(line),
     }
 }
 
 /// What is shown at a place that is found in this way.
-fn shown_at(finding: Finding, part: Part, number: u32, place: u64) -> Shown {
+fn shown_at(finding: Finding, part: RefusedPart, number: u32, place: u64) -> ShownPlace {
     match finding {
-        Finding::Byte | Finding::EventByte if part == Part::Parse && number == 3 => Shown::Nothing,
-        Finding::Byte | Finding::EventByte => Shown::Byte(place),
-        Finding::ModelItem => shown_item(Items::Model, place),
-        Finding::FaultsItem => shown_item(Items::Faults, place),
-        Finding::Event | Finding::Count => shown_item(Items::Events, place),
-        Finding::Cause => shown_item(Items::Causes, place),
-        Finding::TraceLine if number == 4 => Shown::Moment(place),
-        Finding::TraceLine | Finding::CertLine => Shown::Line(place),
+        Finding::Byte | Finding::EventByte if part == RefusedPart::Parse && number == 3 =>
+            ShownPlace::Nothing,
+        Finding::Byte | Finding::EventByte => ShownPlace::Byte(place),
+        Finding::ModelItem => shown_item(ItemsKind::Model, place),
+        Finding::FaultsItem => shown_item(ItemsKind::Faults, place),
+        Finding::Event | Finding::Count => shown_item(ItemsKind::Events, place),
+        Finding::Cause => shown_item(ItemsKind::Causes, place),
+        Finding::TraceLine if number == 4 => ShownPlace::Moment(place),
+        Finding::TraceLine | Finding::CertLine => ShownPlace::Line(place),
         Finding::Absent | Finding::Length | Finding::Moment | Finding::CertRule | Finding::Word =>
-            Shown::Nothing,
+            ShownPlace::Nothing,
     }
 }
 
 /// The item of a number, and nothing for 0.
-fn shown_item(items: Items, number: u64) -> Shown
+fn shown_item(items: ItemsKind, number: u64) -> ShownPlace
     ensures none { number ≡ 0 → result ≡ shown.Nothing }
     ensures item { 0 < number → result ≡ shown.Item items number }
 {
     if number == 0 {
-        Shown::Nothing
+        ShownPlace::Nothing
     } else {
-        Shown::Item(items, number)
+        ShownPlace::Item(items, number)
     }
 }

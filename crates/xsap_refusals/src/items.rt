@@ -3,14 +3,14 @@
 //! The main function is [`find_item`]; which tokens begin an item is decided in `counting`.
 ghost use Rattle.std.specs.Prelude.{◌≡◌, ◌≤◌, length, slice_range};
 
-use crate::counting::{Counter, Role};
-use crate::finding::Items;
+use crate::counting::{Counter, ItemRole};
+use crate::finding::ItemsKind;
 use smv_lexer::{LexFault, OutOfMemory, Token, tokens};
 use std::alloc::Global;
 
 /// Where an item stands in its file, in bytes from 0.
 #[derive(Clone, Copy)]
-pub(crate) struct Item {
+pub(crate) struct ItemExtent {
     pub(crate) start: usize,
     pub(crate) end: usize,
 }
@@ -19,9 +19,9 @@ pub(crate) struct Item {
 pub(crate) fn find_item(
     alloc: Global,
     bytes: &[u8],
-    items: Items,
+    items: ItemsKind,
     number: u64,
-) -> Result<Option<Item>, OutOfMemory> {
+) -> Result<Option<ItemExtent>, OutOfMemory> {
     if bytes.len() > u32::MAX as usize {
         return Ok(None);
     }
@@ -33,7 +33,7 @@ pub(crate) fn find_item(
 }
 
 /// The item of a number among the tokens of a file: from its first token to its last one.
-fn item_among(bytes: &[u8], tokens: &[Token], items: Items, number: u64) -> Option<Item> {
+fn item_among(bytes: &[u8], tokens: &[Token], items: ItemsKind, number: u64) -> Option<ItemExtent> {
     let mut counter = Counter::new(items);
     let mut count: u64 = 0;
     let mut found = None;
@@ -41,10 +41,10 @@ fn item_among(bytes: &[u8], tokens: &[Token], items: Items, number: u64) -> Opti
         let start = token.start as usize;
         let end = token.end as usize;
         let role = counter.take(items, between(bytes, start, end));
-        if matches!(role, Role::First) {
+        if matches!(role, ItemRole::First) {
             count = count.saturating_add(1);
         }
-        if count == number && !matches!(role, Role::Outer) {
+        if count == number && !matches!(role, ItemRole::Outer) {
             found = Some(grown(found, start, end));
         }
     }
@@ -52,13 +52,13 @@ fn item_among(bytes: &[u8], tokens: &[Token], items: Items, number: u64) -> Opti
 }
 
 /// The item so far, with one token more.
-fn grown(found: Option<Item>, start: usize, end: usize) -> Item {
+fn grown(found: Option<ItemExtent>, start: usize, end: usize) -> ItemExtent {
     match found {
-        Some(item) => Item {
+        Some(item) => ItemExtent {
             start: item.start,
             end,
         },
-        None => Item { start, end },
+        None => ItemExtent { start, end },
     }
 }
 

@@ -1,6 +1,6 @@
 //! What the lines mean by which `xsap_program` refuses its inputs.
 //!
-//! A line, as `refused model flat 8 at 2`, is read to a [`Refusal`] by [`read_refusal`], which takes exactly lines that spell one.
+//! A line, as `refused model flat 8 at 2`, is read to a [`RefusalLine`] by [`read_refusal`], which takes exactly lines that spell one.
 //! [`look_up`] finds what it means and how its place is found, in the words of docs/MANUAL.md, where the program says such a line at
 //! all; and [`Explanation::text`] makes the text, with the place in the bytes of the file that was refused. [`spot_of`] is the one
 //! rule on lines and columns. Items are counted by tokens (`counting`): that is right for files that the program could read, since
@@ -24,6 +24,6 @@ mod refusal;
 mod showing;
 
 pub use explanation::{Explanation, look_up};
-pub use lines::{Spot, spot_of};
+pub use lines::{FileSpot, spot_of};
 pub use reading::read_refusal;
-pub use refusal::{Part, Refusal, Subject, Why};
+pub use refusal::{MomentReason, RefusalLine, RefusedPart, Subject};

@@ -8,14 +8,14 @@ ghost use Rattle.xsap_refusals.specs.Lines.{is_feed, feeds_before, since_feed, u
 
 /// A place in a file: its line and its column, in bytes, both from 1, and the line without its line feed.
 #[derive(Clone, Copy, Debug)]
-pub struct Spot<'a> {
+pub struct FileSpot<'a> {
     pub line: usize,
     pub column: usize,
     pub text: &'a [u8],
 }
 
 /// Where a byte stands, the first being 0. The place behind the last byte has a spot too, and one beyond has none.
-pub fn spot_of(bytes: &[u8], at: usize) -> Option<Spot<'_>>
+pub fn spot_of(bytes: &[u8], at: usize) -> Option<FileSpot<'_>>
     ensures beyond { IsNone result ↔ (length bytes.now < at) }
     // The line is by one above the number of line feeds before the place.
     ensures line { IfSome result (λ spot. spot.line ≡ feeds_before bytes.now at + 1) }
@@ -30,7 +30,7 @@ pub fn spot_of(bytes: &[u8], at: usize) -> Option<Spot<'_>>
     let (before, after) = bytes.split_at(at);
     let column = since_feed(before);
     let end = at + until_feed(after);
-    Some(Spot {
+    Some(FileSpot {
         line: feeds(before) + 1,
         column: column + 1,
         text: &bytes[at - column..end],

@@ -1,26 +1,25 @@
 //! What each refusal means: one sentence for each part and number. The tables of refusals in docs/MANUAL.md have the same sentences
 //! under the same parts and numbers, word for word and in this order; `tools/meanings` compares the two. There is a function for each
 //! table; what several tables say stands once, in [`of_text`] and [`of_expressions`]. The main function is [`meaning`].
-
-use crate::refusal::{Part, Refusal, Subject, Why};
+use crate::refusal::{MomentReason, RefusalLine, RefusedPart, Subject};
 
 /// What a refusal means, where the program says this number of this part.
-pub(crate) fn meaning(refusal: &Refusal) -> Option<&'static str> {
+pub(crate) fn meaning(refusal: &RefusalLine) -> Option<&'static str> {
     match *refusal {
-        Refusal::Words { number, .. } => words(number),
-        Refusal::File {
+        RefusalLine::Words { number, .. } => words(number),
+        RefusalLine::File {
             subject,
             part,
             number,
             ..
         } => of_subject(subject, part, number),
-        Refusal::Moment { why, .. } => Some(moment(why)),
-        Refusal::Line { rule, .. } => line(rule),
+        RefusalLine::Moment { why, .. } => Some(moment(why)),
+        RefusalLine::Line { rule, .. } => line(rule),
     }
 }
 
 /// What a number of a part means where an input is refused.
-fn of_subject(subject: Subject, part: Part, number: u32) -> Option<&'static str> {
+fn of_subject(subject: Subject, part: RefusedPart, number: u32) -> Option<&'static str> {
     match subject {
         Subject::Model => model(part, number),
         Subject::Faults => faults(part, number),
@@ -42,7 +41,8 @@ fn words(number: u32) -> Option<&'static str> {
         5 => Some("an option is missing"),
         6 => Some("no word follows the option"),
         7 => Some(
-            "a number is no number of at most ten digits, or lies outside its limits; or the set is not two or more rising numbers from 1 to 256 with one space between; or the claim is none of `before`, `after`, `together` and `none`",
+            "a number is no number of at most ten digits, or lies outside its limits; or the set is not two or more rising numbers from 1 \
+                to 256 with one space between; or the claim is none of `before`, `after`, `together` and `none`",
         ),
         8 => Some("two files have one name"),
         9 => Some("a fault of an order is not in its set, or both are one"),
@@ -51,188 +51,197 @@ fn words(number: u32) -> Option<&'static str> {
 }
 
 /// What is said of the text of every file of tokens, but for what its own table says.
-fn of_text(part: Part, number: u32) -> Option<&'static str> {
+fn of_text(part: RefusedPart, number: u32) -> Option<&'static str> {
     match (part, number) {
-        (Part::Absent, 1) => Some("there is no such file"),
-        (Part::Length, 1) => Some("the file has more than 1,048,576 bytes"),
-        (Part::Lex, 1) => Some("no token and no blank begins here"),
-        (Part::Lex, 2) => Some("a comment is not closed"),
-        (Part::Lex, 3) => Some("a number is too big"),
-        (Part::Parse, 1) => Some("this token can't stand here; a `;` may be missing before it"),
-        (Part::Parse, 2) => Some("the file ends too soon"),
-        (Part::Parse, 4) => Some("this word is left out of the language"),
+        (RefusedPart::Absent, 1) => Some("there is no such file"),
+        (RefusedPart::Length, 1) => Some("the file has more than 1,048,576 bytes"),
+        (RefusedPart::Lex, 1) => Some("no token and no blank begins here"),
+        (RefusedPart::Lex, 2) => Some("a comment is not closed"),
+        (RefusedPart::Lex, 3) => Some("a number is too big"),
+        (RefusedPart::Parse, 1) => Some(
+            "this token can't stand here; a `;` may be missing before it",
+        ),
+        (RefusedPart::Parse, 2) => Some("the file ends too soon"),
+        (RefusedPart::Parse, 4) => Some("this word is left out of the language"),
         _ => None,
     }
 }
 
 /// What is said of the text and the expressions of an input, but for what its own table says.
-fn of_expressions(part: Part, number: u32) -> Option<&'static str> {
+fn of_expressions(part: RefusedPart, number: u32) -> Option<&'static str> {
     match (part, number) {
-        (Part::Kinds, 1) => Some("classes do not go together, or a number is needed"),
-        (Part::Kinds, 4) => Some("the divisor may be 0"),
-        (Part::Kinds, 5) => Some("a value may be beyond 32 bits"),
-        (Part::Kinds, 6) => Some("a range is empty"),
-        (Part::Kinds, 8) => Some("the last condition of a `case` is not the word TRUE"),
+        (RefusedPart::Kinds, 1) => Some("classes do not go together, or a number is needed"),
+        (RefusedPart::Kinds, 4) => Some("the divisor may be 0"),
+        (RefusedPart::Kinds, 5) => Some("a value may be beyond 32 bits"),
+        (RefusedPart::Kinds, 6) => Some("a range is empty"),
+        (RefusedPart::Kinds, 8) => Some("the last condition of a `case` is not the word TRUE"),
         _ => of_text(part, number),
     }
 }
 
 /// The model.
-fn model(part: Part, number: u32) -> Option<&'static str> {
+fn model(part: RefusedPart, number: u32) -> Option<&'static str> {
     match (part, number) {
-        (Part::Parse, 3) => Some(
+        (RefusedPart::Parse, 3) => Some(
             "an expression is higher, or parentheses are nested deeper, than 1,000",
         ),
-        (Part::Flat, 1) => Some("no module is `main`"),
-        (Part::Flat, 2) => Some("`main` has parameters"),
-        (Part::Flat, 3) => Some("a second module of the name"),
-        (Part::Flat, 4) => Some(
+        (RefusedPart::Flat, 1) => Some("no module is `main`"),
+        (RefusedPart::Flat, 2) => Some("`main` has parameters"),
+        (RefusedPart::Flat, 3) => Some("a second module of the name"),
+        (RefusedPart::Flat, 4) => Some(
             "a second formal, variable, define or instance of the name in the module",
         ),
-        (Part::Flat, 5) => Some("no such module"),
-        (Part::Flat, 6) => Some("another number of actuals than formals"),
-        (Part::Flat, 7) => Some("the module holds itself"),
-        (Part::Flat, 8) => Some(
+        (RefusedPart::Flat, 5) => Some("no such module"),
+        (RefusedPart::Flat, 6) => Some("another number of actuals than formals"),
+        (RefusedPart::Flat, 7) => Some("the module holds itself"),
+        (RefusedPart::Flat, 8) => Some(
             "a name means nothing, or an instance stands where a value is needed",
         ),
-        (Part::Flat, 9) => Some(
+        (RefusedPart::Flat, 9) => Some(
             "the target is no single name of the module's own state variable, or, with `init`, frozen variable",
         ),
-        (Part::Flat, 10) => Some("the target is assigned already for that time"),
-        (Part::Flat, 11) => Some("a definition needs itself, or a formal leads back to itself"),
-        (Part::Flat, 12) => Some(
+        (RefusedPart::Flat, 10) => Some("the target is assigned already for that time"),
+        (RefusedPart::Flat, 11) => Some(
+            "a definition needs itself, or a formal leads back to itself",
+        ),
+        (RefusedPart::Flat, 12) => Some(
             "`next` where it may not stand: in INIT, INVAR, DEFINE, an actual, `init` and `:=`, or under `next`",
         ),
-        (Part::Flat, 13) => Some(
+        (RefusedPart::Flat, 13) => Some(
             "an input where it may not stand, also through definitions: in INIT, INVAR, `init` and `:=`, or under `next`",
         ),
-        (Part::Flat, 14) => Some("more than 1,000 instances or 2,000 variables"),
-        (Part::Kinds, 2) => Some("a truth value is needed"),
-        (Part::Kinds, 3) => Some("a set where one value is needed"),
-        (Part::Kinds, 7) => Some("members are symbols and numbers"),
-        (Part::Kinds, 9) => Some(
+        (RefusedPart::Flat, 14) => Some("more than 1,000 instances or 2,000 variables"),
+        (RefusedPart::Kinds, 2) => Some("a truth value is needed"),
+        (RefusedPart::Kinds, 3) => Some("a set where one value is needed"),
+        (RefusedPart::Kinds, 7) => Some("members are symbols and numbers"),
+        (RefusedPart::Kinds, 9) => Some(
             "the model costs more than 50,000 or has more than 4,096 state bits",
         ),
-        (Part::Kinds, 10) => Some("a member stands twice"),
+        (RefusedPart::Kinds, 10) => Some("a member stands twice"),
         _ => of_expressions(part, number),
     }
 }
 
 /// The instructions.
-fn faults(part: Part, number: u32) -> Option<&'static str> {
+fn faults(part: RefusedPart, number: u32) -> Option<&'static str> {
     match (part, number) {
-        (Part::Parse, 3) => Some("a guard or `Follows` is too high or too deeply nested"),
-        (Part::Weave, 1) => Some("no such module"),
-        (Part::Weave, 2) => Some("the target is no declared name of the module"),
-        (Part::Weave, 3) => Some("the target is no variable of a VAR section with a finite type"),
-        (Part::Weave, 4) => Some("an earlier slice of the file has this name"),
-        (Part::Weave, 5) => Some("an earlier mode of the slice has this name"),
-        (Part::Weave, 6) => Some("an earlier slice affects the variable"),
-        (Part::Effect, 1) => Some(
+        (RefusedPart::Parse, 3) => Some("a guard or `Follows` is too high or too deeply nested"),
+        (RefusedPart::Weave, 1) => Some("no such module"),
+        (RefusedPart::Weave, 2) => Some("the target is no declared name of the module"),
+        (RefusedPart::Weave, 3) => Some(
+            "the target is no variable of a VAR section with a finite type",
+        ),
+        (RefusedPart::Weave, 4) => Some("an earlier slice of the file has this name"),
+        (RefusedPart::Weave, 5) => Some("an earlier mode of the slice has this name"),
+        (RefusedPart::Weave, 6) => Some("an earlier slice affects the variable"),
+        (RefusedPart::Effect, 1) => Some(
             "the effect is not for this type, or the constant of another class",
         ),
-        (Part::Effect, 2) => Some("a number of the effect lies outside"),
-        (Part::Effect, 3) => Some("the type has one value only"),
-        (Part::Weave, 8) => Some(
-            "a name that is added is taken, or a member of the variable's type is also a formal, variable, define or instance of the module",
+        (RefusedPart::Effect, 2) => Some("a number of the effect lies outside"),
+        (RefusedPart::Effect, 3) => Some("the type has one value only"),
+        (RefusedPart::Weave, 8) => Some(
+            "a name that is added is taken, or a member of the variable's type is also a formal, variable, define or instance of the \
+                module",
         ),
-        (Part::Weave, 9) => Some("more than 256 modes in a slice, or more than 256 faults"),
-        (Part::Flat, 8) => Some("a name of a guard or `Follows` means nothing"),
-        (Part::Flat, 12) => Some("`next` in a guard or `Follows`"),
-        (Part::Flat, 13) => Some("a `Follows` reaches an input"),
-        (Part::Kinds, 1) => Some(
+        (RefusedPart::Weave, 9) => Some("more than 256 modes in a slice, or more than 256 faults"),
+        (RefusedPart::Flat, 8) => Some("a name of a guard or `Follows` means nothing"),
+        (RefusedPart::Flat, 12) => Some("`next` in a guard or `Follows`"),
+        (RefusedPart::Flat, 13) => Some("a `Follows` reaches an input"),
+        (RefusedPart::Kinds, 1) => Some(
             "classes do not go together, or a number is needed; or what is followed is of another class than the variable",
         ),
-        (Part::Kinds, 2) => Some("a truth value is needed, as of a guard"),
-        (Part::Kinds, 3) => Some("a set where one value is needed, as behind `Follows`"),
-        (Part::Flat, 14) => Some("the extension has too many instances or variables"),
-        (Part::Kinds, 9) => Some("the extension costs too much or has too many state bits"),
-        (Part::Mark, 1) => Some("a mode has no mark, and the verb is odds"),
-        (Part::Mark, 2) => Some("a mark is no probability, and the verb is odds"),
+        (RefusedPart::Kinds, 2) => Some("a truth value is needed, as of a guard"),
+        (RefusedPart::Kinds, 3) => Some("a set where one value is needed, as behind `Follows`"),
+        (RefusedPart::Flat, 14) => Some("the extension has too many instances or variables"),
+        (RefusedPart::Kinds, 9) => Some("the extension costs too much or has too many state bits"),
+        (RefusedPart::Mark, 1) => Some("a mode has no mark, and the verb is odds"),
+        (RefusedPart::Mark, 2) => Some("a mark is no probability, and the verb is odds"),
         _ => of_expressions(part, number),
     }
 }
 
 /// The top event, or the file of top events.
-fn top(part: Part, number: u32) -> Option<&'static str> {
+fn top(part: RefusedPart, number: u32) -> Option<&'static str> {
     match (part, number) {
-        (Part::Absent, 1) => Some("there is no such file of top events"),
-        (Part::Length, 1) => Some(
+        (RefusedPart::Absent, 1) => Some("there is no such file of top events"),
+        (RefusedPart::Length, 1) => Some(
             "the word has more than 65,536 bytes, or the file more than 1,048,576",
         ),
-        (Part::Parse, 1) => Some("this token can't stand here"),
-        (Part::Parse, 2) => Some("the word or file ends too soon"),
-        (Part::Parse, 3) => Some(
+        (RefusedPart::Parse, 1) => Some("this token can't stand here"),
+        (RefusedPart::Parse, 2) => Some("the word or file ends too soon"),
+        (RefusedPart::Parse, 3) => Some(
             "the event is higher, or its parentheses are nested deeper, than 1,000",
         ),
-        (Part::Count, 1) => Some("the file has more than 64 top events"),
-        (Part::Flat, 8) => Some("a name means nothing in the model"),
-        (Part::Flat, 12) => Some("`next` stands in the event"),
-        (Part::Flat, 13) => Some("the event reaches an input"),
-        (Part::Kinds, 2) => Some("a truth value is needed, as of the event"),
-        (Part::Kinds, 3) => Some("a set where one value is needed, as of the event"),
-        (Part::Kinds, 9) => Some("the event costs more than 50,000"),
+        (RefusedPart::Count, 1) => Some("the file has more than 64 top events"),
+        (RefusedPart::Flat, 8) => Some("a name means nothing in the model"),
+        (RefusedPart::Flat, 12) => Some("`next` stands in the event"),
+        (RefusedPart::Flat, 13) => Some("the event reaches an input"),
+        (RefusedPart::Kinds, 2) => Some("a truth value is needed, as of the event"),
+        (RefusedPart::Kinds, 3) => Some("a set where one value is needed, as of the event"),
+        (RefusedPart::Kinds, 9) => Some("the event costs more than 50,000"),
         _ => of_expressions(part, number),
     }
 }
 
 /// The file and the text of a trace.
-fn trace(part: Part, number: u32) -> Option<&'static str> {
+fn trace(part: RefusedPart, number: u32) -> Option<&'static str> {
     match (part, number) {
-        (Part::Absent, 1) => Some("there is no such file"),
-        (Part::Length, 1) => Some("the file has more than 16,777,216 bytes"),
-        (Part::Read, 1) => Some(
+        (RefusedPart::Absent, 1) => Some("there is no such file"),
+        (RefusedPart::Length, 1) => Some("the file has more than 16,777,216 bytes"),
+        (RefusedPart::Read, 1) => Some(
             "a line is neither the next moment nor a value of one, or the last line has no line feed; or there is none",
         ),
-        (Part::Read, 2) => Some("no variable has the name"),
-        (Part::Read, 3) => Some("the variable has no such value"),
-        (Part::Read, 4) => Some("a value is missing, where all lines are right"),
-        (Part::Read, 5) => Some("the variable has a value at this moment already"),
+        (RefusedPart::Read, 2) => Some("no variable has the name"),
+        (RefusedPart::Read, 3) => Some("the variable has no such value"),
+        (RefusedPart::Read, 4) => Some("a value is missing, where all lines are right"),
+        (RefusedPart::Read, 5) => Some("the variable has a value at this moment already"),
         _ => None,
     }
 }
 
 /// A moment of a trace.
-fn moment(why: Why) -> &'static str {
+fn moment(why: MomentReason) -> &'static str {
     match why {
-        Why::First => "the first moment is none that a trace can begin with",
-        Why::Step => "no step leads to the moment",
-        Why::Top => "the event is FALSE at the last moment",
+        MomentReason::First => "the first moment is none that a trace can begin with",
+        MomentReason::Step => "no step leads to the moment",
+        MomentReason::Top => "the event is FALSE at the last moment",
     }
 }
 
 /// The file and the text of a certificate.
-fn cert(part: Part, number: u32) -> Option<&'static str> {
+fn cert(part: RefusedPart, number: u32) -> Option<&'static str> {
     match (part, number) {
-        (Part::Absent, 1) => Some("there is no such file"),
-        (Part::Length, 1) => Some("the file has more than 268,435,456 bytes"),
-        (Part::Read, 1) => Some(
+        (RefusedPart::Absent, 1) => Some("there is no such file"),
+        (RefusedPart::Length, 1) => Some("the file has more than 268,435,456 bytes"),
+        (RefusedPart::Read, 1) => Some(
             "the line does not have its form, or stands behind the end, or is the last one and has no line feed",
         ),
-        (Part::Read, 2) => Some("this line is missing"),
+        (RefusedPart::Read, 2) => Some("this line is missing"),
         _ => None,
     }
 }
 
 /// The file of causes, and the model that is staged for it.
-fn causes(part: Part, number: u32) -> Option<&'static str> {
+fn causes(part: RefusedPart, number: u32) -> Option<&'static str> {
     match (part, number) {
-        (Part::Cause, 1) => Some("a name is that of no fault"),
-        (Part::Cause, 2) => Some("an earlier cause has this name"),
-        (Part::Cause, 3) => Some("a fault is named twice"),
-        (Part::Cause, 4) => Some("a window is empty"),
-        (Part::Cause, 5) => Some("a window ends after 100"),
-        (Part::Cause, 6) => Some("more than 256 faults and causes"),
-        (Part::Cause, 7) => Some("a name that is added is taken"),
-        (Part::Kinds, 9) => Some("the staged model costs too much or has too many state bits"),
+        (RefusedPart::Cause, 1) => Some("a name is that of no fault"),
+        (RefusedPart::Cause, 2) => Some("an earlier cause has this name"),
+        (RefusedPart::Cause, 3) => Some("a fault is named twice"),
+        (RefusedPart::Cause, 4) => Some("a window is empty"),
+        (RefusedPart::Cause, 5) => Some("a window ends after 100"),
+        (RefusedPart::Cause, 6) => Some("more than 256 faults and causes"),
+        (RefusedPart::Cause, 7) => Some("a name that is added is taken"),
+        (RefusedPart::Kinds, 9) => Some(
+            "the staged model costs too much or has too many state bits",
+        ),
         _ => of_text(part, number),
     }
 }
 
 /// The set of an order.
-fn set(part: Part, number: u32) -> Option<&'static str> {
+fn set(part: RefusedPart, number: u32) -> Option<&'static str> {
     match (part, number) {
-        (Part::Count, 1) => Some("a number of the set is that of no fault"),
+        (RefusedPart::Count, 1) => Some("a number of the set is that of no fault"),
         _ => None,
     }
 }
@@ -252,7 +261,8 @@ fn line(rule: u32) -> Option<&'static str> {
         6 => Some("the trace does not reach the top event"),
         7 => Some("the trace has not failed exactly the faults of its set"),
         8 => Some(
-            "a literal of the invariant is no bit of a state, one of a step is above the highest variable that the step may have, or a literal stands beside its opposite",
+            "a literal of the invariant is no bit of a state, one of a step is above the highest variable that the step may have, or a \
+                literal stands beside its opposite",
         ),
         9 => Some(
             "a hint names no earlier clause, or one that is neither unit nor false at its turn, or one after the false one",

@@ -1,14 +1,14 @@
 //! Reads the line of a refusal. What its words seem to say is spelled anew, and taken only where that is the line itself; so the
 //! look at the words may be a rough one.
 ghost use Rattle.std.specs.Prelude.{◌≡◌, IfOk, IfSome};
-ghost use Rattle.xsap_refusals.specs.Spelled.{line_of};
+ghost use Rattle.xsap_refusals.specs.RefusalLines.{line_of};
 
-use crate::refusal::{Part, Refusal, Subject, Why};
+use crate::refusal::{MomentReason, RefusalLine, RefusedPart, Subject};
 use smv_lexer::OutOfMemory;
 use std::alloc::Global;
 
 /// The refusal of a line, without its line feed, where it is one's to the byte.
-pub fn read_refusal(alloc: Global, line: &str) -> Result<Option<Refusal>, OutOfMemory>
+pub fn read_refusal(alloc: Global, line: &str) -> Result<Option<RefusalLine>, OutOfMemory>
     ensures { IfOk result (λ read. IfSome read (λ refusal. line_of refusal ≡ line.now)) }
 {
     let Some(refusal) = guessed(line) else {
@@ -23,7 +23,7 @@ pub fn read_refusal(alloc: Global, line: &str) -> Result<Option<Refusal>, OutOfM
 }
 
 /// What the words of a line seem to say.
-fn guessed(line: &str) -> Option<Refusal> {
+fn guessed(line: &str) -> Option<RefusalLine> {
     let (first, rest) = first_word(line);
     match first {
         "refused" => refused(rest),
@@ -33,17 +33,17 @@ fn guessed(line: &str) -> Option<Refusal> {
 }
 
 /// A refusal by the words behind `refused`.
-fn refused(text: &str) -> Option<Refusal> {
+fn refused(text: &str) -> Option<RefusalLine> {
     let (subject, rest) = first_word(text);
     if subject == "words" {
         let (number, place) = number_and_place(rest)?;
-        return Some(Refusal::Words { number, place });
+        return Some(RefusalLine::Words { number, place });
     }
     let subject = Subject::named(subject)?;
     let (part, rest) = first_word(rest);
-    let part = Part::named(part)?;
+    let part = RefusedPart::named(part)?;
     let (number, place) = number_and_place(rest)?;
-    Some(Refusal::File {
+    Some(RefusalLine::File {
         subject,
         part,
         number,
@@ -61,20 +61,20 @@ fn number_and_place(text: &str) -> Option<(u32, u64)> {
 }
 
 /// An objection by the words behind `not`: `accepted moment i WHY` or `accepted line L rule R`.
-fn objected(text: &str) -> Option<Refusal> {
+fn objected(text: &str) -> Option<RefusalLine> {
     let (_, rest) = first_word(text);
     let (kind, rest) = first_word(rest);
     let (place, rest) = first_word(rest);
     let place = place.parse::<u64>().ok()?;
     match kind {
-        "moment" => Some(Refusal::Moment {
+        "moment" => Some(RefusalLine::Moment {
             moment: place,
-            why: Why::named(rest)?,
+            why: MomentReason::named(rest)?,
         }),
         "line" => {
             let (_, rule) = first_word(rest);
             let rule = rule.parse::<u32>().ok()?;
-            Some(Refusal::Line { line: place, rule })
+            Some(RefusalLine::Line { line: place, rule })
         }
         _ => None,
     }

@@ -1,8 +1,10 @@
 //! Refusals, and the line that each is said by.
 //!
-//! [`Refusal`] has a case for each form of line, [`Refusal::line`] spells it, and `named` finds a subject, a part or a reason by its word.
+//! [`RefusalLine`] has a case for each form of line, [`RefusalLine::line`] spells it, and `named` finds a subject, a part or a reason by
+//! its word.
 ghost use Rattle.std.specs.Prelude.{◌≡◌, IfOk, string_bytes};
-ghost use Rattle.xsap_refusals.specs.Spelled.{subject_text, part_text, why_text, words_line, file_line, moment_line, rule_line, line_of, place_of};
+ghost use Rattle.xsap_refusals.specs.RefusalLines.{subject_text, part_text, why_text, words_line, file_line, moment_line, rule_line};
+ghost use Rattle.xsap_refusals.specs.RefusalLines.{line_of, place_of};
 
 use smv_lexer::OutOfMemory;
 use std::alloc::Global;
@@ -22,7 +24,7 @@ pub enum Subject {
 
 /// How far the work on it came: the PART of a refusal's line.
 #[derive(Clone, Copy, Debug, PartialEq, Eq)]
-pub enum Part {
+pub enum RefusedPart {
     Absent,
     Length,
     Lex,
@@ -40,7 +42,7 @@ pub enum Part {
 
 /// Why a moment of a trace is not accepted.
 #[derive(Clone, Copy, Debug, PartialEq, Eq)]
-pub enum Why {
+pub enum MomentReason {
     First,
     Step,
     Top,
@@ -49,7 +51,7 @@ pub enum Why {
 /// What a line of refusal says. Places are as in the manual's table: bytes and moments count from 0, words, lines, items and top
 /// events from 1.
 #[derive(Clone, Copy, Debug, PartialEq, Eq)]
-pub enum Refusal {
+pub enum RefusalLine {
     /// `refused words N at P`.
     Words {
         number: u32,
@@ -58,14 +60,14 @@ pub enum Refusal {
     /// `refused model PART N at P`, and likewise of the other subjects.
     File {
         subject: Subject,
-        part: Part,
+        part: RefusedPart,
         number: u32,
         place: u64,
     },
     /// `not accepted moment i first`, and likewise of the other reasons.
     Moment {
         moment: u64,
-        why: Why,
+        why: MomentReason,
     },
     /// `not accepted line L rule R`.
     Line {
@@ -105,79 +107,79 @@ impl Subject {
     }
 }
 
-impl Part {
+impl RefusedPart {
     /// The word that it is said by.
     pub fn text(self) -> &'static str
         ensures { result.now ≡ part_text self }
     {
         match self {
-            Part::Absent => "absent",
-            Part::Length => "length",
-            Part::Lex => "lex",
-            Part::Parse => "parse",
-            Part::Flat => "flat",
-            Part::Kinds => "type",
-            Part::Weave => "weave",
-            Part::Effect => "effect",
-            Part::Mark => "mark",
-            Part::Cause => "cause",
-            Part::Count => "count",
-            Part::Read => "read",
+            RefusedPart::Absent => "absent",
+            RefusedPart::Length => "length",
+            RefusedPart::Lex => "lex",
+            RefusedPart::Parse => "parse",
+            RefusedPart::Flat => "flat",
+            RefusedPart::Kinds => "type",
+            RefusedPart::Weave => "weave",
+            RefusedPart::Effect => "effect",
+            RefusedPart::Mark => "mark",
+            RefusedPart::Cause => "cause",
+            RefusedPart::Count => "count",
+            RefusedPart::Read => "read",
         }
     }
 
     /// The part that is said by a word.
-    pub(crate) fn named(word: &str) -> Option<Part> {
+    pub(crate) fn named(word: &str) -> Option<RefusedPart> {
         match word {
-            "absent" => Some(Part::Absent),
-            "length" => Some(Part::Length),
-            "lex" => Some(Part::Lex),
-            "parse" => Some(Part::Parse),
-            "flat" => Some(Part::Flat),
-            "type" => Some(Part::Kinds),
-            "weave" => Some(Part::Weave),
-            "effect" => Some(Part::Effect),
-            "mark" => Some(Part::Mark),
-            "cause" => Some(Part::Cause),
-            "count" => Some(Part::Count),
-            "read" => Some(Part::Read),
+            "absent" => Some(RefusedPart::Absent),
+            "length" => Some(RefusedPart::Length),
+            "lex" => Some(RefusedPart::Lex),
+            "parse" => Some(RefusedPart::Parse),
+            "flat" => Some(RefusedPart::Flat),
+            "type" => Some(RefusedPart::Kinds),
+            "weave" => Some(RefusedPart::Weave),
+            "effect" => Some(RefusedPart::Effect),
+            "mark" => Some(RefusedPart::Mark),
+            "cause" => Some(RefusedPart::Cause),
+            "count" => Some(RefusedPart::Count),
+            "read" => Some(RefusedPart::Read),
             _ => None,
         }
     }
 }
 
-impl Why {
+impl MomentReason {
     /// The word that it is said by.
     pub fn text(self) -> &'static str
         ensures { result.now ≡ why_text self }
     {
         match self {
-            Why::First => "first",
-            Why::Step => "step",
-            Why::Top => "top",
+            MomentReason::First => "first",
+            MomentReason::Step => "step",
+            MomentReason::Top => "top",
         }
     }
 
     /// The reason that is said by a word.
-    pub(crate) fn named(word: &str) -> Option<Why> {
+    pub(crate) fn named(word: &str) -> Option<MomentReason> {
         match word {
-            "first" => Some(Why::First),
-            "step" => Some(Why::Step),
-            "top" => Some(Why::Top),
+            "first" => Some(MomentReason::First),
+            "step" => Some(MomentReason::Step),
+            "top" => Some(MomentReason::Top),
             _ => None,
         }
     }
 }
 
-impl Refusal {
+impl RefusalLine {
     /// The place that its line tells.
     pub fn place(&self) -> u64
         ensures { result ≡ place_of self.now }
     {
         match *self {
-            Refusal::Words { place, .. } | Refusal::File { place, .. } => place,
-            Refusal::Moment { moment, .. } => moment,
-            Refusal::Line { line, .. } => line,
+            RefusalLine::Words { place, .. } | RefusalLine::File { place, .. } => place,
+            RefusalLine::Moment { moment, .. } => moment,
+            RefusalLine::Line { line, .. } => line,
         }
     }
 
@@ -186,15 +188,15 @@ impl Refusal {
         ensures { IfOk result (λ line. string_bytes line ≡ line_of self.now) }
     {
         match *self {
-            Refusal::Words { number, place } => words_line(alloc, number, place),
-            Refusal::File {
+            RefusalLine::Words { number, place } => words_line(alloc, number, place),
+            RefusalLine::File {
                 subject,
                 part,
                 number,
                 place,
             } => file_line(alloc, subject, part, number, place),
-            Refusal::Moment { moment, why } => moment_line(alloc, moment, why),
-            Refusal::Line { line, rule } => rule_line(alloc, line, rule),
+            RefusalLine::Moment { moment, why } => moment_line(alloc, moment, why),
+            RefusalLine::Line { line, rule } => rule_line(alloc, line, rule),
         }
     }
 }
@@ -211,7 +213,7 @@ fn words_line(alloc: Global, number: u32, place: u64) -> Result<String, OutOfMem
 fn file_line(
     alloc: Global,
     subject: Subject,
-    part: Part,
+    part: RefusedPart,
     number: u32,
     place: u64,
 ) -> Result<String, OutOfMemory>
@@ -224,7 +226,7 @@ fn file_line(
 }
 
 /// The line of a moment that is not accepted.
-fn moment_line(alloc: Global, moment: u64, why: Why) -> Result<String, OutOfMemory>
+fn moment_line(alloc: Global, moment: u64, why: MomentReason) -> Result<String, OutOfMemory>
     ensures { IfOk result (λ line. string_bytes line ≡ moment_line moment why) }
 {
     let why = why.text();

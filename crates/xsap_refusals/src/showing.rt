@@ -4,12 +4,12 @@
 ghost use Rattle.std.specs.Prelude.{◌≡◌, ◌+◌, ◌<◌, length, IfSome, IsNone};
 ghost use Rattle.xsap_refusals.specs.Lines.{is_feed, feeds_before, HasNoLine};
 
-use crate::lines::{Spot, spot_of, until_feed};
+use crate::lines::{FileSpot, spot_of, until_feed};
 use smv_lexer::OutOfMemory;
 use std::alloc::Global;
 
 /// Appends a line of a file, and a line with a caret under the place.
-pub(crate) fn append_spot(text: &mut Vec<u8>, spot: &Spot<'_>) -> Result<(), OutOfMemory> {
+pub(crate) fn append_spot(text: &mut Vec<u8>, spot: &FileSpot<'_>) -> Result<(), OutOfMemory> {
     append_line(text, spot.text)?;
     let (before, _) = spot
         .text
@@ -54,7 +54,7 @@ fn shown_byte(byte: u8) -> u8 {
 }
 
 /// The line of a number, from 1. A line is there where it has a byte, be it its line feed alone.
-pub(crate) fn line_of_number(bytes: &[u8], number: u64) -> Option<Spot<'_>>
+pub(crate) fn line_of_number(bytes: &[u8], number: u64) -> Option<FileSpot<'_>>
     ensures found { IfSome result (λ spot. spot.line ≡ number) }
     ensures none { IsNone result → HasNoLine bytes.now number }
 {
@@ -93,13 +93,13 @@ pub(crate) fn line_of_moment(
     alloc: Global,
     bytes: &[u8],
     number: u64,
-) -> Result<Option<Spot<'_>>, OutOfMemory> {
+) -> Result<Option<FileSpot<'_>>, OutOfMemory> {
     let wanted = format!(in alloc; "moment {number}")?;
     Ok(line_with(bytes, wanted.as_bytes()))
 }
 
 /// The first line that is this text.
-fn line_with<'a>(bytes: &'a [u8], wanted: &[u8]) -> Option<Spot<'a>>
+fn line_with<'a>(bytes: &'a [u8], wanted: &[u8]) -> Option<FileSpot<'a>>
     ensures { IfSome result (λ spot. spot.text.now ≡ wanted.now) }
 {
     let mut place = 0;

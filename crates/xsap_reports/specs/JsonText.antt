@@ -55,4 +55,5 @@ with_commas (t ∷ ts) = t ++ behind_commas ts
 -- the sets of a report in an object, before this
 abbrev pub json_text : Report → List ℕ → List ℕ
 json_text report rest =
-    codes "{\"sets\":[" ++ (with_commas (map (λ set. set_object (names_in report.faults.items set.items) set.items) report.sets.items) ++ (codes "]" ++ rest))
+    codes "{\"sets\":[" ++ (with_commas (map (λ set. set_object (names_in report.faults.items set.items) set.items) report.sets.items)
+    ++ (codes "]" ++ rest))

@@ -1,5 +1,5 @@
--- Fault trees in the Open-PSA Model Exchange Format, as far as gates that are defined by `and`, `or`, constants, other gates and basic events,
--- nested or not, and the labels of basic events.
+-- Fault trees in the Open-PSA Model Exchange Format, as far as gates that are defined by `and`, `or`, constants, other gates and basic
+-- events, nested or not, and the labels of basic events.
 use Rattle.std.specs.Prelude.{ℕ, zero, suc, cond, Bool, true, false, ◌||◌, List, [], ◌∷◌, ◌++◌, map, codes, length}
 use Rattle.std.specs.Str.{bytes_eq}
 use Rattle.xsap_reports.specs.Xml.{Token, start, end, letters, tokens, attribute_of, behind_start}

@@ -1,11 +1,12 @@
 -- What a report is made of.
-use Rattle.std.specs.Prelude.{ℕ, ◌≡◌, ◌<◌, ◌≤◌, ◌-◌, nat_eq, nat_lt, Bool, true, false, ◌&&◌, List, [], ◌∷◌, Option, Some, None, map, length, slice_get, All}
+use Rattle.std.specs.Prelude.{ℕ, ◌≡◌, ◌<◌, ◌≤◌, ◌-◌, nat_eq, nat_lt, Bool, true, false, ◌&&◌, List, [], ◌∷◌, Option, Some, None, map}
+use Rattle.std.specs.Prelude.{length, slice_get, All}
 use Rattle.std.specs.Borrow.{Bor}
 use Rattle.std.specs.List.{list_all}
 use Rattle.xsap_reports.specs.declared.report.Line.{Line}
-use Rattle.xsap_reports.specs.declared.report.Moment.{Moment}
+use Rattle.xsap_reports.specs.declared.report.ReportMoment.{ReportMoment}
 use Rattle.xsap_reports.specs.declared.report.Report.{Report}
-use Rattle.xsap_reports.specs.declared.report.Trace.{Trace}
+use Rattle.xsap_reports.specs.declared.report.ReportTrace.{ReportTrace}
 
 -- a printed ASCII character, and no space
 abbrev pub is_plain : ℕ → Bool
@@ -21,11 +22,11 @@ abbrev pub HasWords : Line → Type 0
 HasWords line = (is_word line.name.now ≡ true) × (is_word line.value.now ≡ true)
 
 -- so are those of each line of a moment
-abbrev pub IsMomentOfWords : Moment → Type 0
+abbrev pub IsMomentOfWords : ReportMoment → Type 0
 IsMomentOfWords moment = All HasWords moment.lines.items
 
 -- and those of each moment of a trace
-abbrev pub IsTraceOfWords : Trace → Type 0
+abbrev pub IsTraceOfWords : ReportTrace → Type 0
 IsTraceOfWords trace = All IsMomentOfWords trace.moments.items
 
 -- a line feed

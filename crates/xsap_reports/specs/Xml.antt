@@ -17,10 +17,11 @@ abbrev pub referred : List ℕ → List ℕ
 referred name =
     cond (bytes_eq name (codes "amp")) (38 ∷ [])
     (cond (bytes_eq name (codes "lt")) (60 ∷ [])
-    (cond (bytes_eq name (codes "gt")) (62 ∷ []) (cond (bytes_eq name (codes "quot")) (34 ∷ []) (cond (bytes_eq name (codes "apos")) (39 ∷ []) []))))
+    (cond (bytes_eq name (codes "gt")) (62
+    ∷ []) (cond (bytes_eq name (codes "quot")) (34 ∷ []) (cond (bytes_eq name (codes "apos")) (39 ∷ []) []))))
 
--- where a reader is: between tags, in a reference there, behind a `<`, in an end tag, in a declaration, in the name of a start tag; and in a
--- start tag of this name with these attributes between them, in the name of one, behind its sign, in its value, in a reference there, or
+-- where a reader is: between tags, in a reference there, behind a `<`, in an end tag, in a declaration, in the name of a start tag; and in
+-- a start tag of this name with these attributes between them, in the name of one, behind its sign, in its value, in a reference there, or
 -- behind a `/`
 pub data Place : Type 0 where
   outside : Place
@@ -53,19 +54,23 @@ tokens_from (empty n xs) t [] = []
 tokens_from outside t (b ∷ bs) =
     cond (nat_eq b 60) (letters t ∷ tokens_from opening [] bs)
     (cond (nat_eq b 38) (tokens_from (reference t) [] bs) (tokens_from outside (t ++ b ∷ []) bs))
-tokens_from (reference r) t (b ∷ bs) = cond (nat_eq b 59) (tokens_from outside (r ++ referred t) bs) (tokens_from (reference r) (t ++ b ∷ []) bs)
+tokens_from (reference r) t (b ∷ bs) =
+    cond (nat_eq b 59) (tokens_from outside (r ++ referred t) bs) (tokens_from (reference r) (t ++ b ∷ []) bs)
 tokens_from opening t (b ∷ bs) =
-    cond (nat_eq b 47) (tokens_from closing [] bs) (cond (nat_eq b 63 || nat_eq b 33) (tokens_from passing [] bs) (tokens_from naming (b ∷ []) bs))
+    cond (nat_eq b 47) (tokens_from closing [] bs) (cond (nat_eq b 63
+    || nat_eq b 33) (tokens_from passing [] bs) (tokens_from naming (b ∷ []) bs))
 tokens_from closing t (b ∷ bs) = cond (nat_eq b 62) (end t ∷ tokens_from outside [] bs) (tokens_from closing (t ++ b ∷ []) bs)
 tokens_from passing t (b ∷ bs) = cond (nat_eq b 62) (tokens_from outside [] bs) (tokens_from passing [] bs)
 tokens_from naming t (b ∷ bs) =
     cond (nat_eq b 62) (start t [] ∷ tokens_from outside [] bs)
-    (cond (nat_eq b 47) (tokens_from (empty t []) [] bs) (cond (is_blank b) (tokens_from (within t []) [] bs) (tokens_from naming (t ++ b ∷ []) bs)))
+    (cond (nat_eq b 47) (tokens_from (empty t []) [] bs) (cond (is_blank b) (tokens_from (within t []) [] bs) (tokens_from naming (t ++ b
+    ∷ []) bs)))
 tokens_from (within n xs) t (b ∷ bs) =
     cond (nat_eq b 62) (start n xs ∷ tokens_from outside [] bs)
     (cond (nat_eq b 47) (tokens_from (empty n xs) [] bs)
     (cond (is_blank b) (tokens_from (within n xs) [] bs) (tokens_from (attribute n xs) (b ∷ []) bs)))
-tokens_from (attribute n xs) t (b ∷ bs) = cond (nat_eq b 61) (tokens_from (before n xs t) [] bs) (tokens_from (attribute n xs) (t ++ b ∷ []) bs)
+tokens_from (attribute n xs) t (b ∷ bs) =
+    cond (nat_eq b 61) (tokens_from (before n xs t) [] bs) (tokens_from (attribute n xs) (t ++ b ∷ []) bs)
 tokens_from (before n xs a) t (b ∷ bs) = cond (nat_eq b 34) (tokens_from (value n xs a) [] bs) (tokens_from (before n xs a) [] bs)
 tokens_from (value n xs a) t (b ∷ bs) =
     cond (nat_eq b 34) (tokens_from (within n (xs ++ (a, t) ∷ [])) [] bs)

@@ -1,6 +1,5 @@
 //! What changed from one report to another: [`changes_of`] compares their sets by the names of their faults, and
 //! [`Changes::text`] writes what came of it.
-
 ghost use Rattle.std.specs.Prelude.{◌≡◌, ◌||◌, IfOk, map, not};
 ghost use Rattle.std.specs.List.{list_any};
 ghost use Rattle.xsap_reports.specs.Changes.{is_among, is_listed, is_same_set, is_within};
@@ -8,7 +7,7 @@ ghost use Rattle.xsap_reports.specs.Reports.{names_in, set_names};
 
 use crate::endings::append_ending;
 use crate::names::{append_set, name_at};
-use crate::report::{Ending, Report};
+use crate::report::{Report, ReportEnding};
 use base_values::{ByteList, OutOfMemory};
 use std::alloc::Global;
 
@@ -103,10 +102,11 @@ fn end_alike(old: &Report<'_>, new: &Report<'_>) -> bool {
 }
 
 /// Whether the sets of two reports are all for the same traces.
-fn reach_alike(old: Ending, new: Ending) -> bool {
+fn reach_alike(old: ReportEnding, new: ReportEnding) -> bool {
     match (old, new) {
-        (Ending::Complete, Ending::Complete) => true,
-        (Ending::Bounded { steps: old, .. }, Ending::Bounded { steps: new, .. }) => old == new,
+        (ReportEnding::Complete, ReportEnding::Complete) => true,
+        (ReportEnding::Bounded { steps: old, .. }, ReportEnding::Bounded { steps: new, .. }) => old
+            == new,
         _ => false,
     }
 }

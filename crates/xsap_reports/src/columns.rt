@@ -1,15 +1,14 @@
 //! The variables of a trace, each with the kind of its values and the stretches of moments in which it keeps one.
 //!
-//! The variables are those of the first moment, by their places: in what an analysis prints each moment has the same ones. A moment that has
-//! another name at a place has no value of the variable there. The main functions are [`columns_of`] and [`stretches_of`].
-
-use crate::report::Moment;
+//! The variables are those of the first moment, by their places: in what an analysis prints each moment has the same ones. A moment that
+//! has another name at a place has no value of the variable there. The main functions are [`columns_of`] and [`stretches_of`].
+use crate::report::ReportMoment;
 use base_values::OutOfMemory;
 use std::alloc::Global;
 
 /// What the values of a variable are.
 #[derive(Clone, Copy, Debug, PartialEq, Eq)]
-pub(crate) enum Kind {
+pub(crate) enum ColumnKind {
     /// `TRUE` and `FALSE`.
     Truth,
     /// Whole numbers of 64 bits with a sign.
@@ -21,9 +20,9 @@ pub(crate) enum Kind {
 
 /// A variable of a trace.
 #[derive(Clone, Copy)]
-pub(crate) struct Column<'a> {
+pub(crate) struct TraceColumn<'a> {
     pub name: &'a [u8],
-    pub kind: Kind,
+    pub kind: ColumnKind,
 }
 
 /// Moments in which a variable has one value: from the first one to before the end.
@@ -37,12 +36,12 @@ pub(crate) struct Stretch<'a> {
 /// The variables of a trace, by their places.
 pub(crate) fn columns_of<'a>(
     alloc: Global,
-    moments: &[Moment<'a>],
-) -> Result<Vec<Column<'a>>, OutOfMemory> {
+    moments: &[ReportMoment<'a>],
+) -> Result<Vec<TraceColumn<'a>>, OutOfMemory> {
     let mut columns = Vec::new(alloc);
     if let Some(first) = moments.first() {
         for (i, line) in first.lines.iter().enumerate() {
-            columns.push(Column {
+            columns.push(TraceColumn {
                 name: line.name,
                 kind: kind_at(moments, i, line.name),
             })?;
@@ -52,7 +51,11 @@ pub(crate) fn columns_of<'a>(
 }
 
 /// The value of a variable in a moment.
-pub(crate) fn value_at<'a>(moment: &Moment<'a>, place: usize, name: &[u8]) -> Option<&'a [u8]> {
+pub(crate) fn value_at<'a>(
+    moment: &ReportMoment<'a>,
+    place: usize,
+    name: &[u8],
+) -> Option<&'a [u8]> {
     let line = moment.lines.get(place)?;
     if line.name == name {
         Some(line.value)
@@ -64,7 +67,7 @@ pub(crate) fn value_at<'a>(moment: &Moment<'a>, place: usize, name: &[u8]) -> Op
 /// The stretches of a variable, which follow one another from the first moment to the last.
 pub(crate) fn stretches_of<'a>(
     alloc: Global,
-    moments: &[Moment<'a>],
+    moments: &[ReportMoment<'a>],
     place: usize,
     name: &[u8],
 ) -> Result<Vec<Stretch<'a>>, OutOfMemory> {
@@ -93,39 +96,39 @@ pub(crate) fn stretches_of<'a>(
 }
 
 /// The kind of the values of a variable.
-fn kind_at(moments: &[Moment<'_>], place: usize, name: &[u8]) -> Kind {
+fn kind_at(moments: &[ReportMoment<'_>], place: usize, name: &[u8]) -> ColumnKind {
     let mut kind = None;
     for moment in moments {
         if let Some(value) = value_at(moment, place, name) {
             kind = Some(joined(kind, kind_of(value)));
         }
     }
-    kind.unwrap_or(Kind::Symbol)
+    kind.unwrap_or(ColumnKind::Symbol)
 }
 
 /// The kind that has these values and those of another kind.
-fn joined(kind: Option<Kind>, other: Kind) -> Kind {
+fn joined(kind: Option<ColumnKind>, other: ColumnKind) -> ColumnKind {
     match (kind, other) {
         (None, it) => it,
-        (Some(Kind::Truth), Kind::Truth) => Kind::Truth,
-        (Some(Kind::Whole), Kind::Whole) => Kind::Whole,
-        (Some(Kind::Whole), Kind::Long) => Kind::Long,
-        (Some(Kind::Long), Kind::Whole) => Kind::Long,
-        (Some(Kind::Long), Kind::Long) => Kind::Long,
-        _ => Kind::Symbol,
+        (Some(ColumnKind::Truth), ColumnKind::Truth) => ColumnKind::Truth,
+        (Some(ColumnKind::Whole), ColumnKind::Whole) => ColumnKind::Whole,
+        (Some(ColumnKind::Whole), ColumnKind::Long) => ColumnKind::Long,
+        (Some(ColumnKind::Long), ColumnKind::Whole) => ColumnKind::Long,
+        (Some(ColumnKind::Long), ColumnKind::Long) => ColumnKind::Long,
+        _ => ColumnKind::Symbol,
     }
 }
 
 /// The kind of a value.
-fn kind_of(value: &[u8]) -> Kind {
+fn kind_of(value: &[u8]) -> ColumnKind {
     if value == b"TRUE".as_slice() || value == b"FALSE".as_slice() {
-        Kind::Truth
+        ColumnKind::Truth
     } else if !is_number(value) {
-        Kind::Symbol
+        ColumnKind::Symbol
     } else if whole_of(value).is_some() {
-        Kind::Whole
+        ColumnKind::Whole
     } else {
-        Kind::Long
+        ColumnKind::Long
     }
 }
 

@@ -1,6 +1,5 @@
 //! The sets of a report as comma-separated values, a row for each (RFC 4180, with line feeds alone). [`csv_of_sets`] is the main
 //! function.
-
 ghost use Rattle.std.specs.Prelude.{◌≡◌, ◌++◌, IfOk, OnOk, codes, map};
 ghost use Rattle.std.specs.Fmt.{decimal};
 ghost use Rattle.std.specs.List.{list_any};

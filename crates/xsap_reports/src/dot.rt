@@ -2,7 +2,6 @@
 //!
 //! A house is an `or` and a trapezium an `and`; a box passes on what stands below it, or is always true or always false. An ellipse is a
 //! fault. Faults that are in no set are left out.
-
 use crate::endings::append_ending;
 use crate::pieces::{append_numbered, number_of};
 use crate::report::Report;

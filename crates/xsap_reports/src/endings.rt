@@ -1,6 +1,5 @@
 //! How an analysis ended, in plain words.
-
-use crate::report::{Ending, Report};
+use crate::report::{Report, ReportEnding};
 use base_values::{ByteList, OutOfMemory};
 use std::alloc::Global;
 
@@ -25,12 +24,16 @@ fn append_first(text: &mut ByteList, has_first: bool) -> Result<(), OutOfMemory>
 }
 
 /// Appends of which traces the sets are all.
-fn append_reach(alloc: Global, text: &mut ByteList, ending: Ending) -> Result<(), OutOfMemory> {
+fn append_reach(
+    alloc: Global,
+    text: &mut ByteList,
+    ending: ReportEnding,
+) -> Result<(), OutOfMemory> {
     match ending {
-        Ending::Complete => {
+        ReportEnding::Complete => {
             text.append(b"complete: no other minimal set exists, in traces of any length")
         }
-        Ending::Bounded { steps, .. } => {
+        ReportEnding::Bounded { steps, .. } => {
             text.append(b"bounded: no other minimal set exists in traces of at most ")?;
             text.append_number(alloc, u64::from(steps))?;
             text.append(b" steps; longer ones were not searched")

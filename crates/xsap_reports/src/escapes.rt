@@ -1,5 +1,4 @@
 //! Bytes as they stand among the characters of XML and HTML, or in an attribute's value.
-
 ghost use Rattle.std.specs.Prelude.{◌≡◌, ◌++◌, OnOk};
 ghost use Rattle.xsap_reports.specs.MefText.{xml_byte, xml_text};
 

@@ -1,17 +1,16 @@
 //! Why a text is no report: the line at which it stops being one, and what was expected there.
-
 use std::alloc::{AllocError, AllocFailed};
 
 /// Why a report could not be read.
 #[derive(Clone, Copy, Debug, PartialEq, Eq)]
 pub enum ReportFault {
     OutOfMemory,
-    At(Fault),
+    At(WrongLine),
 }
 
 /// A line, from 1, and what was expected there. A text that was cut ends with a line that is empty or has no line feed; it is that line.
 #[derive(Clone, Copy, Debug, PartialEq, Eq)]
-pub struct Fault {
+pub struct WrongLine {
     pub line: usize,
     pub expected: Expected,
 }
@@ -49,19 +48,19 @@ impl Expected {
 
 /// Where a reader stops: so many bytes are left at the beginning of the line.
 #[derive(Clone, Copy)]
-pub(crate) enum Stop {
+pub(crate) enum ReportStop {
     OutOfMemory,
     At { left: usize, expected: Expected },
 }
 
-impl From<AllocError> for Stop {
-    fn from(_refused: AllocError) -> Stop {
-        Stop::OutOfMemory
+impl From<AllocError> for ReportStop {
+    fn from(_refused: AllocError) -> ReportStop {
+        ReportStop::OutOfMemory
     }
 }
 
-impl<T: Drop> From<AllocFailed<T>> for Stop {
-    fn from(_refused: AllocFailed<T>) -> Stop {
-        Stop::OutOfMemory
+impl<T: Drop> From<AllocFailed<T>> for ReportStop {
+    fn from(_refused: AllocFailed<T>) -> ReportStop {
+        ReportStop::OutOfMemory
     }
 }

@@ -2,7 +2,6 @@
 //!
 //! The page is one file that names no other, and runs nothing. Tables have captions and heads, a time line has a title and is described in
 //! words, and each name and value stands with references in place of the signs that mean something to HTML.
-
 use crate::endings::append_ending;
 use crate::escapes::append_characters;
 use crate::lanes::lanes_of;
@@ -10,7 +9,7 @@ use crate::moments::{Row, Values, rows_of};
 use crate::names::name_at;
 use crate::page::{BEGIN, END};
 use crate::pieces::{append_numbered, number_of};
-use crate::report::{Line, Report, Trace};
+use crate::report::{Line, Report, ReportTrace};
 use crate::svg::append_picture;
 use base_values::{ByteList, OutOfMemory};
 use std::alloc::Global;
@@ -57,7 +56,9 @@ fn append_sets(
     sets: &[Vec<u32>],
 ) -> Result<(), OutOfMemory> {
     text.append(
-        b"<div class=\"wide\" role=\"region\" aria-label=\"Minimal cut sets\" tabindex=\"0\">\n<table>\n<caption>The sets, each with its faults</caption>\n<thead><tr><th scope=\"col\">Set</th><th scope=\"col\">Size</th><th scope=\"col\">Faults</th></tr></thead>\n<tbody>\n",
+        b"<div class=\"wide\" role=\"region\" aria-label=\"Minimal cut sets\" tabindex=\"0\">\n<table>\n<caption>The sets, each with its \
+            faults</caption>\n<thead><tr><th scope=\"col\">Set</th><th scope=\"col\">Size</th><th scope=\"col\">Faults</th></tr></thead>\n\
+            <tbody>\n",
     )?;
     for (i, set) in sets.iter().enumerate() {
         append_numbered(alloc, text, b"<tr><th scope=\"row\">", number_of(i))?;
@@ -116,7 +117,7 @@ fn append_trace(
     alloc: Global,
     text: &mut ByteList,
     faults: &[&[u8]],
-    trace: &Trace<'_>,
+    trace: &ReportTrace<'_>,
     number: u64,
     values: Values,
 ) -> Result<(), OutOfMemory> {
@@ -128,7 +129,8 @@ fn append_trace(
     append_region(alloc, text, b"Values of set ", number)?;
     append_caption(alloc, text, number, values)?;
     text.append(
-        b"<thead><tr><th scope=\"col\">Moment</th><th scope=\"col\">Variable</th><th scope=\"col\">Value</th><th scope=\"col\">Strikes</th></tr></thead>\n<tbody>\n",
+        b"<thead><tr><th scope=\"col\">Moment</th><th scope=\"col\">Variable</th><th scope=\"col\">Value</th><th \
+            scope=\"col\">Strikes</th></tr></thead>\n<tbody>\n",
     )?;
     append_rows(alloc, text, &rows)?;
     text.append(b"</tbody>\n</table>\n</div>\n")

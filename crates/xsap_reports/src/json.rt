@@ -1,5 +1,4 @@
 //! A report as JSON (RFC 8259), in ASCII alone. [`json_of`] is the main function.
-
 ghost use Rattle.std.specs.Prelude.{◌≡◌, IfOk};
 ghost use Rattle.xsap_reports.specs.Json.{sets_in_json};
 ghost use Rattle.xsap_reports.specs.JsonText.{json_text};
@@ -7,7 +6,7 @@ ghost use Rattle.xsap_reports.specs.Reports.{HasNames, set_names};
 
 use crate::json_sets::{append_sets, append_string};
 use crate::moments::{Values, is_changed};
-use crate::report::{Ending, Line, Moment, Report, Trace};
+use crate::report::{Line, Report, ReportEnding, ReportMoment, ReportTrace};
 use base_values::{ByteList, OutOfMemory};
 use std::alloc::Global;
 
@@ -76,10 +75,14 @@ fn append_truth(text: &mut ByteList, truth: bool) -> Result<(), OutOfMemory> {
 }
 
 /// Appends how the analysis ended.
-fn append_ending(alloc: Global, text: &mut ByteList, ending: Ending) -> Result<(), OutOfMemory> {
+fn append_ending(
+    alloc: Global,
+    text: &mut ByteList,
+    ending: ReportEnding,
+) -> Result<(), OutOfMemory> {
     match ending {
-        Ending::Complete => text.append(b"{\"complete\":true}"),
-        Ending::Bounded { steps, bits } => {
+        ReportEnding::Complete => text.append(b"{\"complete\":true}"),
+        ReportEnding::Bounded { steps, bits } => {
             text.append(b"{\"complete\":false,\"steps\":")?;
             text.append_number(alloc, u64::from(steps))?;
             text.append(b",\"bits\":")?;
@@ -118,7 +121,7 @@ fn append_strings(text: &mut ByteList, texts: &[&[u8]]) -> Result<(), OutOfMemor
 /// Appends each trace.
 fn append_traces(
     text: &mut ByteList,
-    traces: &[Trace<'_>],
+    traces: &[ReportTrace<'_>],
     values: Values,
 ) -> Result<(), OutOfMemory> {
     for (i, trace) in traces.iter().enumerate() {
@@ -133,7 +136,7 @@ fn append_traces(
 /// Appends each moment.
 fn append_moments(
     text: &mut ByteList,
-    moments: &[Moment<'_>],
+    moments: &[ReportMoment<'_>],
     values: Values,
 ) -> Result<(), OutOfMemory> {
     for (i, moment) in moments.iter().enumerate() {
@@ -148,7 +151,7 @@ fn append_moments(
 /// Appends the values that are shown of the moment at a place, which has these lines.
 fn append_values(
     text: &mut ByteList,
-    moments: &[Moment<'_>],
+    moments: &[ReportMoment<'_>],
     at: usize,
     lines: &[Line<'_>],
     values: Values,

@@ -1,8 +1,8 @@
 //! The sets of a report as JSON: strings, numbers, and an object for each set.
-
 ghost use Rattle.std.specs.Prelude.{◌≡◌, ◌<◌, ◌++◌, OnOk, codes, map};
 ghost use Rattle.std.specs.Fmt.{decimal};
-ghost use Rattle.xsap_reports.specs.JsonText.{behind_commas, escaped, escaped_byte, hex_digit, more_numbers, more_strings, numbers, quoted_string, set_object, strings, with_commas};
+ghost use Rattle.xsap_reports.specs.JsonText.{behind_commas, escaped, escaped_byte, hex_digit, more_numbers, more_strings, numbers};
+ghost use Rattle.xsap_reports.specs.JsonText.{quoted_string, set_object, strings, with_commas};
 ghost use Rattle.xsap_reports.specs.Reports.{names_in};
 
 use crate::names::name_at;
@@ -18,7 +18,8 @@ pub(crate) fn append_sets(
     faults: &[&[u8]],
     sets: &[Vec<u32>],
 ) -> Result<(), OutOfMemory>
-    ensures { OnOk result (text.new ≡ text.old ++ with_commas (map (λ set. set_object (names_in faults.now set.items) set.items) sets.now)) }
+    ensures { OnOk result (text.new
+        ≡ text.old ++ with_commas (map (λ set. set_object (names_in faults.now set.items) set.items) sets.now)) }
 {
     match sets {
         [] => Ok(()),
@@ -37,7 +38,8 @@ fn append_more_sets(
     faults: &[&[u8]],
     sets: &[Vec<u32>],
 ) -> Result<(), OutOfMemory>
-    ensures { OnOk result (text.new ≡ text.old ++ behind_commas (map (λ set. set_object (names_in faults.now set.items) set.items) sets.now)) }
+    ensures { OnOk result (text.new
+        ≡ text.old ++ behind_commas (map (λ set. set_object (names_in faults.now set.items) set.items) sets.now)) }
 {
     for set in sets {
         text.append(b",")?;

@@ -1,9 +1,8 @@
 //! The lanes of a trace's time line: a variable with the stretches in which it keeps a value, and the fault that has struck there.
 //! [`lanes_of`] is the main function.
-
-use crate::columns::{Kind, Stretch, columns_of, stretches_of, whole_of};
+use crate::columns::{ColumnKind, Stretch, columns_of, stretches_of, whole_of};
 use crate::moments::strike;
-use crate::report::{Line, Moment};
+use crate::report::{Line, ReportMoment};
 use base_values::OutOfMemory;
 use std::alloc::Global;
 
@@ -11,7 +10,7 @@ use std::alloc::Global;
 #[derive(Drop)]
 pub(crate) struct Lane<'a> {
     pub name: &'a [u8],
-    pub kind: Kind,
+    pub kind: ColumnKind,
     pub bars: Vec<Bar<'a>>,
     /// Whether a fault strikes in it.
     pub is_struck: bool,
@@ -33,7 +32,7 @@ pub(crate) const HIGH: u64 = 12;
 pub(crate) fn lanes_of<'a>(
     alloc: Global,
     faults: &[&'a [u8]],
-    moments: &[Moment<'a>],
+    moments: &[ReportMoment<'a>],
 ) -> Result<Vec<Lane<'a>>, OutOfMemory> {
     let columns = columns_of(alloc, moments)?;
     let mut lanes = Vec::new(alloc);
@@ -61,7 +60,7 @@ fn bars_of<'a>(
     alloc: Global,
     faults: &[&'a [u8]],
     name: &'a [u8],
-    kind: Kind,
+    kind: ColumnKind,
     stretches: &[Stretch<'a>],
 ) -> Result<Vec<Bar<'a>>, OutOfMemory> {
     let range = range_of(stretches);
@@ -110,10 +109,10 @@ fn number_of(stretch: &Stretch<'_>) -> Option<i64> {
 }
 
 /// How high the value of a stretch is. The only number of a lane is half high.
-fn height_of(kind: Kind, stretch: &Stretch<'_>, range: Range) -> u64 {
+fn height_of(kind: ColumnKind, stretch: &Stretch<'_>, range: Range) -> u64 {
     match kind {
-        Kind::Truth if stretch.value == Some(b"TRUE".as_slice()) => HIGH,
-        Kind::Truth => 0,
+        ColumnKind::Truth if stretch.value == Some(b"TRUE".as_slice()) => HIGH,
+        ColumnKind::Truth => 0,
         _ => match number_of(stretch) {
             Some(number) => height_in(number, range),
             None => 0,

@@ -2,11 +2,10 @@
 //!
 //! Tables are those of GitHub's Markdown. A name or a value is a code span, so that no byte of it means anything else; its fence is
 //! longer than any run of backticks in it, and in a table a `|` has a backslash before it, which the table takes away.
-
 use crate::endings::append_ending;
 use crate::moments::{Row, Values, rows_of};
 use crate::names::name_at;
-use crate::report::{Line, Report, Trace};
+use crate::report::{Line, Report, ReportTrace};
 use base_values::{ByteList, OutOfMemory};
 use std::alloc::Global;
 
@@ -157,7 +156,7 @@ fn append_trace(
     alloc: Global,
     text: &mut ByteList,
     faults: &[&[u8]],
-    trace: &Trace<'_>,
+    trace: &ReportTrace<'_>,
     values: Values,
 ) -> Result<(), OutOfMemory> {
     let rows = rows_of(alloc, faults, &trace.moments, values)?;

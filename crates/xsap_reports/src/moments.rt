@@ -1,6 +1,5 @@
 //! The rows of a trace's table: what is shown of each moment, and where faults strike. [`rows_of`] is the main function.
-
-use crate::report::{Line, Moment};
+use crate::report::{Line, ReportMoment};
 use base_values::OutOfMemory;
 use std::alloc::Global;
 
@@ -28,7 +27,7 @@ pub(crate) struct Row<'a> {
 pub(crate) fn rows_of<'a>(
     alloc: Global,
     faults: &[&'a [u8]],
-    moments: &[Moment<'a>],
+    moments: &[ReportMoment<'a>],
     values: Values,
 ) -> Result<Vec<Row<'a>>, OutOfMemory> {
     let mut rows = Vec::new(alloc);
@@ -41,7 +40,7 @@ pub(crate) fn rows_of<'a>(
 
 /// A line that is shown, and the fault that strikes there.
 #[derive(Clone, Copy)]
-struct Shown<'a> {
+struct ShownLine<'a> {
     line: Line<'a>,
     strikes: Option<&'a [u8]>,
 }
@@ -50,21 +49,21 @@ struct Shown<'a> {
 fn shown_of<'a>(
     alloc: Global,
     faults: &[&'a [u8]],
-    moments: &[Moment<'a>],
+    moments: &[ReportMoment<'a>],
     at: usize,
     lines: &[Line<'a>],
     values: Values,
-) -> Result<Vec<Shown<'a>>, OutOfMemory> {
+) -> Result<Vec<ShownLine<'a>>, OutOfMemory> {
     let mut shown = Vec::new(alloc);
     for (i, line) in lines.iter().enumerate() {
         if is_changed(moments, at, i, line) {
             let strikes = strike(faults, line);
-            shown.push(Shown {
+            shown.push(ShownLine {
                 line: *line,
                 strikes,
             })?;
         } else if values == Values::All {
-            shown.push(Shown {
+            shown.push(ShownLine {
                 line: *line,
                 strikes: None,
             })?;
@@ -77,7 +76,7 @@ fn shown_of<'a>(
 fn append_rows<'a>(
     rows: &mut Vec<Row<'a>>,
     moment: usize,
-    shown: &[Shown<'a>],
+    shown: &[ShownLine<'a>],
 ) -> Result<(), OutOfMemory> {
     if shown.is_empty() {
         rows.push(Row {
@@ -100,7 +99,7 @@ fn append_rows<'a>(
 
 /// Whether the line at a place of a moment differs from the one at that place of the moment before. Before the first one there is none.
 pub(crate) fn is_changed(
-    moments: &[Moment<'_>],
+    moments: &[ReportMoment<'_>],
     moment: usize,
     place: usize,
     line: &Line<'_>,
@@ -112,7 +111,7 @@ pub(crate) fn is_changed(
 }
 
 /// The line at a place of the moment before this one.
-fn line_before<'a>(moments: &[Moment<'a>], moment: usize, place: usize) -> Option<Line<'a>> {
+fn line_before<'a>(moments: &[ReportMoment<'a>], moment: usize, place: usize) -> Option<Line<'a>> {
     let before = moments.get(moment.checked_sub(1)?)?;
     let line = before.lines.get(place)?;
     Some(*line)

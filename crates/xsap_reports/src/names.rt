@@ -1,5 +1,4 @@
 //! The names of the faults of a set.
-
 ghost use Rattle.std.specs.Prelude.{◌≡◌, ◌++◌, OnOk};
 ghost use Rattle.xsap_reports.specs.Csv.{joined, spaced};
 ghost use Rattle.xsap_reports.specs.Reports.{name_at, names_in};

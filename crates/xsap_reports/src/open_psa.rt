@@ -3,11 +3,12 @@
 //! The gate `top` is an `or` of the gates `s1`, `s2`, .. of the sets, and each of these an `and` of the basic events `f1`, `f2`, .. of its
 //! faults. Names of faults are no names of that format, so they are the events' labels. Where one argument is left there is no `and` and
 //! no `or`, since readers want two; the empty set is the constant true, and no set at all the constant false.
-
 ghost use Rattle.std.specs.Prelude.{◌≡◌, ◌<◌, ◌^◌, ◌++◌, IfOk, OnOk, codes, length, map};
 ghost use Rattle.std.specs.Fmt.{decimal};
 ghost use Rattle.xsap_reports.specs.Mef.{sets_in_tree};
-ghost use Rattle.xsap_reports.specs.MefText.{all_of, any_of, definition, definition_begin, definition_end, definitions, end_of_events, event_of, events_of, gate_begin, gate_end, gate_of, gates_of, head, middle, set_gate, set_gates, tree_text};
+ghost use Rattle.xsap_reports.specs.MefText.{all_of, any_of, definition, definition_begin, definition_end, definitions, end_of_events};
+ghost use Rattle.xsap_reports.specs.MefText.{event_of, events_of, gate_begin, gate_end, gate_of, gates_of, head, middle, set_gate};
+ghost use Rattle.xsap_reports.specs.MefText.{set_gates, tree_text};
 ghost use Rattle.xsap_reports.specs.Reports.{HasNames, set_names};
 
 use crate::endings::append_ending;

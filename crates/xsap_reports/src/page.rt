@@ -1,6 +1,5 @@
 //! What stands before and behind the content of a page: its head with the rules of its look, for screens from 400 pixels on, in light and
 //! dark, and for print.
-
 /// Before the content.
 pub(crate) static BEGIN: &[u8] = b"<!DOCTYPE html>\n\
 <html lang=\"en\">\n\
@@ -10,8 +9,10 @@ pub(crate) static BEGIN: &[u8] = b"<!DOCTYPE html>\n\
 <meta http-equiv=\"Content-Security-Policy\" content=\"default-src 'none'; style-src 'unsafe-inline'\"/>\n\
 <title>Minimal cut sets</title>\n\
 <style>\n\
-:root{color-scheme:light dark;--ink:#1b1f24;--soft:#57606a;--edge:#c4ccd4;--back:#fff;--panel:#f3f5f8;--level:#0b5cad;--under:#d9e9fa;--box:#e9edf2;--fault:#b3261e;--struck:#fff}\n\
-@media (prefers-color-scheme:dark){:root{--ink:#e6edf3;--soft:#a5b0bc;--edge:#3d444d;--back:#0d1117;--panel:#161b22;--level:#79b8ff;--under:#12355b;--box:#262d36;--fault:#ff9a8f;--struck:#2a0705}}\n\
+:root{color-scheme:light dark;--ink:#1b1f24;--soft:#57606a;--edge:#c4ccd4;--back:#fff;--panel:#f3f5f8;--level:#0b5cad;--under:#d9e9fa;\
+--box:#e9edf2;--fault:#b3261e;--struck:#fff}\n\
+@media (prefers-color-scheme:dark){:root{--ink:#e6edf3;--soft:#a5b0bc;--edge:#3d444d;--back:#0d1117;--panel:#161b22;--level:#79b8ff;\
+--under:#12355b;--box:#262d36;--fault:#ff9a8f;--struck:#2a0705}}\n\
 *{box-sizing:border-box}\n\
 body{margin:0 auto;max-width:80rem;padding:1.5rem;background:var(--back);color:var(--ink);font:1rem/1.5 system-ui,sans-serif}\n\
 h1{font-size:1.75rem;margin:0 0 1rem}\n\
@@ -46,7 +47,9 @@ svg .struck{fill:var(--struck);font-weight:600}\n\
 .symbol{fill:var(--box);stroke:var(--edge)}\n\
 .fault{fill:var(--fault);stroke:var(--fault)}\n\
 @media (max-width:40rem){body{padding:1rem}th,td{padding:.25rem .5rem}}\n\
-@media print{:root{color-scheme:light;--ink:#000;--soft:#444;--edge:#999;--back:#fff;--panel:#fff;--level:#0b5cad;--under:#d9e9fa;--box:#eee;--fault:#b3261e;--struck:#fff}body{max-width:none;padding:0;font-size:10pt}.wide{overflow:visible}svg{max-width:100%;height:auto}tr,svg,dl div{break-inside:avoid}h2{break-after:avoid}}\n\
+@media print{:root{color-scheme:light;--ink:#000;--soft:#444;--edge:#999;--back:#fff;--panel:#fff;--level:#0b5cad;--under:#d9e9fa;\
+--box:#eee;--fault:#b3261e;--struck:#fff}body{max-width:none;padding:0;font-size:10pt}.wide{overflow:visible}svg{max-width:100%;\
+height:auto}tr,svg,dl div{break-inside:avoid}h2{break-after:avoid}}\n\
 </style>\n\
 </head>\n\
 <body>\n\

@@ -1,5 +1,4 @@
 //! Pieces of text with numbers in them.
-
 use base_values::{ByteList, OutOfMemory};
 use std::alloc::Global;
 

@@ -2,12 +2,11 @@
 //!
 //! A reader of a part answers it with the bytes behind it, or the stop: how many bytes were left at the line that it could not take. The
 //! number of that line is counted once, at the end.
-
 ghost use Rattle.std.specs.Prelude.{◌≡◌, ◌<◌, ◌≤◌, ◌+◌, length, ◌^◌, ℕ, List, count_by, true, IfOk, IfSome, All};
 ghost use Rattle.xsap_reports.specs.Reports.{is_word, is_feed, IsListed, IsTraceOfWords};
 
-use crate::fault::{Expected, Fault, ReportFault, Stop};
-use crate::report::{Ending, Report};
+use crate::fault::{Expected, ReportFault, ReportStop, WrongLine};
+use crate::report::{Report, ReportEnding};
 use crate::traces::read_traces;
 use crate::words::{first_word, is_word, number, number_behind, rising_numbers, stop, take_line};
 use std::alloc::Global;
@@ -22,12 +21,13 @@ pub fn read(alloc: Global, bytes: &[u8]) -> Result<Report<'_>, ReportFault>
     // So are the names and the values of variables.
     ensures words { IfOk result (λ report. All IsTraceOfWords report.traces.items) }
     // The line of a fault is one of the text's, or the one behind its last line feed.
-    ensures line { (fault : Fault) → result ≡ Err (ReportFault.At fault) → (0 < fault.line) × (fault.line ≤ count_by is_feed bytes.now + 1) }
+    ensures line { (fault : WrongLine) → result ≡ Err (ReportFault.At fault) →
+        (0 < fault.line) × (fault.line ≤ count_by is_feed bytes.now + 1) }
 {
     match read_parts(alloc, bytes) {
         Ok(report) => Ok(report),
-        Err(Stop::OutOfMemory) => Err(ReportFault::OutOfMemory),
-        Err(Stop::At { left, expected }) => Err(ReportFault::At(Fault {
+        Err(ReportStop::OutOfMemory) => Err(ReportFault::OutOfMemory),
+        Err(ReportStop::At { left, expected }) => Err(ReportFault::At(WrongLine {
             line: line_at(bytes, left),
             expected,
         })),
@@ -52,7 +52,7 @@ fn feeds(bytes: &[u8]) -> usize
 }
 
 /// The parts of a report in their order.
-fn read_parts(alloc: Global, bytes: &[u8]) -> Result<Report<'_>, Stop>
+fn read_parts(alloc: Global, bytes: &[u8]) -> Result<Report<'_>, ReportStop>
     ensures names { IfOk result (λ report. All (λ name. is_word name.now ≡ true) report.faults.items) }
     ensures sets { IfOk result (λ report. All (λ set. All (IsListed (length report.faults.items)) set.items) report.sets.items) }
     ensures traces { IfOk result (λ report. length report.traces.items ≡ length report.sets.items) }
@@ -75,7 +75,7 @@ fn read_parts(alloc: Global, bytes: &[u8]) -> Result<Report<'_>, Stop>
 }
 
 /// The names of the faults, and the bytes behind their lines.
-fn read_faults(alloc: Global, bytes: &[u8]) -> Result<(Vec<&[u8]>, &[u8]), Stop>
+fn read_faults(alloc: Global, bytes: &[u8]) -> Result<(Vec<&[u8]>, &[u8]), ReportStop>
     ensures { IfOk result (λ p. All (λ name. is_word name.now ≡ true) p.0.items) }
 {
     let (line, after) = take_line(bytes, Expected::FaultCount)?;
@@ -109,7 +109,7 @@ fn name_in(line: &[u8], earlier: u32) -> Option<&[u8]>
 }
 
 /// The sets of so many faults, and the bytes behind their lines.
-fn read_sets(alloc: Global, bytes: &[u8], many: usize) -> Result<(Vec<Vec<u32>>, &[u8]), Stop>
+fn read_sets(alloc: Global, bytes: &[u8], many: usize) -> Result<(Vec<Vec<u32>>, &[u8]), ReportStop>
     ensures { IfOk result (λ p. All (λ set. All (IsListed many) set.items) p.0.items) }
 {
     let (line, after) = take_line(bytes, Expected::SetCount)?;
@@ -130,7 +130,7 @@ fn read_sets(alloc: Global, bytes: &[u8], many: usize) -> Result<(Vec<Vec<u32>>,
 }
 
 /// The set in a line.
-fn set_in(alloc: Global, line: &[u8], many: usize) -> Result<Option<Vec<u32>>, Stop>
+fn set_in(alloc: Global, line: &[u8], many: usize) -> Result<Option<Vec<u32>>, ReportStop>
     ensures { IfOk result (λ read. IfSome read (λ numbers. All (IsListed many) numbers.items)) }
 {
     match line.strip_prefix(b"set") {
@@ -148,7 +148,7 @@ fn read_first(bytes: &[u8]) -> (bool, &[u8]) {
 }
 
 /// How the analysis ended, and the bytes behind that line.
-fn read_ending(bytes: &[u8]) -> Result<(Ending, &[u8]), Stop> {
+fn read_ending(bytes: &[u8]) -> Result<(ReportEnding, &[u8]), ReportStop> {
     let (line, after) = take_line(bytes, Expected::Ending)?;
     match ending_in(line) {
         Some(ending) => Ok((ending, after)),
@@ -157,19 +157,19 @@ fn read_ending(bytes: &[u8]) -> Result<(Ending, &[u8]), Stop> {
 }
 
 /// The ending in a line.
-fn ending_in(line: &[u8]) -> Option<Ending> {
+fn ending_in(line: &[u8]) -> Option<ReportEnding> {
     if line == b"complete".as_slice() {
-        return Some(Ending::Complete);
+        return Some(ReportEnding::Complete);
     }
     let (steps, rest) = first_word(line.strip_prefix(b"bounded ")?);
-    Some(Ending::Bounded {
+    Some(ReportEnding::Bounded {
         steps: number(steps)?,
         bits: number_behind(rest, b"bits ")?,
     })
 }
 
 /// The size below the number of faults, where the text has one. Nothing stands behind it.
-fn read_size(bytes: &[u8], many: usize) -> Result<Option<u32>, Stop> {
+fn read_size(bytes: &[u8], many: usize) -> Result<Option<u32>, ReportStop> {
     if bytes.is_empty() {
         return Ok(None);
     }

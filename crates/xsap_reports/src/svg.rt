@@ -4,8 +4,7 @@
 //! A boolean is a line that is high where it is true, a number a line of steps, and anything else a box for each value; where a fault has
 //! struck, the box is a bar as long as it stays. Lanes with such bars come first. Lengths are pixels; they are kept from wrapping, so
 //! that any report has a picture.
-
-use crate::columns::Kind;
+use crate::columns::ColumnKind;
 use crate::escapes::append_characters;
 use crate::lanes::{Bar, HIGH, Lane};
 use crate::pieces::append_numbered;
@@ -254,15 +253,15 @@ fn append_lane(
 
 /// Where a bar begins and ends, and the top of its lane.
 #[derive(Clone, Copy)]
-struct Span {
+struct BarSpan {
     begin: u64,
     end: u64,
     top: u64,
 }
 
 /// Where a bar is.
-fn span_of(scale: Scale, bar: &Bar<'_>, top: u64) -> Span {
-    Span {
+fn span_of(scale: Scale, bar: &Bar<'_>, top: u64) -> BarSpan {
+    BarSpan {
         begin: place_of(scale, bar.stretch.begin as u64),
         end: place_of(scale, bar.stretch.end as u64),
         top,
@@ -292,16 +291,16 @@ fn append_meaning(
 fn append_bar(
     alloc: Global,
     text: &mut ByteList,
-    kind: Kind,
+    kind: ColumnKind,
     bar: &Bar<'_>,
-    span: Span,
+    span: BarSpan,
     before: Option<u64>,
 ) -> Result<Option<u64>, OutOfMemory> {
     let Some(value) = bar.stretch.value else {
         return Ok(None);
     };
     match kind {
-        Kind::Truth | Kind::Whole => {
+        ColumnKind::Truth | ColumnKind::Whole => {
             let line = span
                 .top
                 .saturating_add(6)
@@ -310,7 +309,7 @@ fn append_bar(
             append_value(alloc, text, value, b"value", span, 33)?;
             Ok(Some(line))
         }
-        Kind::Long | Kind::Symbol => {
+        ColumnKind::Long | ColumnKind::Symbol => {
             append_box(alloc, text, span, bar.fault.is_some())?;
             append_value(alloc, text, value, class_of(bar), span, 24)?;
             Ok(None)
@@ -331,7 +330,7 @@ fn class_of(bar: &Bar<'_>) -> &'static [u8] {
 fn append_level(
     alloc: Global,
     text: &mut ByteList,
-    span: Span,
+    span: BarSpan,
     line: u64,
     before: u64,
 ) -> Result<(), OutOfMemory> {
@@ -352,7 +351,7 @@ fn append_level(
 fn append_box(
     alloc: Global,
     text: &mut ByteList,
-    span: Span,
+    span: BarSpan,
     is_struck: bool,
 ) -> Result<(), OutOfMemory> {
     if is_struck {
@@ -373,7 +372,7 @@ fn append_value(
     text: &mut ByteList,
     value: &[u8],
     class: &[u8],
-    span: Span,
+    span: BarSpan,
     below: u64,
 ) -> Result<(), OutOfMemory> {
     text.append(b"<text class=\"")?;

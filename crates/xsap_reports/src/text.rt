@@ -1,9 +1,8 @@
 //! A report as plain text: a table of the sets, how the analysis ended, and a table of each trace. [`text_of`] is the main function.
-
 use crate::endings::append_ending;
 use crate::moments::{Row, Values, rows_of};
 use crate::names::append_set;
-use crate::report::{Line, Report, Trace};
+use crate::report::{Line, Report, ReportTrace};
 use base_values::{ByteList, OutOfMemory};
 use std::alloc::Global;
 
@@ -80,7 +79,7 @@ fn append_trace(
     alloc: Global,
     text: &mut ByteList,
     faults: &[&[u8]],
-    trace: &Trace<'_>,
+    trace: &ReportTrace<'_>,
     values: Values,
 ) -> Result<(), OutOfMemory> {
     let rows = rows_of(alloc, faults, &trace.moments, values)?;

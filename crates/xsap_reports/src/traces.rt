@@ -2,12 +2,11 @@
 //!
 //! The main function is [`read_traces`]. A moment ends before the first line that is no value, and a trace before the first line that
 //! is no next moment.
-
 ghost use Rattle.std.specs.Prelude.{◌≡◌, ◌<◌, ◌≤◌, length, All, IfOk, IfSome};
 ghost use Rattle.xsap_reports.specs.Reports.{HasWords, IsMomentOfWords, IsTraceOfWords};
 
-use crate::fault::{Expected, Stop};
-use crate::report::{Line, Moment, Trace};
+use crate::fault::{Expected, ReportStop};
+use crate::report::{Line, ReportMoment, ReportTrace};
 use crate::words::{first_word, is_word, number_behind, stop, take_line};
 use base_values::first_line;
 use std::alloc::Global;
@@ -17,7 +16,7 @@ pub(crate) fn read_traces(
     alloc: Global,
     bytes: &[u8],
     count: usize,
-) -> Result<(Vec<Trace<'_>>, &[u8]), Stop>
+) -> Result<(Vec<ReportTrace<'_>>, &[u8]), ReportStop>
     ensures count { IfOk result (λ p. length p.0.items ≡ count) }
     ensures words { IfOk result (λ p. All IsTraceOfWords p.0.items) }
 {
@@ -32,7 +31,11 @@ pub(crate) fn read_traces(
 }
 
 /// The trace of this number, and the bytes behind it.
-fn read_trace(alloc: Global, bytes: &[u8], number: usize) -> Result<(Trace<'_>, &[u8]), Stop>
+fn read_trace(
+    alloc: Global,
+    bytes: &[u8],
+    number: usize,
+) -> Result<(ReportTrace<'_>, &[u8]), ReportStop>
     ensures { IfOk result (λ p. IsTraceOfWords p.0) }
 {
     let (line, after) = take_line(bytes, Expected::Trace)?;
@@ -43,7 +46,7 @@ fn read_trace(alloc: Global, bytes: &[u8], number: usize) -> Result<(Trace<'_>, 
 }
 
 /// The moments at the beginning, at least one, and the bytes behind them.
-fn read_moments(alloc: Global, bytes: &[u8]) -> Result<(Trace<'_>, &[u8]), Stop>
+fn read_moments(alloc: Global, bytes: &[u8]) -> Result<(ReportTrace<'_>, &[u8]), ReportStop>
     ensures { IfOk result (λ p. IsTraceOfWords p.0) }
 {
     let mut moments = Vec::new(alloc);
@@ -56,7 +59,7 @@ fn read_moments(alloc: Global, bytes: &[u8]) -> Result<(Trace<'_>, &[u8]), Stop>
     if moments.is_empty() {
         return Err(stop(bytes, Expected::Moment));
     }
-    Ok((Trace { moments }, rest))
+    Ok((ReportTrace { moments }, rest))
 }
 
 /// The bytes behind the line `moment i`, where that is the first line.
@@ -72,7 +75,7 @@ fn behind_head(bytes: &[u8], number: usize) -> Option<&[u8]>
 }
 
 /// The values at the beginning, and the bytes behind them.
-fn read_moment(alloc: Global, bytes: &[u8]) -> Result<(Moment<'_>, &[u8]), Stop>
+fn read_moment(alloc: Global, bytes: &[u8]) -> Result<(ReportMoment<'_>, &[u8]), ReportStop>
     ensures behind { IfOk result (λ p. length p.1.now ≤ length bytes.now) }
     ensures words { IfOk result (λ p. IsMomentOfWords p.0) }
 {
@@ -82,7 +85,7 @@ fn read_moment(alloc: Global, bytes: &[u8]) -> Result<(Moment<'_>, &[u8]), Stop>
         lines.push(line)?;
         rest = after;
     }
-    Ok((Moment { lines }, rest))
+    Ok((ReportMoment { lines }, rest))
 }
 
 /// The value of the first line, where it is one, and the bytes behind it.

@@ -3,12 +3,11 @@
 //! Each trace is a scope, and each variable of its first moment a variable of that scope: a wire of one bit for a boolean, an integer of 64
 //! bits for numbers, a real where one of them is longer, and else a string. The times are the moments, in one second each. A trace that
 //! ends before others keeps its last values. A value that another variable of the report has at a place of a trace is left out.
-
-use crate::columns::{Column, Kind, columns_of, value_at, whole_of};
+use crate::columns::{ColumnKind, TraceColumn, columns_of, value_at, whole_of};
 use crate::endings::append_ending;
 use crate::moments::is_changed;
 use crate::pieces::{append_numbered, number_of};
-use crate::report::{Moment, Report, Trace};
+use crate::report::{Report, ReportMoment, ReportTrace};
 use base_values::{ByteList, OutOfMemory};
 use std::alloc::Global;
 
@@ -29,12 +28,12 @@ pub fn vcd_of(alloc: Global, report: &Report<'_>) -> Result<Vec<u8>, OutOfMemory
 /// The variables of a trace, and the number of the first one among those of all traces.
 #[derive(Drop)]
 struct Wave<'a> {
-    columns: Vec<Column<'a>>,
+    columns: Vec<TraceColumn<'a>>,
     first: u64,
 }
 
 /// The variables of each trace.
-fn waves_of<'a>(alloc: Global, traces: &[Trace<'a>]) -> Result<Vec<Wave<'a>>, OutOfMemory> {
+fn waves_of<'a>(alloc: Global, traces: &[ReportTrace<'a>]) -> Result<Vec<Wave<'a>>, OutOfMemory> {
     let mut waves = Vec::new(alloc);
     let mut first: u64 = 0;
     for trace in traces {
@@ -65,7 +64,7 @@ fn append_scopes(
 fn append_variables(
     alloc: Global,
     text: &mut ByteList,
-    columns: &[Column<'_>],
+    columns: &[TraceColumn<'_>],
     first: u64,
 ) -> Result<(), OutOfMemory> {
     for (i, column) in columns.iter().enumerate() {
@@ -79,12 +78,12 @@ fn append_variables(
 }
 
 /// What stands before the code of a variable.
-fn head_of(kind: Kind) -> &'static [u8] {
+fn head_of(kind: ColumnKind) -> &'static [u8] {
     match kind {
-        Kind::Truth => b"$var wire 1 ",
-        Kind::Whole => b"$var integer 64 ",
-        Kind::Long => b"$var real 64 ",
-        Kind::Symbol => b"$var string 1 ",
+        ColumnKind::Truth => b"$var wire 1 ",
+        ColumnKind::Whole => b"$var integer 64 ",
+        ColumnKind::Long => b"$var real 64 ",
+        ColumnKind::Symbol => b"$var string 1 ",
     }
 }
 
@@ -120,7 +119,7 @@ fn append_name(text: &mut ByteList, name: &[u8]) -> Result<(), OutOfMemory> {
 fn append_changes(
     alloc: Global,
     text: &mut ByteList,
-    traces: &[Trace<'_>],
+    traces: &[ReportTrace<'_>],
     waves: &[Wave<'_>],
 ) -> Result<(), OutOfMemory> {
     let mut open = places_of(alloc, traces.len())?;
@@ -144,7 +143,7 @@ fn places_of(alloc: Global, count: usize) -> Result<Vec<usize>, OutOfMemory> {
 }
 
 /// The most moments of a trace.
-fn longest_of(traces: &[Trace<'_>]) -> usize {
+fn longest_of(traces: &[ReportTrace<'_>]) -> usize {
     let mut longest = 0;
     for trace in traces {
         longest = trace.moments.len().max(longest);
@@ -156,7 +155,7 @@ fn longest_of(traces: &[Trace<'_>]) -> usize {
 fn append_moments(
     alloc: Global,
     text: &mut ByteList,
-    traces: &[Trace<'_>],
+    traces: &[ReportTrace<'_>],
     waves: &[Wave<'_>],
     open: &[usize],
     at: usize,
@@ -176,9 +175,9 @@ fn append_moments(
 /// Appends the changes at a moment of a trace.
 fn append_moment(
     text: &mut ByteList,
-    moments: &[Moment<'_>],
+    moments: &[ReportMoment<'_>],
     at: usize,
-    moment: &Moment<'_>,
+    moment: &ReportMoment<'_>,
     wave: &Wave<'_>,
 ) -> Result<(), OutOfMemory> {
     for (i, (line, column)) in moment.lines.iter().zip(wave.columns.iter()).enumerate() {
@@ -199,20 +198,20 @@ fn append_moment(
 /// Appends the change of the variable of a number to a value.
 fn append_change(
     text: &mut ByteList,
-    kind: Kind,
+    kind: ColumnKind,
     value: &[u8],
     number: u64,
 ) -> Result<(), OutOfMemory> {
     match kind {
-        Kind::Truth if value == b"TRUE".as_slice() => text.append(b"1")?,
-        Kind::Truth => text.append(b"0")?,
-        Kind::Whole => append_bits(text, value)?,
-        Kind::Long => {
+        ColumnKind::Truth if value == b"TRUE".as_slice() => text.append(b"1")?,
+        ColumnKind::Truth => text.append(b"0")?,
+        ColumnKind::Whole => append_bits(text, value)?,
+        ColumnKind::Long => {
             text.append(b"r")?;
             text.append(value)?;
             text.append(b" ")?;
         }
-        Kind::Symbol => append_string(text, value)?,
+        ColumnKind::Symbol => append_string(text, value)?,
     }
     append_code(text, number)?;
     text.append(b"\n")

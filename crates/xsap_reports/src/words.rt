@@ -1,15 +1,14 @@
 //! The lines of a text and the words of a line.
-
 ghost use Rattle.std.specs.Prelude.{◌≡◌, ◌<◌, ◌≤◌, length, IfOk, IfSome, All};
 ghost use Rattle.std.specs.List.{list_all};
 ghost use Rattle.xsap_reports.specs.Reports.{is_plain, is_word, IsListed};
 
-use crate::fault::{Expected, Stop};
+use crate::fault::{Expected, ReportStop};
 use base_values::{cut, first_line};
 use std::alloc::{AllocError, Global};
 
 /// The first line and the bytes behind its line feed, or the stop there.
-pub(crate) fn take_line(bytes: &[u8], expected: Expected) -> Result<(&[u8], &[u8]), Stop>
+pub(crate) fn take_line(bytes: &[u8], expected: Expected) -> Result<(&[u8], &[u8]), ReportStop>
     ensures { IfOk result (λ p. length p.1.now < length bytes.now) }
 {
     match first_line(bytes) {
@@ -19,8 +18,8 @@ pub(crate) fn take_line(bytes: &[u8], expected: Expected) -> Result<(&[u8], &[u8
 }
 
 /// The stop at the beginning of these bytes.
-pub(crate) fn stop(bytes: &[u8], expected: Expected) -> Stop {
-    Stop::At {
+pub(crate) fn stop(bytes: &[u8], expected: Expected) -> ReportStop {
+    ReportStop::At {
         left: bytes.len(),
         expected,
     }

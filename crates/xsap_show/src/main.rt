@@ -16,7 +16,7 @@ use std::process::ExitCode;
 use std::rt::Files;
 use std::{env, io};
 use xsap_reports::{
-    Fault, Report, ReportFault, Values, changes_of, csv_of_sets, dot_of, html_of, json_of,
+    Report, ReportFault, Values, WrongLine, changes_of, csv_of_sets, dot_of, html_of, json_of,
     markdown_of, open_psa_of, read, text_of, vcd_of,
 };
 
@@ -25,7 +25,7 @@ const LONGEST_FILE: u64 = 1_073_741_824;
 
 /// How a run ends, by the number that the system gets; from 7 on as for `xsap_program`.
 #[derive(Clone, Copy)]
-enum End {
+enum ShowEnd {
     /// The report is shown, or two of them have the same sets and ended alike.
     Shown = 0,
     /// Two reports differ.
@@ -48,25 +48,25 @@ enum End {
 #[derive(Drop)]
 struct Answer {
     text: Vec<u8>,
-    end: End,
+    end: ShowEnd,
 }
 
 /// Why a run goes no further.
 #[derive(Drop)]
-enum Stop {
+enum ShowStop {
     Memory,
     Answered(Answer),
 }
 
-impl From<AllocError> for Stop {
-    fn from(_refused: AllocError) -> Stop {
-        Stop::Memory
+impl From<AllocError> for ShowStop {
+    fn from(_refused: AllocError) -> ShowStop {
+        ShowStop::Memory
     }
 }
 
-impl From<OutOfMemory> for Stop {
-    fn from(_refused: OutOfMemory) -> Stop {
-        Stop::Memory
+impl From<OutOfMemory> for ShowStop {
+    fn from(_refused: OutOfMemory) -> ShowStop {
+        ShowStop::Memory
     }
 }
 
@@ -85,7 +85,7 @@ enum Format {
 
 /// What the words ask for.
 #[derive(Clone, Copy)]
-enum Command<'a> {
+enum ShowCommand<'a> {
     Show {
         name: &'a str,
         format: Format,
@@ -99,56 +99,61 @@ enum Command<'a> {
 
 /// What is said of other words.
 static USAGE: &str =
-    "The words are `show FILE [--format text|csv|json|markdown|html|open-psa|dot|vcd] [--full]` or `diff OLD NEW`, where each file is a report of an analysis, and one of them may be `-` for standard input.\n";
+    "The words are `show FILE [--format text|csv|json|markdown|html|open-psa|dot|vcd] [--full]` or `diff OLD NEW`, where each file is a \
+        report of an analysis, and one of them may be `-` for standard input.\n";
 
 fn main(rt: HostRuntime) -> ExitCode {
     let alloc = rt.alloc();
     let end = match env::args(&rt) {
         Ok(args) => match args.skip(1).collect::<Vec<String>>(alloc) {
             Ok(words) => end_of(&rt, alloc, &words),
-            Err(AllocError) => End::Memory,
+            Err(AllocError) => ShowEnd::Memory,
         },
-        Err(error) if error.kind() == ErrorKind::OutOfMemory => End::Memory,
-        Err(_) => End::NotText,
+        Err(error) if error.kind() == ErrorKind::OutOfMemory => ShowEnd::Memory,
+        Err(_) => ShowEnd::NotText,
     };
     ExitCode::from(end as u8)
 }
 
 /// How a run with these words ends.
-fn end_of<R: Files + Input + Print>(rt: &R, alloc: Global, words: &[String]) -> End {
+fn end_of<R: Files + Input + Print>(rt: &R, alloc: Global, words: &[String]) -> ShowEnd {
     match answer_to(rt, alloc, words) {
         Ok(answer) => printed(rt, &answer),
-        Err(Stop::Answered(answer)) => printed(rt, &answer),
-        Err(Stop::Memory) => End::Memory,
+        Err(ShowStop::Answered(answer)) => printed(rt, &answer),
+        Err(ShowStop::Memory) => ShowEnd::Memory,
     }
 }
 
 /// Prints an answer, and tells how the run ends.
-fn printed<R: Print>(rt: &R, answer: &Answer) -> End {
+fn printed<R: Print>(rt: &R, answer: &Answer) -> ShowEnd {
     match rt.write_all(answer.text.as_slice()) {
         Ok(()) => answer.end,
-        Err(error) if error.kind() == ErrorKind::OutOfMemory => End::Memory,
-        Err(_) => End::Failed,
+        Err(error) if error.kind() == ErrorKind::OutOfMemory => ShowEnd::Memory,
+        Err(_) => ShowEnd::Failed,
     }
 }
 
 /// The answer to these words.
-fn answer_to<R: Files + Input>(rt: &R, alloc: Global, words: &[String]) -> Result<Answer, Stop> {
+fn answer_to<R: Files + Input>(
+    rt: &R,
+    alloc: Global,
+    words: &[String],
+) -> Result<Answer, ShowStop> {
     match command_in(words) {
         Some(
-            Command::Show {
+            ShowCommand::Show {
                 name,
                 format,
                 values,
             },
         ) => shown(rt, alloc, name, format, values),
-        Some(Command::Diff { old, new }) => compared(rt, alloc, old, new),
-        None => Err(sentence(alloc, USAGE, End::Words)),
+        Some(ShowCommand::Diff { old, new }) => compared(rt, alloc, old, new),
+        None => Err(sentence(alloc, USAGE, ShowEnd::Words)),
     }
 }
 
 /// What the words ask for.
-fn command_in(words: &[String]) -> Option<Command<'_>> {
+fn command_in(words: &[String]) -> Option<ShowCommand<'_>> {
     match words {
         [verb, name, options @ ..] if verb.as_str() == "show" => show_of(name.as_str(), options),
         [verb, old, new] if verb.as_str() == "diff" => diff_of(old.as_str(), new.as_str()),
@@ -157,9 +162,9 @@ fn command_in(words: &[String]) -> Option<Command<'_>> {
 }
 
 /// A report that is shown with these options.
-fn show_of<'a>(name: &'a str, options: &[String]) -> Option<Command<'a>> {
+fn show_of<'a>(name: &'a str, options: &[String]) -> Option<ShowCommand<'a>> {
     let (format, values) = options_in(options)?;
-    Some(Command::Show {
+    Some(ShowCommand::Show {
         name,
         format,
         values,
@@ -167,11 +172,11 @@ fn show_of<'a>(name: &'a str, options: &[String]) -> Option<Command<'a>> {
 }
 
 /// Two files that are compared. Standard input is read but once.
-fn diff_of<'a>(old: &'a str, new: &'a str) -> Option<Command<'a>> {
+fn diff_of<'a>(old: &'a str, new: &'a str) -> Option<ShowCommand<'a>> {
     if old == "-" && new == "-" {
         None
     } else {
-        Some(Command::Diff { old, new })
+        Some(ShowCommand::Diff { old, new })
     }
 }
 
@@ -211,10 +216,10 @@ fn format_in(option: &String, form: &String) -> Option<Format> {
 }
 
 /// The stop at which a sentence is said.
-fn sentence(alloc: Global, text: &str, end: End) -> Stop {
+fn sentence(alloc: Global, text: &str, end: ShowEnd) -> ShowStop {
     match Vec::from_slice(alloc, text.as_bytes()) {
-        Ok(text) => Stop::Answered(Answer { text, end }),
-        Err(AllocError) => Stop::Memory,
+        Ok(text) => ShowStop::Answered(Answer { text, end }),
+        Err(AllocError) => ShowStop::Memory,
     }
 }
 
@@ -225,13 +230,13 @@ fn shown<R: Files + Input>(
     name: &str,
     format: Format,
     values: Values,
-) -> Result<Answer, Stop> {
+) -> Result<Answer, ShowStop> {
     let bytes = bytes_of(rt, alloc, name)?;
     let report = report_of(alloc, name, bytes.as_slice())?;
     let text = text_in(alloc, &report, format, values)?;
     Ok(Answer {
         text,
-        end: End::Shown,
+        end: ShowEnd::Shown,
     })
 }
 
@@ -255,7 +260,12 @@ fn text_in(
 }
 
 /// How the reports in two files differ.
-fn compared<R: Files + Input>(rt: &R, alloc: Global, old: &str, new: &str) -> Result<Answer, Stop> {
+fn compared<R: Files + Input>(
+    rt: &R,
+    alloc: Global,
+    old: &str,
+    new: &str,
+) -> Result<Answer, ShowStop> {
     let old_bytes = bytes_of(rt, alloc, old)?;
     let new_bytes = bytes_of(rt, alloc, new)?;
     let old_report = report_of(alloc, old, old_bytes.as_slice())?;
@@ -264,34 +274,34 @@ fn compared<R: Files + Input>(rt: &R, alloc: Global, old: &str, new: &str) -> Re
 }
 
 /// How two reports differ.
-fn difference(alloc: Global, old: &Report<'_>, new: &Report<'_>) -> Result<Answer, Stop> {
+fn difference(alloc: Global, old: &Report<'_>, new: &Report<'_>) -> Result<Answer, ShowStop> {
     let changes = changes_of(alloc, old, new)?;
     let text = changes.text(alloc, old, new)?;
     let end = if changes.is_any() {
-        End::Differ
+        ShowEnd::Differ
     } else {
-        End::Shown
+        ShowEnd::Shown
     };
     Ok(Answer { text, end })
 }
 
 /// The report that these bytes of a file are.
-fn report_of<'a>(alloc: Global, name: &str, bytes: &'a [u8]) -> Result<Report<'a>, Stop> {
+fn report_of<'a>(alloc: Global, name: &str, bytes: &'a [u8]) -> Result<Report<'a>, ShowStop> {
     match read(alloc, bytes) {
         Ok(report) => Ok(report),
-        Err(ReportFault::OutOfMemory) => Err(Stop::Memory),
+        Err(ReportFault::OutOfMemory) => Err(ShowStop::Memory),
         Err(ReportFault::At(fault)) => Err(no_report(alloc, name, fault)),
     }
 }
 
 /// The stop at which it is said where a file stops being a report.
-fn no_report(alloc: Global, name: &str, fault: Fault) -> Stop {
+fn no_report(alloc: Global, name: &str, fault: WrongLine) -> ShowStop {
     let title = title_of(name);
     let line = fault.line;
     let expected = fault.expected.text();
     match format!(in alloc; "{title} is no report: in line {line} there should be {expected}.\n") {
-        Ok(text) => sentence(alloc, text.as_str(), End::NoReport),
-        Err(AllocError) => Stop::Memory,
+        Ok(text) => sentence(alloc, text.as_str(), ShowEnd::NoReport),
+        Err(AllocError) => ShowStop::Memory,
     }
 }
 
@@ -301,31 +311,31 @@ fn title_of(name: &str) -> &str {
 }
 
 /// The bytes of a file.
-fn bytes_of<R: Files + Input>(rt: &R, alloc: Global, name: &str) -> Result<Vec<u8>, Stop> {
+fn bytes_of<R: Files + Input>(rt: &R, alloc: Global, name: &str) -> Result<Vec<u8>, ShowStop> {
     let mut bytes = Vec::new(alloc);
     match read_into(rt, name, &mut bytes) {
         Ok(()) => of_a_length(alloc, name, bytes),
-        Err(error) if error.kind() == ErrorKind::OutOfMemory => Err(Stop::Memory),
+        Err(error) if error.kind() == ErrorKind::OutOfMemory => Err(ShowStop::Memory),
         Err(error) if error.kind() == ErrorKind::NotFound => {
             let text = format!(in alloc; "There is no file {name}.\n")?;
-            Err(sentence(alloc, text.as_str(), End::NoFile))
+            Err(sentence(alloc, text.as_str(), ShowEnd::NoFile))
         }
         Err(_) => {
             let title = title_of(name);
             let text = format!(in alloc; "{title} can't be read.\n")?;
-            Err(sentence(alloc, text.as_str(), End::NoFile))
+            Err(sentence(alloc, text.as_str(), ShowEnd::NoFile))
         }
     }
 }
 
 /// These bytes, where they are not as many as were read at most.
-fn of_a_length(alloc: Global, name: &str, bytes: Vec<u8>) -> Result<Vec<u8>, Stop> {
+fn of_a_length(alloc: Global, name: &str, bytes: Vec<u8>) -> Result<Vec<u8>, ShowStop> {
     if (bytes.len() as u64) < LONGEST_FILE {
         return Ok(bytes);
     }
     let title = title_of(name);
     let text = format!(in alloc; "{title} is no report: it has {LONGEST_FILE} bytes or more.\n")?;
-    Err(sentence(alloc, text.as_str(), End::NoReport))
+    Err(sentence(alloc, text.as_str(), ShowEnd::NoReport))
 }
 
 /// Reads a file to its end, or up to the length at which it is no report.

@@ -2,7 +2,7 @@
 use Rattle.std.proofs.Common.{◌≡◌, ℕ, List}
 use Rattle.smv_language.specs.ProgramTree.{Text}
 use Rattle.verb_loading.specs.declared.status.Status.TheVariants as status
-use Rattle.verb_loading.specs.Answered.{Told, Said}
+use Rattle.verb_loading.specs.CaseAnswers.{Told, Said}
 use Rattle.xsap_tops.specs.Ended.{HasRun}
 
 no_desk : {P : Type 0} → status.Memory ≡ status.Desk → P

@@ -5,7 +5,7 @@ use Rattle.smv_language.specs.ProgramTree.{Text}
 use Rattle.verb_loading.specs.declared.status.Status.{Status}
 use Rattle.verb_loading.specs.declared.status.Status.TheVariants as status
 use Rattle.verb_loading.specs.Statuses.{IsAnswer, number_of}
-use Rattle.verb_loading.specs.Answered.{Told, Said}
+use Rattle.verb_loading.specs.CaseAnswers.{Told, Said}
 use Rattle.verb_tops.specs.Each.{HasAnsweredEach}
 
 -- a run with these words has ended with this status: the whole of what they and the files come to stands, and the desk's status comes

@@ -74,7 +74,8 @@ fn advised<D: Desk>(
     desk: &mut D,
     errors: Stderr,
 ) -> Result<Status, OutOfMemory>
-    ensures { IfOk result (λ s. HasRun (map (λ w. w.now) words.now) s (D.files desk.old) (D.files desk.new) (D.said desk.old) (D.said desk.new)
+    ensures { IfOk result
+        (λ s. HasRun (map (λ w. w.now) words.now) s (D.files desk.old) (D.files desk.new) (D.said desk.old) (D.said desk.new)
         (D.faults desk.old) (D.faults desk.new)) }
 {
     let mut advisers: Vec<Box<dyn Adviser>> = Vec::new(alloc);

@@ -10,7 +10,7 @@
 #![tactic(auto)]
 
 ghost use Rattle.std.specs.Prelude.{IfOk, map};
-ghost use Rattle.xsap_main.specs.Ended.{HasRun, IsEnded};
+ghost use Rattle.xsap_main.specs.ProgramEnding.{HasRun, IsEnded};
 
 use base_files::Desk;
 use base_values::OutOfMemory;
@@ -73,7 +73,8 @@ fn advised<D: Desk>(
     desk: &mut D,
     errors: Stderr,
 ) -> Result<Status, OutOfMemory>
-    ensures { IfOk result (λ s. HasRun (map (λ w. w.now) words.now) s (D.files desk.old) (D.files desk.new) (D.said desk.old) (D.said desk.new)
+    ensures { IfOk result
+        (λ s. HasRun (map (λ w. w.now) words.now) s (D.files desk.old) (D.files desk.new) (D.said desk.old) (D.said desk.new)
         (D.faults desk.old) (D.faults desk.new)) }
 {
     let mut advisers: Vec<Box<dyn Adviser>> = Vec::new(alloc);

@@ -1,6 +1,6 @@
 use Rattle.std.proofs.Common.{◌≡◌, ◌∙◌, ap, subst}
 use Rattle.std.proofs.lemmas.Result.{IfOk-weaker}
-use Rattle.sat_simplify.specs.Meeting.{AreMetAlike}
+use Rattle.sat_simplify.specs.SamePlaces.{AreMetAlike}
 use Rattle.sat_simplify.specs.Slots.{standing}
 use Rattle.sat_simplify.proofs.BaseLaws.{simplified_same}
 use Rattle.sat_simplify.proofs.simplified.Goals as goal

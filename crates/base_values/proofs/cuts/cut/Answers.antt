@@ -1,6 +1,6 @@
 use Rattle.std.proofs.Common.{◌++◌, sym, ◌∙◌, ap, subst, drop}
 use Rattle.std.proofs.lemmas.List.{take-append-drop}
-use Rattle.base_values.specs.Cuts.{Lacks, BeginsWith}
+use Rattle.base_values.specs.Separators.{Lacks, BeginsWith}
 use Rattle.base_values.proofs.Cutting.{front_free, back_begins}
 use Rattle.base_values.proofs.cuts.cut.Goals as goal
 

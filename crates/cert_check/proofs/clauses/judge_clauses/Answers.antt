@@ -1,6 +1,6 @@
 use Rattle.std.proofs.Common.{◌≡◌, ◌+◌, false, IsTrue, sym, ap, subst, arith}
 use Rattle.std.proofs.lemmas.Bool.{both_ways}
-use Rattle.cert_check.specs.Asked.{asked}
+use Rattle.cert_check.specs.QuestionMatter.{asked}
 use Rattle.sat_clauses.specs.Hints.{HasNoOpposites}
 use Rattle.sat_clauses.specs.States.{IsOverBits}
 use Rattle.cert_laws.specs.Sites.{clause_sites}

@@ -1,8 +1,8 @@
 -- what is found from here on is found at all clauses
 use Rattle.std.proofs.Common.{drop}
 use Rattle.cert_laws.specs.Sites.{clause_sites}
-use Rattle.cert_check.specs.Asked.{asked}
-use Rattle.cert_check.specs.Found.{GoesOn}
+use Rattle.cert_check.specs.QuestionMatter.{asked}
+use Rattle.cert_check.specs.SiteFindings.{GoesOn}
 use Rattle.cert_check.proofs.clauses.judge_clauses.Given as goal
 
 abbrev pub invariant-loop-i : goal.invariant-loop-i

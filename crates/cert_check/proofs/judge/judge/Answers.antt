@@ -1,7 +1,7 @@
 use Rattle.std.proofs.lemmas.Result.{IfOk-weaker}
-use Rattle.cert_check.specs.Asked.{asked}
+use Rattle.cert_check.specs.QuestionMatter.{asked}
 use Rattle.cert_laws.specs.Sites.{sites_of}
-use Rattle.cert_check.specs.Found.{Finds, IsJudged}
+use Rattle.cert_check.specs.SiteFindings.{Finds, IsJudged}
 use Rattle.cert_check.proofs.Finding.{judged_of_all}
 use Rattle.cert_check.proofs.judge.judge.Goals as goal
 

@@ -1,9 +1,9 @@
 use Rattle.std.proofs.Common.{◌++◌, subst}
 use Rattle.std.proofs.lemmas.Result.{IfOk-weaker}
-use Rattle.cert_check.specs.Asked.{asked}
+use Rattle.cert_check.specs.QuestionMatter.{asked}
 use Rattle.cert_laws.specs.Sites.{set_sites}
-use Rattle.cert_check.specs.Asked.{proof_sites}
-use Rattle.cert_check.specs.Found.{Finds}
+use Rattle.cert_check.specs.QuestionMatter.{proof_sites}
+use Rattle.cert_check.specs.SiteFindings.{Finds}
 use Rattle.cert_check.proofs.Finding.{kept_both, broken_front}
 use Rattle.cert_check.proofs.judge.judge_listed.Goals as goal
 

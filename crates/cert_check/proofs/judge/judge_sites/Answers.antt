@@ -1,11 +1,11 @@
 use Rattle.std.proofs.Common.{◌≡◌, false, IsTrue, ◌∷◌, ◌++◌, refl, arith}
 use Rattle.std.proofs.lemmas.Bool.{both_ways}
 use Rattle.std.proofs.lemmas.Result.{IfOk-weaker}
-use Rattle.cert_check.specs.Asked.{asked}
+use Rattle.cert_check.specs.QuestionMatter.{asked}
 use Rattle.cert_laws.specs.Certificate.{the_numbers}
 use Rattle.cert_laws.specs.Sites.{set_sites}
-use Rattle.cert_check.specs.Asked.{proof_sites}
-use Rattle.cert_check.specs.Found.{Finds}
+use Rattle.cert_check.specs.QuestionMatter.{proof_sites}
+use Rattle.cert_check.specs.SiteFindings.{Finds}
 use Rattle.cert_check.proofs.Finding.{kept_then, broken_here}
 use Rattle.cert_check.proofs.SiteLaws.{numbers_kept, numbers_broken}
 use Rattle.cert_check.proofs.judge.judge_sites.Goals as goal

@@ -1,5 +1,5 @@
 use Rattle.std.proofs.Common.{◌≡◌, ◌∙◌, ◌+◌, ◌<◌, ◌^◌, sym, ap, subst, arith}
-use Rattle.cert_check.specs.Asked.{asked}
+use Rattle.cert_check.specs.QuestionMatter.{asked}
 use Rattle.cert_laws.specs.Certificate.{lines_of_sets}
 use Rattle.cert_check.proofs.LineCounts.{sets_within}
 use Rattle.cert_check.proofs.lines.invariant_line.Goals as goal

@@ -1,7 +1,7 @@
 use Rattle.std.proofs.Common.{◌+◌, [], ◌∷◌, sym, subst, arith}
-use Rattle.cert_check.specs.Asked.{asked}
+use Rattle.cert_check.specs.QuestionMatter.{asked}
 use Rattle.cert_laws.specs.Certificate.{a_set, a_trace}
-use Rattle.cert_check.specs.Found.{IsKeptAt, IsBrokenAt, FindsAt}
+use Rattle.cert_check.specs.SiteFindings.{IsKeptAt, IsBrokenAt, FindsAt}
 use Rattle.cert_check.specs.declared.judged.Judged.TheVariants.{Yes, No}
 use Rattle.cert_check.proofs.Finding.{kept_none, kept_then, broken_here}
 use Rattle.cert_check.proofs.listed.judge_set.Goals as goal

@@ -1,9 +1,9 @@
 use Rattle.std.proofs.Common.{[], ◌∷◌, length, refl, subst, arith}
-use Rattle.cert_check.specs.Asked.{asked}
+use Rattle.cert_check.specs.QuestionMatter.{asked}
 use Rattle.cert_laws.specs.Certificate.{a_set, a_trace}
 use Rattle.cert_laws.specs.Sites.{set_sites}
 use Rattle.cert_check.specs.Fit.{IsShortText}
-use Rattle.cert_check.specs.Found.{Finds, AreKept}
+use Rattle.cert_check.specs.SiteFindings.{Finds, AreKept}
 use Rattle.cert_check.proofs.Loops.{goes_itself, set_goes_on, set_ends, sets_over}
 use Rattle.cert_check.proofs.LineCounts.{text_at, room_at, line_next}
 use Rattle.cert_check.proofs.OrderLaws.{none_in_order, in_order_after}

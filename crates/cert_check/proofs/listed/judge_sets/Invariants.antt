@@ -2,8 +2,8 @@
 use Rattle.std.proofs.Common.{◌≡◌, ◌+◌, take, drop}
 use Rattle.cert_laws.specs.Certificate.{lines_of_sets}
 use Rattle.cert_laws.specs.Sites.{set_sites}
-use Rattle.cert_check.specs.Asked.{asked}
-use Rattle.cert_check.specs.Found.{GoesOn}
+use Rattle.cert_check.specs.QuestionMatter.{asked}
+use Rattle.cert_check.specs.SiteFindings.{GoesOn}
 use Rattle.cert_check.specs.Order.{AreInOrder}
 use Rattle.cert_check.proofs.listed.judge_sets.Given as goal
 

@@ -1,6 +1,6 @@
 use Rattle.std.proofs.Common.{◌≡◌, ◌∙◌}
 use Rattle.cert_laws.specs.Certificate.{part_bad}
-use Rattle.cert_check.specs.Asked.{asked}
+use Rattle.cert_check.specs.QuestionMatter.{asked}
 use Rattle.cert_check.specs.Parts.{list_of}
 use Rattle.cert_check.proofs.StepLaws.{vars_begin, known_begin}
 use Rattle.cert_check.proofs.parts.checker_of_bad.Goals as goal

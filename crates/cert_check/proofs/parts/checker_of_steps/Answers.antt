@@ -1,7 +1,7 @@
 use Rattle.std.proofs.Common.{◌≡◌, ◌∙◌, sym, subst}
 use Rattle.sat_encoding_laws.specs.Encodable.{IsEncodable}
 use Rattle.cert_laws.specs.Certificate.{part_next}
-use Rattle.cert_check.specs.Asked.{asked}
+use Rattle.cert_check.specs.QuestionMatter.{asked}
 use Rattle.cert_check.specs.Parts.{list_of}
 use Rattle.cert_check.proofs.StepLaws.{vars_begin, known_begin}
 use Rattle.cert_check.proofs.parts.checker_of_steps.Goals as goal

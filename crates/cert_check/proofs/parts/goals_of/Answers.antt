@@ -1,9 +1,9 @@
 use Rattle.std.proofs.Common.{◌≡◌, ◌+◌, ◌<◌, ◌≤◌, sym, subst}
 use Rattle.std.specs.Prelude.{All, map, IfOk}
-use Rattle.cert_check.specs.Asked.{asked}
+use Rattle.cert_check.specs.QuestionMatter.{asked}
 use Rattle.sat_clauses.specs.Literal.{Literal}
 use Rattle.sat_clauses.specs.States.{moved_on}
-use Rattle.cert_laws.specs.Accepted.{goals}
+use Rattle.cert_laws.specs.Acceptance.{goals}
 use Rattle.cert_check.specs.Parts.{part_of}
 use Rattle.cert_check.proofs.parts.goals_of.Goals as goal
 

@@ -1,5 +1,5 @@
 use Rattle.std.proofs.Common.{arith}
-use Rattle.cert_check.specs.Asked.{asked}
+use Rattle.cert_check.specs.QuestionMatter.{asked}
 use Rattle.cert_check.specs.Parts.{part_of}
 use Rattle.cert_check.proofs.StepLaws.{lines_within}
 use Rattle.cert_check.proofs.parts.judge_part.Goals as goal

@@ -1,9 +1,9 @@
 use Rattle.std.proofs.Common.{◌++◌, subst, arith}
 use Rattle.std.proofs.lemmas.Result.{IfOk-weaker}
-use Rattle.cert_check.specs.Asked.{asked}
+use Rattle.cert_check.specs.QuestionMatter.{asked}
 use Rattle.cert_laws.specs.Certificate.{part_first, part_next, part_bad}
 use Rattle.cert_laws.specs.Sites.{step_sites}
-use Rattle.cert_check.specs.Found.{Finds}
+use Rattle.cert_check.specs.SiteFindings.{Finds}
 use Rattle.cert_check.proofs.Finding.{kept_both, broken_front}
 use Rattle.cert_check.proofs.StepLaws.{lines_within}
 use Rattle.cert_check.proofs.parts.judge_parts.Goals as goal

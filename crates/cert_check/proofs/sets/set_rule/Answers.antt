@@ -1,7 +1,7 @@
 use Rattle.std.proofs.Common.{◌≡◌, ◌∙◌, ◌+◌, false, IsTrue, take, sym, ap, subst, arith}
 use Rattle.std.specs.Prelude.{slice_get}
 use Rattle.std.proofs.lemmas.Bool.{both_ways}
-use Rattle.cert_check.specs.Asked.{asked}
+use Rattle.cert_check.specs.QuestionMatter.{asked}
 use Rattle.std.specs.List.{list_all}
 use Rattle.cut_sets.specs.Tests.{are_apart}
 use Rattle.cert_check.proofs.SiteLaws.{set_kept, set_broken, apart_broken}

@@ -1,5 +1,5 @@
 use Rattle.std.proofs.Common.{◌∙◌, Ok, ap, subst}
-use Rattle.cert_check.specs.Asked.{asked}
+use Rattle.cert_check.specs.QuestionMatter.{asked}
 use Rattle.cert_check.specs.Parts.{part_of, FindsSteps}
 use Rattle.cert_check.proofs.steps.judge_derivation.Goals as goal
 

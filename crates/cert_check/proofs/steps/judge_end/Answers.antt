@@ -1,6 +1,6 @@
 use Rattle.std.proofs.Common.{◌≡◌, ◌∙◌, false, IsTrue, length, ap, arith}
 use Rattle.std.proofs.lemmas.Bool.{both_ways}
-use Rattle.cert_check.specs.Asked.{asked}
+use Rattle.cert_check.specs.QuestionMatter.{asked}
 use Rattle.cert_check.specs.Parts.{part_of}
 use Rattle.cert_check.proofs.StepLaws.{covered_ends, uncovered_ends}
 use Rattle.cert_check.proofs.steps.judge_end.Goals as goal

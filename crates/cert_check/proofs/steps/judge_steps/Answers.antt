@@ -1,9 +1,9 @@
 use Rattle.std.proofs.Common.{◌≡◌, ◌∙◌, ◌+◌, Some, [], ◌∷◌, ◌++◌, length, sym, ap, subst, arith}
 use Rattle.std.specs.Prelude.{slice_get}
-use Rattle.cert_check.specs.Asked.{asked}
+use Rattle.cert_check.specs.QuestionMatter.{asked}
 use Rattle.cert_laws.specs.Certificate.{steps_in}
 use Rattle.cert_laws.specs.Sites.{step_sites}
-use Rattle.cert_laws.specs.Accepted.{givens, known_at}
+use Rattle.cert_laws.specs.Acceptance.{givens, known_at}
 use Rattle.cert_derivations.specs.Steps.{FindsStep}
 use Rattle.cert_check.specs.Parts.{part_of}
 use Rattle.cert_check.proofs.Loops.{goes_itself, step_goes_on, step_ends, steps_over}

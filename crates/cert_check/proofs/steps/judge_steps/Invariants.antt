@@ -1,10 +1,10 @@
 -- what is found from here on is found at all steps, and the checker has the clauses of those so far
 use Rattle.std.proofs.Common.{◌≡◌, drop}
 use Rattle.cert_laws.specs.Certificate.{steps_in}
-use Rattle.cert_laws.specs.Accepted.{known_at, vars_of}
+use Rattle.cert_laws.specs.Acceptance.{known_at, vars_of}
 use Rattle.cert_laws.specs.Sites.{step_sites}
-use Rattle.cert_check.specs.Asked.{asked}
-use Rattle.cert_check.specs.Found.{GoesOn}
+use Rattle.cert_check.specs.QuestionMatter.{asked}
+use Rattle.cert_check.specs.SiteFindings.{GoesOn}
 use Rattle.cert_check.specs.Parts.{part_of}
 use Rattle.cert_check.proofs.steps.judge_steps.Given as goal
 

@@ -1,9 +1,9 @@
 use Rattle.std.proofs.Common.{◌∙◌, sym, arith}
-use Rattle.cert_check.specs.Asked.{asked}
+use Rattle.cert_check.specs.QuestionMatter.{asked}
 use Rattle.smv_flat_laws.specs.FlatTrace.{stands_in_some}
 use Rattle.cert_check.proofs.Exactly.{variable_in, symbol_in, those_here, those_not, those_none, same_by, differ_then}
 use Rattle.cert_check.proofs.traces.are_failed.Goals as goal
-use Rattle.smv_language.specs.Told.{told_trace}
+use Rattle.smv_language.specs.NumberedValues.{told_trace}
 
 pub has_failed-failed-requires-clause-variable : goal.has_failed-failed-requires-clause-variable
 has_failed-failed-requires-clause-variable c = variable_in c.args.q.now.plain.now.model c.args.q.now.faults.now c.loop-i.i c.at.result.now c.requires.fit.own.modes c.at.ensures

@@ -3,10 +3,10 @@ use Rattle.std.proofs.Common.{◌≡◌, ◌+◌, drop}
 use Rattle.std.specs.Prelude.{map}
 use Rattle.smv_flat_laws.specs.FaultModes.{mode_of}
 use Rattle.smv_flat_laws.specs.FlatTrace.{stands_in_some}
-use Rattle.cert_check.specs.Asked.{asked}
+use Rattle.cert_check.specs.QuestionMatter.{asked}
 use Rattle.cert_check.specs.Moments.{are_those_of}
 use Rattle.cert_check.proofs.traces.are_failed.Given as goal
-use Rattle.smv_language.specs.Told.{told_trace}
+use Rattle.smv_language.specs.NumberedValues.{told_trace}
 
 abbrev pub invariant-loop-i : goal.invariant-loop-i
 invariant-loop-i l =

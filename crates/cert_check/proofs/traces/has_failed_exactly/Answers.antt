@@ -1,12 +1,12 @@
 use Rattle.std.proofs.Common.{◌≡◌, ◌∙◌, ◌≤◌, false, IsTrue, length, sym, subst, arith}
 use Rattle.std.specs.Prelude.{All}
 use Rattle.std.proofs.lemmas.Bool.{both_ways, false≢true}
-use Rattle.cert_check.specs.Asked.{asked}
+use Rattle.cert_check.specs.QuestionMatter.{asked}
 use Rattle.std.proofs.lemmas.List.{length-map}
 use Rattle.smv_flat_laws.specs.FaultModes.{mode_of}
 use Rattle.cert_check.proofs.Exactly.{exactly_where, numbers_from, those_from}
 use Rattle.cert_check.proofs.traces.has_failed_exactly.Goals as goal
-use Rattle.smv_language.specs.Told.{told_trace}
+use Rattle.smv_language.specs.NumberedValues.{told_trace}
 
 pub returns-then-not-are_faults : goal.returns-then-not-are_faults
 returns-then-not-are_faults c =

@@ -1,11 +1,11 @@
 use Rattle.std.proofs.Common.{◌-◌, length, refl, subst}
-use Rattle.cert_check.specs.Asked.{asked}
-use Rattle.smv_evaluation.specs.Replayed.{IsReplayed}
+use Rattle.cert_check.specs.QuestionMatter.{asked}
+use Rattle.smv_evaluation.specs.Replay.{IsReplayed}
 use Rattle.smv_evaluation.specs.Stops.{at_top}
 use Rattle.cert_check.specs.Moments.{not_a_trace, not_reaching}
 use Rattle.cert_check.proofs.Exactly.{first_no_trace, step_no_trace, top_parts}
 use Rattle.cert_check.proofs.traces.moments_rule.Goals as goal
-use Rattle.smv_language.specs.Told.{told_trace}
+use Rattle.smv_language.specs.NumberedValues.{told_trace}
 
 pub returns-in-BadFirst : goal.returns-in-BadFirst
 returns-in-BadFirst c =

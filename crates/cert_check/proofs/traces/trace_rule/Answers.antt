@@ -1,13 +1,13 @@
 use Rattle.std.proofs.Common.{◌≡◌, Some, sym, subst}
 use Rattle.std.proofs.lemmas.Result.{IfOk-weaker}
-use Rattle.cert_check.specs.Asked.{asked}
+use Rattle.cert_check.specs.QuestionMatter.{asked}
 use Rattle.cut_text_laws.specs.Lines.{fed}
 use Rattle.smv_language.specs.ModelTree.{model_tree}
 use Rattle.cert_laws.specs.Certificate.{a_trace}
-use Rattle.smv_language.specs.Told.{told_trace}
+use Rattle.smv_language.specs.NumberedValues.{told_trace}
 use Rattle.cut_report.specs.Faults.{IsFaultOf}
-use Rattle.cut_text_laws.specs.Given.{BytesGive}
-use Rattle.cert_check.specs.Found.{FindsAt}
+use Rattle.cut_text_laws.specs.TraceOfText.{BytesGive}
+use Rattle.cert_check.specs.SiteFindings.{FindsAt}
 use Rattle.cert_check.specs.Moments.{FindsMoments, IsTextFault}
 use Rattle.cert_check.proofs.SiteLaws.{moments_found, text_broken}
 use Rattle.cert_check.proofs.TraceLaws.{lines_give, can_be_replayed, gives_none}

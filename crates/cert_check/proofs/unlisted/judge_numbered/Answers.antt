@@ -1,8 +1,8 @@
 use Rattle.std.proofs.Common.{◌≡◌, [], IsTrue, arith, subst}
 use Rattle.std.proofs.lemmas.Result.{IfOk-weaker}
-use Rattle.cert_check.specs.Asked.{asked, proof_sites}
+use Rattle.cert_check.specs.QuestionMatter.{asked, proof_sites}
 use Rattle.cert_laws.specs.Certificate.{a_set}
-use Rattle.cert_check.specs.Found.{Finds, FindsUnlisted, IsJudgedUnlisted}
+use Rattle.cert_check.specs.SiteFindings.{Finds, FindsUnlisted, IsJudgedUnlisted}
 use Rattle.cert_check.proofs.NoSets.{no_item, unlisted_none, unlisted_some}
 use Rattle.cert_check.proofs.unlisted.judge_numbered.Goals as goal
 

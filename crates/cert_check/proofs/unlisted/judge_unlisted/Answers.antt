@@ -1,6 +1,6 @@
 use Rattle.std.proofs.Common.{◌≡◌, false, IsTrue, arith}
 use Rattle.std.proofs.lemmas.Bool.{both_ways}
-use Rattle.cert_check.specs.Asked.{asked}
+use Rattle.cert_check.specs.QuestionMatter.{asked}
 use Rattle.cert_check.proofs.NoSets.{unlisted_numbers}
 use Rattle.cert_check.proofs.unlisted.judge_unlisted.Goals as goal
 

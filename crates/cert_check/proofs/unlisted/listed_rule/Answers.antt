@@ -1,4 +1,4 @@
-use Rattle.cert_check.specs.Found.{one_before, none_before}
+use Rattle.cert_check.specs.SiteFindings.{one_before, none_before}
 use Rattle.cert_check.proofs.OrderLaws.{none_in_order}
 use Rattle.cert_check.proofs.unlisted.listed_rule.Goals as goal
 

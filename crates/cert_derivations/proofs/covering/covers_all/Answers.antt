@@ -2,7 +2,7 @@ use Rattle.std.proofs.Common.{◌≤◌, ◌∙◌, All, length, refl, sym, subs
 use Rattle.std.proofs.lemmas.Bool.{false≢true}
 use Rattle.std.proofs.lemmas.List.{take_all}
 use Rattle.std.proofs.lemmas.List.Elements.{All-more}
-use Rattle.cert_laws.specs.Accepted.{Covers}
+use Rattle.cert_laws.specs.Acceptance.{Covers}
 use Rattle.cert_derivations.proofs.covering.covers_all.Goals as goal
 
 pub returns-in_default : goal.returns-in_default

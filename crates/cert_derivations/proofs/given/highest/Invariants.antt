@@ -1,7 +1,7 @@
 -- the highest so far and of what is left is the highest of all
 use Rattle.std.proofs.Common.{◌≡◌, ◌≤◌, drop}
 use Rattle.std.specs.Prelude.{max}
-use Rattle.cert_laws.specs.Accepted.{highest}
+use Rattle.cert_laws.specs.Acceptance.{highest}
 use Rattle.cert_derivations.proofs.given.highest.Given as goal
 
 abbrev pub invariant-loop-clause : goal.invariant-loop-clause

@@ -1,5 +1,5 @@
 use Rattle.std.proofs.Common.{◌≤◌, arith}
-use Rattle.cert_laws.specs.Accepted.{highest_in}
+use Rattle.cert_laws.specs.Acceptance.{highest_in}
 use Rattle.cert_derivations.proofs.Highest.{all_below}
 use Rattle.cert_derivations.proofs.MarkLaws.{all_within}
 use Rattle.cert_derivations.proofs.marks.has_no_opposites.Goals as goal

@@ -1,6 +1,6 @@
 use Rattle.std.proofs.Common.{Err, IsErrOf, refl, sym, ap, subst, ◌∙◌}
 use Rattle.std.proofs.lemmas.Result.{err_from_is_err_and}
-use Rattle.cert_text.specs.Seen.{seen}
+use Rattle.cert_text.specs.CertificateView.{seen}
 use Rattle.cert_laws.specs.CertificateText.{SpellsCertificate, IsBadLine, EndsBefore}
 use Rattle.verb_loading.specs.declared.input.Stop.TheVariants as stop
 use Rattle.cert_file.specs.CertificateFiles.{text_fault, a_bad_line, a_missing_line}

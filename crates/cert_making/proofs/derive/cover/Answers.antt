@@ -2,8 +2,8 @@ use Rattle.std.proofs.Common.{◌≡◌, ◌∙◌, true, ap, sym, subst}
 use Rattle.std.specs.Prelude.{All}
 use Rattle.sat_clauses.specs.Hints.{HasNoOpposites}
 use Rattle.sat_clauses.specs.Derivation.{IsUpTo}
-use Rattle.sat_solver.specs.Kept.{added_of, IsAnswer}
-use Rattle.cert_laws.specs.Derived.{asked}
+use Rattle.sat_solver.specs.LearnedClauses.{added_of, IsAnswer}
+use Rattle.cert_laws.specs.Derivations.{asked}
 use Rattle.cert_making.proofs.DeriveLemmas.{can_be_asked, further}
 use Rattle.cert_making.proofs.derive.cover.Goals as goal
 

@@ -1,5 +1,5 @@
 use Rattle.std.proofs.Common.{◌≡◌, true, take}
-use Rattle.cert_making.specs.Deriving.{IsPartWay}
+use Rattle.cert_making.specs.PartDerivations.{IsPartWay}
 use Rattle.cert_making.proofs.derive.derive.Given as goal
 
 -- the goals so far are covered

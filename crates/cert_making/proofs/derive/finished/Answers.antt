@@ -1,7 +1,7 @@
 use Rattle.std.proofs.Common.{◌≡◌, ◌<◌, ◌^◌, ◌∙◌, length, sym, subst, arith}
 use Rattle.std.specs.Prelude.{All}
 use Rattle.cert_laws.specs.CertificateText.{AreWritable}
-use Rattle.cert_making.specs.Deriving.{HasPositive}
+use Rattle.cert_making.specs.PartDerivations.{HasPositive}
 use Rattle.cert_making.proofs.DeriveLemmas.{writable}
 use Rattle.cert_making.proofs.derive.finished.Goals as goal
 

@@ -1,5 +1,5 @@
 use Rattle.std.proofs.Common.{◌≡◌, ◌≤◌, drop, max}
-use Rattle.cert_laws.specs.Accepted.{highest}
+use Rattle.cert_laws.specs.Acceptance.{highest}
 use Rattle.cert_making.proofs.derive.highest.Given as goal
 
 -- with the rest's highest variable it is that of all

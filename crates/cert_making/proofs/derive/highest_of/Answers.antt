@@ -1,6 +1,6 @@
 use Rattle.std.proofs.Common.{◌≤◌, ◌∙◌, max, length, sym, ap, arith}
 use Rattle.std.proofs.lemmas.List.{at_drop_all}
-use Rattle.cert_laws.specs.Accepted.{highest_in}
+use Rattle.cert_laws.specs.Acceptance.{highest_in}
 use Rattle.cert_making.proofs.DeriveLemmas.{begins_highest_in, ends_highest}
 use Rattle.cert_making.proofs.derive.highest_of.Goals as goal
 

@@ -1,5 +1,5 @@
 use Rattle.std.proofs.Common.{◌≡◌, ◌≤◌, drop, max}
-use Rattle.cert_laws.specs.Accepted.{highest_in}
+use Rattle.cert_laws.specs.Acceptance.{highest_in}
 use Rattle.cert_making.proofs.derive.highest_of.Given as goal
 
 -- with the rest's highest variable it is that of all

@@ -1,5 +1,5 @@
 use Rattle.std.proofs.Common.{◌≡◌, ◌++◌, drop}
-use Rattle.cert_laws.specs.Derived.{asked}
+use Rattle.cert_laws.specs.Derivations.{asked}
 use Rattle.cert_making.proofs.derive.question.Given as goal
 
 -- with what is asked of the rest it is all

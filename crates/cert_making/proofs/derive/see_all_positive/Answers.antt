@@ -3,7 +3,7 @@ use Rattle.std.proofs.lemmas.List.{take_all}
 use Rattle.std.proofs.lemmas.List.Elements.{All-more}
 use Rattle.std.proofs.lemmas.Option.{get_or_from_slice_get}
 use Rattle.sat_clauses.specs.Literal.{Literal}
-use Rattle.cert_making.specs.Deriving.{HasPositive}
+use Rattle.cert_making.specs.PartDerivations.{HasPositive}
 use Rattle.cert_making.proofs.derive.see_all_positive.Goals as goal
 
 pub loop-i-preserved : goal.loop-i-preserved

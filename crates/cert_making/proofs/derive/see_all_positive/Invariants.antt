@@ -1,5 +1,5 @@
 use Rattle.std.proofs.Common.{◌≤◌, ◌-◌, All, length, take}
-use Rattle.cert_making.specs.Deriving.{HasPositive}
+use Rattle.cert_making.specs.PartDerivations.{HasPositive}
 use Rattle.cert_making.proofs.derive.see_all_positive.Given as goal
 
 -- the variables of the steps so far are positive

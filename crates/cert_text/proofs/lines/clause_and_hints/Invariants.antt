@@ -1,6 +1,6 @@
 use Rattle.std.proofs.Common.{◌≡◌, length}
 use Rattle.cert_laws.specs.LineReading.{step_of_words}
-use Rattle.cert_text.specs.Cuts.{words_after}
+use Rattle.cert_text.specs.LineWords.{words_after}
 use Rattle.cert_text.proofs.LineLaws.{stepped}
 use Rattle.cert_text.proofs.lines.clause_and_hints.Given as goal
 

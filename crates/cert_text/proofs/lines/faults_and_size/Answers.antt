@@ -1,5 +1,5 @@
-use Rattle.cert_text.specs.Cuts.{words_after}
-use Rattle.cert_text.specs.Told.{told_version}
+use Rattle.cert_text.specs.LineWords.{words_after}
+use Rattle.cert_text.specs.Expectations.{told_version}
 use Rattle.cert_text.proofs.LineLaws.{no_faults}
 use Rattle.cert_text.proofs.lines.faults_and_size.Goals as goal
 

@@ -1,7 +1,7 @@
 use Rattle.std.proofs.Common.{◌≡◌, length}
 use Rattle.cert_laws.specs.LineReading.{each_in}
-use Rattle.cert_laws.specs.Expecting.{small_in}
-use Rattle.cert_text.specs.Cuts.{words_after}
+use Rattle.cert_laws.specs.ExpectedLines.{small_in}
+use Rattle.cert_text.specs.LineWords.{words_after}
 use Rattle.cert_text.proofs.LineLaws.{joined}
 use Rattle.cert_text.proofs.lines.faults_in.Given as goal
 

@@ -1,6 +1,6 @@
 use Rattle.std.proofs.Common.{◌≡◌, length}
 use Rattle.cert_laws.specs.LineReading.{each_in, literal_in}
-use Rattle.cert_text.specs.Cuts.{words_after}
+use Rattle.cert_text.specs.LineWords.{words_after}
 use Rattle.cert_text.proofs.LineLaws.{joined}
 use Rattle.cert_text.proofs.lines.literals_in.Given as goal
 

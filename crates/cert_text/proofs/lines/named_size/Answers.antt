@@ -1,4 +1,4 @@
-use Rattle.cert_text.specs.Cuts.{words_after}
+use Rattle.cert_text.specs.LineWords.{words_after}
 use Rattle.cert_text.proofs.LineLaws.{unnamed_size}
 use Rattle.cert_text.proofs.lines.named_size.Goals as goal
 

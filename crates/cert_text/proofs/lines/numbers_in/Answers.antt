@@ -1,6 +1,6 @@
 use Rattle.std.proofs.Common.{sym, codes}
-use Rattle.cert_laws.specs.Expecting.{numbers_of_words}
-use Rattle.cert_text.specs.Told.{told_version}
+use Rattle.cert_laws.specs.ExpectedLines.{numbers_of_words}
+use Rattle.cert_text.specs.Expectations.{told_version}
 use Rattle.cert_text.proofs.LineLaws.{not_after}
 use Rattle.cert_text.proofs.lines.numbers_in.Goals as goal
 

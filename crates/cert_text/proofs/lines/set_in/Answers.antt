@@ -1,6 +1,6 @@
 use Rattle.std.proofs.Common.{sym, codes}
 use Rattle.cert_laws.specs.LineReading.{each_in}
-use Rattle.cert_laws.specs.Expecting.{small_in}
+use Rattle.cert_laws.specs.ExpectedLines.{small_in}
 use Rattle.cert_text.proofs.LineLaws.{not_after}
 use Rattle.cert_text.proofs.lines.set_in.Goals as goal
 

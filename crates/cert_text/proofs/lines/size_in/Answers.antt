@@ -1,7 +1,7 @@
 use Rattle.std.proofs.Common.{Some, sym, ◌∙◌, ap}
-use Rattle.cert_laws.specs.Expecting.{size_of}
-use Rattle.cert_text.specs.Cuts.{words_after}
-use Rattle.cert_text.specs.Told.{told_version}
+use Rattle.cert_laws.specs.ExpectedLines.{size_of}
+use Rattle.cert_text.specs.LineWords.{words_after}
+use Rattle.cert_text.specs.Expectations.{told_version}
 use Rattle.cert_text.proofs.LineLaws.{not_empty, size_too_much}
 use Rattle.cert_text.proofs.lines.size_in.Goals as goal
 

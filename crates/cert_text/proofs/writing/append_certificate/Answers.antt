@@ -2,7 +2,7 @@ use Rattle.std.proofs.Common.{◌≡◌, ◌++◌, ap, ◌∙◌}
 use Rattle.cut_text_laws.specs.Lines.{fed}
 use Rattle.cert_laws.specs.CertificateText.{version_two, lines_of}
 use Rattle.cert_text.specs.Pieces.{listed_lines, invariant_lines, derived_lines}
-use Rattle.cert_text.specs.Seen.{seen}
+use Rattle.cert_text.specs.CertificateView.{seen}
 use Rattle.cert_text.proofs.PieceLaws.{whole_text, on_ok}
 use Rattle.cert_text.proofs.writing.append_certificate.Goals as goal
 

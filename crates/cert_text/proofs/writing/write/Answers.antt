@@ -1,7 +1,7 @@
 use Rattle.std.proofs.Common.{◌≡◌, ◌++◌, refl, ◌∙◌, ap}
 use Rattle.cut_text_laws.specs.Lines.{fed}
 use Rattle.cert_laws.specs.CertificateText.{version_two, lines_of}
-use Rattle.cert_text.specs.Seen.{seen}
+use Rattle.cert_text.specs.CertificateView.{seen}
 use Rattle.cert_text.proofs.writing.write.Goals as goal
 
 pub returns-clause-spells : goal.returns-clause-spells

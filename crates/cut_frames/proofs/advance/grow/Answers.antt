@@ -1,9 +1,9 @@
 use Rattle.std.proofs.Common.{◌≡◌, ◌-◌, refl, sym, subst, arith, length, List}
 use Rattle.std.proofs.lemmas.Grind.{common_steps}
 use Rattle.sat_clauses.specs.Literal.{Literal}
-use Rattle.cut_frames.specs.Apart.{IsKept, apart_system, apart_list}
+use Rattle.cut_frames.specs.OwnVariables.{IsKept, apart_system, apart_list}
 use Rattle.cut_frames.specs.Levels.{frames_of}
-use Rattle.cut_frames.specs.Guarding.{places_of}
+use Rattle.cut_frames.specs.GuardedSearch.{places_of}
 use Rattle.cut_frames.proofs.LevelLaws.{frames_more, grown_last}
 use Rattle.cut_frames.proofs.advance.grow.Goals as goal
 

@@ -6,15 +6,15 @@ use Rattle.cut_frames.specs.Levels.{frames_of}
 use Rattle.cut_frames.specs.declared.guarded.Beside.TheVariants.{Step}
 use Rattle.sat_clauses.specs.Derivation.{IsUpTo}
 use Rattle.sat_clauses.specs.Hints.{HasNoOpposites}
-use Rattle.cut_frames.specs.Guarding.{places_of}
-use Rattle.cut_frames.specs.Apart.{apart_system, apart_list}
+use Rattle.cut_frames.specs.GuardedSearch.{places_of}
+use Rattle.cut_frames.specs.OwnVariables.{apart_system, apart_list}
 use Rattle.cut_frames.proofs.LevelLaws.{length_frames}
 use Rattle.cut_frames.proofs.ApartLaws.{sat_told, unsat_told}
 use Rattle.cut_frames.proofs.QueryLemmas.{against_up_to, against_apart, states_low}
 use Rattle.cut_frames.proofs.PushLemmas.{kept, not_kept}
 use Rattle.std.proofs.lemmas.List.Elements.{All-push}
-use Rattle.cut_frames.specs.Framed.{frame_at}
-use Rattle.cut_frames.specs.Shown.{shows, IsShown}
+use Rattle.cut_frames.specs.FrameLists.{frame_at}
+use Rattle.cut_frames.specs.KnownSteps.{shows, IsShown}
 use Rattle.cut_frames.specs.declared.shown.Seen.{Seen}
 use Rattle.cut_frames.proofs.ShownLaws.{found_shown, shown_lost}
 use Rattle.cut_frames.proofs.advance.keeps.Goals as goal

@@ -1,8 +1,8 @@
 use Rattle.std.proofs.Common.{◌≡◌, All}
-use Rattle.cut_frames.specs.Shown.{IsSeen}
-use Rattle.cut_frames.specs.Framed.{AreStronger}
+use Rattle.cut_frames.specs.KnownSteps.{IsSeen}
+use Rattle.cut_frames.specs.FrameLists.{AreStronger}
 use Rattle.cut_frames.specs.Levels.{frames_of, IsLevelled, AreLevelsPushed}
-use Rattle.cut_frames.specs.Apart.{IsKept}
+use Rattle.cut_frames.specs.OwnVariables.{IsKept}
 use Rattle.cut_frames.proofs.advance.push_all.Given as goal
 
 abbrev pub invariant-frames : goal.invariant-frames

@@ -2,12 +2,12 @@ use Rattle.std.proofs.Common.{◌≡◌, refl, sym, ◌∙◌, subst, arith, Lis
 use Rattle.sat_clauses.specs.Literal.{Literal}
 use Rattle.sat_clauses.specs.Hints.{HasNoOpposites}
 use Rattle.cut_frames.specs.Chain.{IsOverBits}
-use Rattle.cut_frames.specs.Growing.{Keeps}
-use Rattle.cut_frames.specs.Framed.{frame_at}
+use Rattle.cut_frames.specs.FrontierGrowth.{Keeps}
+use Rattle.cut_frames.specs.FrameLists.{frame_at}
 use Rattle.cut_frames.specs.Guards.{IsPut}
 use Rattle.cut_frames.specs.Levels.{frames_of, held_at}
-use Rattle.cut_frames.specs.Guarding.{places_of}
-use Rattle.cut_frames.specs.Apart.{apart_system, apart_list}
+use Rattle.cut_frames.specs.GuardedSearch.{places_of}
+use Rattle.cut_frames.specs.OwnVariables.{apart_system, apart_list}
 use Rattle.cut_frames.proofs.LevelLaws.{length_frames, put_of, gained_raise}
 use Rattle.cut_frames.proofs.PushLemmas.{held_in_frame, moved_none, moved_raise, framed_raise, raised_apart}
 use Rattle.cut_frames.proofs.QueryLemmas.{bits_up_to}

@@ -2,8 +2,8 @@ use Rattle.std.proofs.Common.{◌≡◌, sym, ℕ, ◌<◌, All, List, arith, su
 use Rattle.std.proofs.lemmas.Grind.{common_steps}
 use Rattle.sat_clauses.specs.Literal.{Literal}
 use Rattle.cut_frames.specs.Levels.{frames_of}
-use Rattle.cut_frames.specs.Framed.{frame_at}
-use Rattle.cut_frames.specs.Shown.{IsShown}
+use Rattle.cut_frames.specs.FrameLists.{frame_at}
+use Rattle.cut_frames.specs.KnownSteps.{IsShown}
 use Rattle.cut_frames.proofs.PushLemmas.{moved_more, places_more}
 use Rattle.cut_frames.proofs.ShownLaws.{frame_stays, all_seen}
 use Rattle.cut_frames.proofs.advance.push_frame.Goals as goal

@@ -1,8 +1,8 @@
 use Rattle.std.specs.Prelude.{All}
-use Rattle.cut_frames.specs.Framed.{frame_at}
-use Rattle.cut_frames.specs.Shown.{IsShown}
+use Rattle.cut_frames.specs.FrameLists.{frame_at}
+use Rattle.cut_frames.specs.KnownSteps.{IsShown}
 use Rattle.cut_frames.specs.Levels.{frames_of, IsLevelled, HasMoved}
-use Rattle.cut_frames.specs.Apart.{IsKept}
+use Rattle.cut_frames.specs.OwnVariables.{IsKept}
 use Rattle.cut_frames.proofs.PushLemmas.{ArePlacesPushed}
 use Rattle.cut_frames.proofs.advance.push_frame.Given as goal
 

@@ -1,5 +1,5 @@
 use Rattle.std.proofs.Common.{◌≡◌, take}
-use Rattle.cut_frames.specs.Apart.{apart_clause}
+use Rattle.cut_frames.specs.OwnVariables.{apart_clause}
 use Rattle.cut_frames.proofs.apart.clause_apart.Given as goal
 
 abbrev pub invariant-loop-lit : goal.invariant-loop-lit

@@ -1,5 +1,5 @@
 use Rattle.std.proofs.Common.{◌≡◌, take}
-use Rattle.cut_frames.specs.Apart.{apart_list}
+use Rattle.cut_frames.specs.OwnVariables.{apart_list}
 use Rattle.cut_frames.proofs.apart.list_apart.Given as goal
 
 abbrev pub invariant-loop-clause : goal.invariant-loop-clause

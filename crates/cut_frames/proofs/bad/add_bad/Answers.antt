@@ -1,7 +1,7 @@
 use Rattle.std.proofs.Common.{◌≤◌, ◌<◌, ◌+◌, ◌*◌, ℕ, List, All, sym, subst, arith, slice_index_or}
 use Rattle.sat_clauses.specs.Literal.{Literal}
-use Rattle.cut_frames.specs.Apart.{IsKept, IsPlace}
-use Rattle.cut_frames.specs.Guarding.{places_of}
+use Rattle.cut_frames.specs.OwnVariables.{IsKept, IsPlace}
+use Rattle.cut_frames.specs.GuardedSearch.{places_of}
 use Rattle.cut_frames.specs.Levels.{frames_of}
 use Rattle.cut_frames.proofs.ApartLaws.{more_kept}
 use Rattle.cut_frames.proofs.QueryLemmas.{bits_up_to}

@@ -1,6 +1,6 @@
 use Rattle.std.proofs.Common.{ℕ, Result, Ok, Err, OnOk, subst}
-use Rattle.cut_frames.specs.Apart.{apart_system, apart_list}
-use Rattle.cut_frames.specs.Guarding.{IsHolding, places_of}
+use Rattle.cut_frames.specs.OwnVariables.{apart_system, apart_list}
+use Rattle.cut_frames.specs.GuardedSearch.{IsHolding, places_of}
 use Rattle.cut_frames.specs.Levels.{frames_of}
 use Rattle.cut_frames.proofs.bad.take_bad.Goals as goal
 

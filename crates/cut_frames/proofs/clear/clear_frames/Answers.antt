@@ -4,8 +4,8 @@ use Rattle.sat_clauses.specs.Assignment.{Assignment}
 use Rattle.cut_frames.specs.Levels.{frames_of, HasGained}
 use Rattle.cut_frames.specs.Parts.{AreAgreed}
 use Rattle.cut_frames.specs.Path.{AreOwed, IsPath}
-use Rattle.cut_frames.specs.Looked.{IsLook}
-use Rattle.cut_frames.specs.Counted.{work_left}
+use Rattle.cut_frames.specs.ClearLooks.{IsLook}
+use Rattle.cut_frames.specs.StatesLeft.{work_left}
 use Rattle.cut_frames.specs.declared.clear.Look.TheVariants.{IsFirst, Deeper, Blocked}
 use Rattle.cut_frames.proofs.LevelLaws.{level_is, level_low, owed_fits}
 use Rattle.cut_frames.proofs.PutLaws.{gained_put}

@@ -1,9 +1,9 @@
 use Rattle.std.proofs.Common.{◌≡◌}
-use Rattle.cut_frames.specs.Framed.{AreStronger}
+use Rattle.cut_frames.specs.FrameLists.{AreStronger}
 use Rattle.cut_frames.specs.Levels.{frames_of, IsLevelled}
-use Rattle.cut_frames.specs.Apart.{IsKept}
+use Rattle.cut_frames.specs.OwnVariables.{IsKept}
 use Rattle.cut_frames.specs.Path.{AreOwed}
-use Rattle.cut_frames.specs.Counted.{work_left}
+use Rattle.cut_frames.specs.StatesLeft.{work_left}
 use Rattle.cut_frames.proofs.clear.clear_frames.Given as goal
 
 abbrev pub invariant-looks : goal.invariant-looks

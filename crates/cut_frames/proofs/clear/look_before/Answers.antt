@@ -5,7 +5,7 @@ use Rattle.cut_frames.specs.Levels.{frames_of}
 use Rattle.cut_frames.specs.Parts.{IsPart, IsOfFirst}
 use Rattle.cut_frames.proofs.PartLemmas.{some_of, asked_more, holds_stays, holds_askable}
 use Rattle.std.proofs.Common.{zero}
-use Rattle.cut_frames.specs.Framed.{InNumber}
+use Rattle.cut_frames.specs.FrameLists.{InNumber}
 use Rattle.cut_frames.proofs.clear.look_before.Goals as goal
 
 positive : (n : ℕ) → (n ≡ 0 → ⊥) → 0 < n

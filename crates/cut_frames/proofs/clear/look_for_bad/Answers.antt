@@ -1,7 +1,7 @@
 use Rattle.std.proofs.Common.{◌≡◌, ◌<◌, [], ℕ, suc, refl, arith, length}
 use Rattle.cut_frames.specs.Levels.{frames_of}
-use Rattle.cut_frames.specs.Guarding.{places_of}
-use Rattle.cut_frames.specs.Apart.{apart_system, apart_list}
+use Rattle.cut_frames.specs.GuardedSearch.{places_of}
+use Rattle.cut_frames.specs.OwnVariables.{apart_system, apart_list}
 use Rattle.cut_frames.specs.declared.guarded.Beside.TheVariants.{Bad}
 use Rattle.cut_frames.proofs.ApartLaws.{sat_told, unsat_told}
 use Rattle.cut_frames.proofs.LevelLaws.{length_frames}

@@ -4,8 +4,8 @@ use Rattle.sat_clauses.specs.Derivation.{IsUpTo}
 use Rattle.sat_clauses.specs.Hints.{HasNoOpposites}
 use Rattle.cut_frames.specs.Bits.{literals_from}
 use Rattle.cut_frames.specs.Levels.{frames_of}
-use Rattle.cut_frames.specs.Guarding.{places_of}
-use Rattle.cut_frames.specs.Apart.{apart_system, apart_list}
+use Rattle.cut_frames.specs.GuardedSearch.{places_of}
+use Rattle.cut_frames.specs.OwnVariables.{apart_system, apart_list}
 use Rattle.cut_frames.specs.declared.guarded.Beside.TheVariants.{Step}
 use Rattle.cut_frames.proofs.ApartLaws.{sat_told, unsat_told}
 use Rattle.cut_frames.proofs.LevelLaws.{length_frames}

@@ -1,11 +1,11 @@
 use Rattle.std.proofs.Common.{◌≡◌, [], ◌∙◌, sym, ap, subst, arith, ◌<◌, ◌≤◌, ◌-◌, ◌+◌, ℕ, length, slice_index_or}
 use Rattle.std.proofs.lemmas.Grind.{common_steps}
-use Rattle.cut_frames.specs.Apart.{IsKept}
+use Rattle.cut_frames.specs.OwnVariables.{IsKept}
 use Rattle.cut_frames.specs.Bits.{read_from}
 use Rattle.cut_frames.specs.Chain.{IsState}
-use Rattle.cut_frames.specs.Framed.{InNumber}
+use Rattle.cut_frames.specs.FrameLists.{InNumber}
 use Rattle.cut_frames.specs.Levels.{frames_of}
-use Rattle.cut_frames.specs.Looked.{IsStepLook}
+use Rattle.cut_frames.specs.ClearLooks.{IsStepLook}
 use Rattle.cut_frames.specs.Path.{state_in}
 use Rattle.cut_frames.proofs.BitLemmas.{length_read}
 use Rattle.cut_frames.proofs.LevelLaws.{level_is, level_low, owed_fits}

@@ -1,6 +1,6 @@
 use Rattle.std.proofs.Common.{◌≡◌, ◌+◌, suc, take, sym, subst, arith}
-use Rattle.cut_frames.specs.Apart.{IsKept, apart_system, apart_list}
-use Rattle.cut_frames.specs.Guarding.{places_of}
+use Rattle.cut_frames.specs.OwnVariables.{IsKept, apart_system, apart_list}
+use Rattle.cut_frames.specs.GuardedSearch.{places_of}
 use Rattle.cut_frames.specs.Levels.{frames_from}
 use Rattle.cut_frames.specs.declared.guarded.Guarded.{Guarded}
 use Rattle.cut_frames.proofs.FreshLaws.{lengths, put_next, same_next, holding_same, number_here, bits_here, number_fits}

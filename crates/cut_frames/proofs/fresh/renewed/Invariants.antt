@@ -1,5 +1,5 @@
 use Rattle.std.proofs.Common.{suc, take}
-use Rattle.cut_frames.specs.Apart.{IsKept}
+use Rattle.cut_frames.specs.OwnVariables.{IsKept}
 use Rattle.cut_frames.specs.Levels.{frames_from}
 use Rattle.cut_frames.proofs.fresh.renewed.Given as goal
 

@@ -1,8 +1,8 @@
 use Rattle.std.proofs.Common.{◌≡◌, ℕ, suc, [], List, subst, arith}
 use Rattle.std.proofs.lemmas.Grind.{common_steps}
 use Rattle.sat_clauses.specs.Literal.{Literal}
-use Rattle.cut_frames.specs.Apart.{IsKept, apart_system, apart_list}
-use Rattle.cut_frames.specs.Guarding.{places_of}
+use Rattle.cut_frames.specs.OwnVariables.{IsKept, apart_system, apart_list}
+use Rattle.cut_frames.specs.GuardedSearch.{places_of}
 use Rattle.cut_frames.specs.Levels.{frames_from}
 use Rattle.cut_frames.proofs.FreshLaws.{empty_more}
 use Rattle.cut_frames.proofs.fresh.with_frames.Goals as goal

@@ -1,7 +1,7 @@
 use Rattle.std.proofs.Common.{◌≡◌, take}
-use Rattle.cut_frames.specs.Apart.{IsKept}
+use Rattle.cut_frames.specs.OwnVariables.{IsKept}
 use Rattle.cut_frames.specs.Chain.{State, InFrame}
-use Rattle.cut_frames.specs.Framed.{frame_at, AreStronger}
+use Rattle.cut_frames.specs.FrameLists.{frame_at, AreStronger}
 use Rattle.cut_frames.specs.Levels.{frames_of, IsLevelled}
 use Rattle.cut_frames.proofs.lasting.put_all.Given as goal
 

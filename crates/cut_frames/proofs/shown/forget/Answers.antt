@@ -1,8 +1,8 @@
 use Rattle.std.proofs.Common.{rules, ◌≡◌, sym, subst, filter, All}
 use Rattle.std.proofs.lemmas.Fn.{filter_same}
-use Rattle.cut_frames.specs.Framed.{frame_at}
+use Rattle.cut_frames.specs.FrameLists.{frame_at}
 use Rattle.cut_frames.specs.Levels.{frames_of}
-use Rattle.cut_frames.specs.Shown.{counts, IsShown}
+use Rattle.cut_frames.specs.KnownSteps.{counts, IsShown}
 use Rattle.cut_frames.proofs.ShownLaws.{all_counted}
 use Rattle.cut_frames.proofs.shown.forget.Goals as goal
 

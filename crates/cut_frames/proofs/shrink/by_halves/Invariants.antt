@@ -1,6 +1,6 @@
 -- The values so far are those of a bad state of the last frame.
 use Rattle.std.proofs.Common.{[]}
-use Rattle.cut_frames.specs.Apart.{IsKept, IsFound}
+use Rattle.cut_frames.specs.OwnVariables.{IsKept, IsFound}
 use Rattle.cut_frames.specs.Levels.{frames_of}
 use Rattle.cut_frames.specs.declared.guarded.Beside.TheVariants.{Bad}
 use Rattle.cut_frames.proofs.shrink.by_halves.Given as goal

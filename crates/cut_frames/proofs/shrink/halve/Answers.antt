@@ -1,7 +1,7 @@
 use Rattle.std.proofs.Common.{◌≤◌, ◌<◌, ◌+◌, ◌*◌, ◌^◌, [], ℕ, arith, slice_index_or}
 use Rattle.sat_clauses.specs.Assignment.{Assignment}
 use Rattle.cut_frames.specs.Levels.{frames_of}
-use Rattle.cut_frames.specs.Apart.{IsFound}
+use Rattle.cut_frames.specs.OwnVariables.{IsFound}
 use Rattle.cut_frames.specs.declared.guarded.Beside.TheVariants.{Bad}
 use Rattle.cut_frames.proofs.PartLemmas.{some_of}
 use Rattle.cut_frames.proofs.shrink.halve.Goals as goal

@@ -1,7 +1,7 @@
 -- The values so far are those of a bad state of the last frame, and each of the literals so far that they make true is needed.
 use Rattle.std.proofs.Common.{take, []}
 use Rattle.std.specs.Prelude.{All}
-use Rattle.cut_frames.specs.Apart.{IsKept, IsFound}
+use Rattle.cut_frames.specs.OwnVariables.{IsKept, IsFound}
 use Rattle.cut_frames.specs.Bits.{values_of}
 use Rattle.cut_frames.specs.Levels.{frames_of}
 use Rattle.cut_frames.specs.Minimal.{IsNeeded}

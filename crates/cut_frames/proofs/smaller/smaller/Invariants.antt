@@ -1,6 +1,6 @@
 -- The clause so far is a part of the one at the start, and may stand as that may.
 use Rattle.std.proofs.Common.{◌≡◌}
-use Rattle.cut_frames.specs.Guarding.{HasAsked}
+use Rattle.cut_frames.specs.GuardedSearch.{HasAsked}
 use Rattle.cut_frames.specs.Levels.{frames_of}
 use Rattle.cut_frames.specs.Parts.{IsPart, MayStand, HoldsFrames}
 use Rattle.cut_frames.proofs.smaller.smaller.Given as goal

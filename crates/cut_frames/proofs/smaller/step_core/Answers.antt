@@ -6,8 +6,8 @@ use Rattle.sat_clauses.specs.Hints.{HasNoOpposites}
 use Rattle.cut_frames.specs.Bits.{against_next, moved_back}
 use Rattle.cut_frames.specs.Levels.{frames_of}
 use Rattle.sat_solver.specs.declared.solve.Verdict.TheVariants.{Unsat}
-use Rattle.cut_frames.specs.Guarding.{places_of, Tells}
-use Rattle.cut_frames.specs.Apart.{apart_system, apart_list}
+use Rattle.cut_frames.specs.GuardedSearch.{places_of, Tells}
+use Rattle.cut_frames.specs.OwnVariables.{apart_system, apart_list}
 use Rattle.cut_frames.specs.Parts.{IsPart, IsAfter}
 use Rattle.cut_frames.specs.declared.guarded.Beside.TheVariants.{Step}
 use Rattle.cut_frames.proofs.ApartLaws.{unsat_told}

@@ -1,7 +1,7 @@
 use Rattle.std.proofs.Common.{◌≡◌, ◌≤◌, ◌∙◌, All, length, map, ap, sym, subst, arith}
 use Rattle.smv_language.specs.ModelTree.{model_tree, flat_tree}
 use Rattle.smv_flat_laws.specs.FaultModes.{mode_of}
-use Rattle.cert_text.specs.Seen.{seen}
+use Rattle.cert_text.specs.CertificateView.{seen}
 use Rattle.cert_laws.specs.Certificate.{Certificate}
 use Rattle.cut_model_search.specs.Texts.{text_lines, CanBePrinted}
 use Rattle.cut_model_search.proofs.Made.{all_print}

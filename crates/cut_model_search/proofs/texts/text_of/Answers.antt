@@ -1,7 +1,7 @@
 use Rattle.std.proofs.Common.{◌≡◌, ◌<◌, ◌^◌, ◌∙◌, length, arith}
 use Rattle.smv_language.specs.ModelTree.{model_tree}
 use Rattle.cut_text_laws.specs.TraceText.{trace_text}
-use Rattle.smv_language.specs.Told.{told_trace}
+use Rattle.smv_language.specs.NumberedValues.{told_trace}
 use Rattle.cut_model_search.proofs.PrintedLemmas.{cut_text, text_writable}
 use Rattle.cut_model_search.proofs.texts.text_of.Goals as goal
 

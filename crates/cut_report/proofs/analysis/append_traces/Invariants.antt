@@ -1,7 +1,7 @@
 use Rattle.std.proofs.Common.{◌≡◌, ◌++◌, ◌+◌, drop}
 use Rattle.smv_language.specs.ModelTree.{model_tree}
 use Rattle.cut_text_laws.specs.AnalysisText.{trace_parts}
-use Rattle.cut_report.specs.Analysed.{told_traces}
+use Rattle.cut_report.specs.AnalysisView.{told_traces}
 use Rattle.cut_report.proofs.analysis.append_traces.Given as goal
 
 abbrev pub invariant-loop-i : goal.invariant-loop-i

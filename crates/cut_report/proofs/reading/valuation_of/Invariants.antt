@@ -1,5 +1,5 @@
 use Rattle.std.proofs.Common.{◌≡◌, ◌++◌, drop}
-use Rattle.cut_report.specs.Reading.{values_of}
+use Rattle.cut_report.specs.TraceReading.{values_of}
 use Rattle.cut_report.proofs.reading.valuation_of.Given as goal
 
 abbrev pub invariant-loop-slot : goal.invariant-loop-slot

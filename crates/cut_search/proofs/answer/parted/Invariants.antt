@@ -1,6 +1,6 @@
 -- the sets and the traces so far
 use Rattle.std.proofs.Common.{◌≡◌}
-use Rattle.cut_search_laws.specs.Found.{sets_of, traces_of}
+use Rattle.cut_search_laws.specs.FoundSets.{sets_of, traces_of}
 use Rattle.cut_search.proofs.answer.parted.Given as goal
 
 abbrev pub invariant-loop-f : goal.invariant-loop-f

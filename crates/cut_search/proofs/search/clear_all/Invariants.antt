@@ -1,8 +1,8 @@
 -- looks since the first list and frames, which are asked about the list bad of the sets; each new set leaves fewer patterns of faults uncovered
 use Rattle.std.proofs.Common.{◌≡◌, length}
-use Rattle.cut_search_laws.specs.Found.{sets_of}
-use Rattle.cut_search_laws.specs.Searched.{IsBadFor}
-use Rattle.cut_search_laws.specs.Uncovered.{uncovered}
+use Rattle.cut_search_laws.specs.FoundSets.{sets_of}
+use Rattle.cut_search_laws.specs.FlatSearch.{IsBadFor}
+use Rattle.cut_search_laws.specs.UncoveredPatterns.{uncovered}
 use Rattle.cut_search.specs.Progress.{AreLooking}
 use Rattle.cut_search.proofs.search.clear_all.Given as goal
 

@@ -1,8 +1,8 @@
 use Rattle.std.proofs.Common.{◌∷◌, ◌++◌, [], sym, ap, ◌∙◌, subst, length}
 use Rattle.cut_frames.specs.Chain.{IsOverBits}
 use Rattle.sat_encoding_laws.specs.FlatTraces.{IsNumbered}
-use Rattle.cut_search_laws.specs.Found.{sets_of}
-use Rattle.cut_search_laws.specs.Searched.{IsClauseOf}
+use Rattle.cut_search_laws.specs.FoundSets.{sets_of}
+use Rattle.cut_search_laws.specs.FlatSearch.{IsClauseOf}
 use Rattle.cut_search.proofs.search.look.Goals as goal
 use Rattle.cut_search.proofs.SearchLemmas.{lawful_path, found_path, looks_along}
 

@@ -1,5 +1,5 @@
 use Rattle.std.proofs.Common.{◌≡◌, drop}
-use Rattle.fault_rules.specs.Keyed.{with_texts}
+use Rattle.fault_rules.specs.KeyedLists.{with_texts}
 use Rattle.fault_causes_reader.proofs.added.add_names.Given as goal
 
 abbrev pub invariant-loop-i : goal.invariant-loop-i

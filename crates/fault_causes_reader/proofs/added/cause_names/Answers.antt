@@ -1,7 +1,7 @@
 use Rattle.std.proofs.Common.{[], ◌+◌, ◌<◌, ◌++◌, ◌∷◌, length, ap, ◌∙◌, arith}
 use Rattle.fault_cause_laws.specs.CauseRules.{names_of_cause}
-use Rattle.fault_cause_laws.specs.Staged.{hit_name}
-use Rattle.fault_causes_reader.specs.ReadView.{written_tree}
+use Rattle.fault_cause_laws.specs.StagedModel.{hit_name}
+use Rattle.fault_causes_reader.specs.StageView.{written_tree}
 use Rattle.fault_causes_reader.proofs.RuleSteps.{hits_more}
 use Rattle.fault_causes_reader.proofs.added.cause_names.Goals as goal
 

@@ -1,7 +1,7 @@
 use Rattle.std.proofs.Common.{map}
 use Rattle.smv_language.specs.ProgramTree.{program_tree}
 use Rattle.fault_staging.specs.CauseOf.{cause_of}
-use Rattle.fault_causes_reader.specs.ReadView.{written_trees}
+use Rattle.fault_causes_reader.specs.StageView.{written_trees}
 use Rattle.fault_causes_reader.proofs.ReadLaws.{is_reading, is_refusal}
 use Rattle.fault_causes_reader.proofs.reader.read_causes.Goals as goal
 

@@ -1,6 +1,6 @@
 use Rattle.std.proofs.Common.{Some, None, sym, ap, ◌∙◌}
-use Rattle.fault_causes_reader.specs.CausesRead.{so_far}
-use Rattle.fault_causes_reader.specs.ReadView.{stage_of, written_trees, read_view}
+use Rattle.fault_causes_reader.specs.CauseStages.{so_far}
+use Rattle.fault_causes_reader.specs.StageView.{stage_of, written_trees, read_view}
 use Rattle.fault_causes_reader.proofs.CausesStops.{path_more, ended}
 use Rattle.fault_causes_reader.proofs.reader.read_through.Goals as goal
 

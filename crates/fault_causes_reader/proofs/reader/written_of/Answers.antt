@@ -1,5 +1,5 @@
 use Rattle.std.proofs.Common.{refl, subst, length}
-use Rattle.fault_causes_reader.specs.ReadView.{written_trees, ReadsTo}
+use Rattle.fault_causes_reader.specs.StageView.{written_trees, ReadsTo}
 use Rattle.fault_causes_reader.proofs.CausesStops.{whole_spelled, only_spelled, check_ends, check_stops}
 use Rattle.fault_causes_reader.proofs.reader.written_of.Goals as goal
 

@@ -1,9 +1,9 @@
 use Rattle.std.proofs.Common.{sym, ap, ◌∙◌, []}
 use Rattle.std.specs.Prelude.{option_map}
-use Rattle.fault_rules.specs.Keyed.{with_texts}
+use Rattle.fault_rules.specs.KeyedLists.{with_texts}
 use Rattle.fault_causes_reader.specs.FaultPaths.{paths_of}
-use Rattle.fault_causes_reader.specs.ReadView.{written_tree, written_trees}
-use Rattle.fault_causes_reader.specs.Broken.{rule_of, first_broken}
+use Rattle.fault_causes_reader.specs.StageView.{written_tree, written_trees}
+use Rattle.fault_causes_reader.specs.BrokenRules.{rule_of, first_broken}
 use Rattle.fault_causes_reader.proofs.RuleSteps.{broken_here, broken_later, names_later, none_left}
 use Rattle.fault_causes_reader.proofs.rules.judge_causes.Goals as goal
 

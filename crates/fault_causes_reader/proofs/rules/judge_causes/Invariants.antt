@@ -1,10 +1,10 @@
 use Rattle.std.proofs.Common.{◌≡◌, [], take, drop}
 use Rattle.std.specs.Prelude.{flat_map}
-use Rattle.fault_rules.specs.Keyed.{with_texts}
+use Rattle.fault_rules.specs.KeyedLists.{with_texts}
 use Rattle.fault_cause_laws.specs.CauseRules.{names_of_cause}
 use Rattle.fault_causes_reader.specs.FaultPaths.{paths_of}
-use Rattle.fault_causes_reader.specs.ReadView.{written_trees}
-use Rattle.fault_causes_reader.specs.Broken.{first_broken}
+use Rattle.fault_causes_reader.specs.StageView.{written_trees}
+use Rattle.fault_causes_reader.specs.BrokenRules.{first_broken}
 use Rattle.fault_causes_reader.proofs.rules.judge_causes.Given as goal
 
 abbrev pub invariant-loop-i : goal.invariant-loop-i

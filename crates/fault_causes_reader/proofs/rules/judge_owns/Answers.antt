@@ -1,5 +1,5 @@
 use Rattle.std.proofs.Common.{sym, ap, ◌∙◌}
-use Rattle.fault_causes_reader.specs.Broken.{is_any_among, are_owns_among}
+use Rattle.fault_causes_reader.specs.BrokenRules.{is_any_among, are_owns_among}
 use Rattle.fault_causes_reader.proofs.RuleSteps.{owns_later}
 use Rattle.fault_causes_reader.proofs.rules.judge_owns.Goals as goal
 

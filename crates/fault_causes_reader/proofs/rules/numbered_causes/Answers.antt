@@ -1,7 +1,7 @@
 use Rattle.fault_staging.specs.CauseOf.{cause_of}
 use Rattle.fault_causes_reader.specs.FaultPaths.{paths_of}
-use Rattle.fault_causes_reader.specs.ReadView.{written_tree}
-use Rattle.fault_causes_reader.specs.Read.{IsReadIn}
+use Rattle.fault_causes_reader.specs.StageView.{written_tree}
+use Rattle.fault_causes_reader.specs.CausesFile.{IsReadIn}
 use Rattle.fault_causes_reader.proofs.RuleSteps.{both_more_mapped}
 use Rattle.fault_causes_reader.proofs.rules.numbered_causes.Goals as goal
 

@@ -1,8 +1,8 @@
 use Rattle.std.proofs.Common.{map, take}
 use Rattle.fault_staging.specs.CauseOf.{cause_of}
 use Rattle.fault_causes_reader.specs.FaultPaths.{paths_of}
-use Rattle.fault_causes_reader.specs.ReadView.{written_trees}
-use Rattle.fault_causes_reader.specs.Read.{IsReadIn}
+use Rattle.fault_causes_reader.specs.StageView.{written_trees}
+use Rattle.fault_causes_reader.specs.CausesFile.{IsReadIn}
 use Rattle.fault_causes_reader.proofs.rules.numbered_causes.Given as goal
 use Rattle.smv_language.specs.Trace.{EachBoth}
 

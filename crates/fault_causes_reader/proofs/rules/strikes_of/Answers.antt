@@ -1,5 +1,5 @@
 use Rattle.fault_causes_reader.specs.FaultPaths.{paths_of}
-use Rattle.fault_causes_reader.specs.Read.{IsNumberOf}
+use Rattle.fault_causes_reader.specs.CausesFile.{IsNumberOf}
 use Rattle.fault_causes_reader.proofs.RuleSteps.{both_more}
 use Rattle.fault_causes_reader.proofs.rules.strikes_of.Goals as goal
 

@@ -1,6 +1,6 @@
 use Rattle.std.proofs.Common.{take}
 use Rattle.fault_causes_reader.specs.FaultPaths.{paths_of}
-use Rattle.fault_causes_reader.specs.Read.{IsNumberOf}
+use Rattle.fault_causes_reader.specs.CausesFile.{IsNumberOf}
 use Rattle.fault_causes_reader.proofs.rules.strikes_of.Given as goal
 use Rattle.smv_language.specs.Trace.{EachBoth}
 

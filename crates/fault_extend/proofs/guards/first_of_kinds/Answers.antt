@@ -5,7 +5,7 @@ use Rattle.smv_language.specs.ModelTree.{flat_tree, model_tree}
 use Rattle.smv_types.specs.Answers.{told_rules}
 use Rattle.smv_types.specs.Calls.{shown}
 use Rattle.fault_extend_laws.specs.Expressions.{broken_by}
-use Rattle.fault_extend.specs.Guarded.{kind_of_form}
+use Rattle.fault_extend.specs.GuardJudgement.{kind_of_form}
 use Rattle.fault_extend.proofs.KindAnswers.{kinds_some, kinds_none}
 use Rattle.fault_extend.proofs.guards.first_of_kinds.Goals as goal
 

@@ -1,11 +1,11 @@
 use Rattle.std.proofs.Common.{◌≡◌, false, true, ◌∙◌, map, sym, subst}
 use Rattle.std.proofs.lemmas.Result.{err_from_is_err_and}
 use Rattle.smv_language.specs.Trace.{Each}
-use Rattle.fault_rules.specs.Placing.{seen_placed}
+use Rattle.fault_rules.specs.PlacedSlices.{seen_placed}
 use Rattle.fault_extend_laws.specs.Expressions.{KeepsUse}
 use Rattle.fault_extend_laws.specs.SliceUses.{uses_of_slice, uses_of_slices}
-use Rattle.fault_extend.specs.Guarded.{program_in, model_in}
-use Rattle.fault_extend.specs.Refused.{IsFirstFault}
+use Rattle.fault_extend.specs.GuardJudgement.{program_in, model_in}
+use Rattle.fault_extend.specs.FirstRefusal.{IsFirstFault}
 use Rattle.fault_extend.proofs.Deciding.{slice_next, slice_first, slice_used, slice_passed}
 use Rattle.fault_extend.proofs.guards.judge_instance.Goals as goal
 use Rattle.fault_extend.proofs.guards.judge_instance.Goals.{then-is_same+in_ok-judge_slice, else-is_same}

@@ -1,9 +1,9 @@
 use Rattle.std.proofs.Common.{◌≡◌, map, drop}
 use Rattle.smv_language.specs.Flat.{FlatInstance}
 use Rattle.smv_flat.specs.ResolvedAt.{IsAt}
-use Rattle.fault_rules.specs.Placing.{seen_placed}
+use Rattle.fault_rules.specs.PlacedSlices.{seen_placed}
 use Rattle.fault_extend_laws.specs.SliceUses.{uses_of_slices}
-use Rattle.fault_extend.specs.Guarded.{program_in, model_in}
+use Rattle.fault_extend.specs.GuardJudgement.{program_in, model_in}
 use Rattle.fault_extend.proofs.Deciding.{Decides}
 use Rattle.fault_extend.proofs.guards.judge_instance.Given as goal
 

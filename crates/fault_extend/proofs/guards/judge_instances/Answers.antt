@@ -5,11 +5,11 @@ use Rattle.std.proofs.lemmas.List.{drop_all}
 use Rattle.smv_language.specs.Trace.{Each}
 use Rattle.smv_language.specs.declared.model.Instance.{Instance}
 use Rattle.smv_language.specs.ModelTree.{instance_tree}
-use Rattle.fault_rules.specs.Placing.{seen_placed}
+use Rattle.fault_rules.specs.PlacedSlices.{seen_placed}
 use Rattle.fault_extend_laws.specs.Expressions.{KeepsUse}
 use Rattle.fault_extend_laws.specs.SliceUses.{uses_of_slices}
-use Rattle.fault_extend.specs.Guarded.{program_in, model_in}
-use Rattle.fault_extend.specs.Refused.{IsFirstFault}
+use Rattle.fault_extend.specs.GuardJudgement.{program_in, model_in}
+use Rattle.fault_extend.specs.FirstRefusal.{IsFirstFault}
 use Rattle.fault_extend.proofs.EachItem.{item_there}
 use Rattle.fault_extend.proofs.Deciding.{Decides, decides_none, instance_next, instance_first}
 use Rattle.fault_extend.proofs.guards.judge_instances.Goals as goal

@@ -3,9 +3,9 @@ use Rattle.std.specs.Prelude.{flat_map}
 use Rattle.smv_flat_laws.specs.Rules.{IsAccepted}
 use Rattle.smv_flat_laws.specs.Model.{IsFlatOf}
 use Rattle.smv_language.specs.ModelTree.{instance_tree}
-use Rattle.fault_rules.specs.Placing.{seen_placed}
+use Rattle.fault_rules.specs.PlacedSlices.{seen_placed}
 use Rattle.fault_extend_laws.specs.SliceUses.{uses_of_slices}
-use Rattle.fault_extend.specs.Guarded.{program_in, model_in}
+use Rattle.fault_extend.specs.GuardJudgement.{program_in, model_in}
 use Rattle.fault_extend.proofs.Deciding.{Decides}
 use Rattle.fault_extend.proofs.guards.judge_instances.Given as goal
 

@@ -2,8 +2,8 @@ use Rattle.std.proofs.Common.{◌+◌, map, subst}
 use Rattle.smv_language.specs.ProgramTree.{declared_tree}
 use Rattle.fault_instructions.specs.Instructions.{mode_tree}
 use Rattle.fault_extend_laws.specs.SliceUses.{modes_from}
-use Rattle.fault_extend.specs.Guarded.{program_in, model_in}
-use Rattle.fault_extend.specs.Refused.{IsFirstFault}
+use Rattle.fault_extend.specs.GuardJudgement.{program_in, model_in}
+use Rattle.fault_extend.specs.FirstRefusal.{IsFirstFault}
 use Rattle.fault_extend.proofs.Deciding.{mode_next, mode_first}
 use Rattle.fault_extend.proofs.guards.judge_slice.Goals as goal
 

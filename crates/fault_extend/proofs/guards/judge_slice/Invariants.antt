@@ -4,7 +4,7 @@ use Rattle.fault_instructions.specs.Instructions.{mode_tree}
 use Rattle.smv_language.specs.Flat.{FlatInstance}
 use Rattle.smv_flat.specs.ResolvedAt.{IsAt}
 use Rattle.fault_extend_laws.specs.SliceUses.{modes_from}
-use Rattle.fault_extend.specs.Guarded.{program_in, model_in}
+use Rattle.fault_extend.specs.GuardJudgement.{program_in, model_in}
 use Rattle.fault_extend.proofs.Deciding.{Decides}
 use Rattle.fault_extend.proofs.guards.judge_slice.Given as goal
 

@@ -2,11 +2,11 @@ use Rattle.std.proofs.Common.{◌≡◌, ◌≢◌, ◌∙◌, ap, subst}
 use Rattle.std.specs.Prelude.{IfErr, OnOk}
 use Rattle.fault_instructions.specs.Instructions.{instruction_tree}
 use Rattle.fault_rules.specs.Sites.{item_sites}
-use Rattle.fault_rules.specs.Counting.{count_broken_at}
-use Rattle.fault_rules.specs.Counted.{module_names}
+use Rattle.fault_rules.specs.CountLimits.{count_broken_at}
+use Rattle.fault_rules.specs.FaultCounts.{module_names}
 use Rattle.fault_rules.specs.FirstBroken.{IsFirstBroken, AllKept}
-use Rattle.fault_rules.specs.declared.fault.Rule.TheVariants as broken
-use Rattle.fault_extend.specs.Refused.{modules_in}
+use Rattle.fault_rules.specs.declared.fault.InstructionRule.TheVariants as broken
+use Rattle.fault_extend.specs.FirstRefusal.{modules_in}
 use Rattle.fault_extend.proofs.weaving.count.Goals as goal
 
 pub returns-clause-kept : goal.returns-clause-kept

@@ -4,10 +4,10 @@ use Rattle.smv_language.specs.ProgramTree.{program_tree}
 use Rattle.smv_language.specs.Trace.{Each}
 use Rattle.fault_instructions.specs.Instructions.{instruction_tree}
 use Rattle.smv_language.specs.ModelTree.{model_tree}
-use Rattle.fault_rules.specs.Placing.{seen_placed}
+use Rattle.fault_rules.specs.PlacedSlices.{seen_placed}
 use Rattle.fault_extend_laws.specs.Expressions.{KeepsUse}
 use Rattle.fault_extend_laws.proofs.SliceLaws.{all_uses}
-use Rattle.fault_extend.specs.Refused.{modules_in, IsFirstFault}
+use Rattle.fault_extend.specs.FirstRefusal.{modules_in, IsFirstFault}
 use Rattle.fault_extend.proofs.Telling.{uses_told}
 use Rattle.fault_extend.proofs.weaving.judge.Goals as goal
 

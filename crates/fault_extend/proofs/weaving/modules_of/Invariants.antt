@@ -1,6 +1,6 @@
 use Rattle.std.proofs.Common.{◌≡◌, take}
-use Rattle.fault_rules.specs.Counted.{module_names}
-use Rattle.fault_extend.specs.Refused.{modules_in}
+use Rattle.fault_rules.specs.FaultCounts.{module_names}
+use Rattle.fault_extend.specs.FirstRefusal.{modules_in}
 use Rattle.fault_extend.proofs.weaving.modules_of.Given as goal
 
 abbrev pub invariant-loop-instance : goal.invariant-loop-instance

@@ -5,8 +5,8 @@ use Rattle.smv_language.specs.ProgramTree.{Text, program_tree}
 use Rattle.fault_instructions.specs.Instructions.{instruction_tree}
 use Rattle.smv_language.specs.ModelTree.{model_tree}
 use Rattle.fault_extend_laws.specs.Expressions.{AllUsesKept}
-use Rattle.fault_extend.specs.Refused.{modules_in, modules_at, KeepsRules, IsTold}
-use Rattle.fault_rules.specs.Counting.{count_broken_at}
+use Rattle.fault_extend.specs.FirstRefusal.{modules_in, modules_at, KeepsRules, IsTold}
+use Rattle.fault_rules.specs.CountLimits.{count_broken_at}
 use Rattle.fault_rules.specs.FirstBroken.{AllKept}
 use Rattle.fault_rules.specs.Sites.{item_sites}
 use Rattle.fault_weave.specs.Faults.{HasFaults}

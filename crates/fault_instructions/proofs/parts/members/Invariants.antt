@@ -1,5 +1,5 @@
 use Rattle.std.proofs.Common.{◌≡◌, map, take}
-use Rattle.smv_language.specs.Written.{tree_of}
+use Rattle.smv_language.specs.ExpressionTree.{tree_of}
 use Rattle.fault_instructions.specs.Templates.{value_tree}
 use Rattle.fault_instructions.proofs.parts.members.Given as goal
 use Rattle.smv_language.specs.Trace.{value_of_member}

@@ -2,8 +2,8 @@ use Rattle.std.proofs.Common.{not, sym, ap, ◌∙◌}
 use Rattle.std.specs.Prelude.{Err}
 use Rattle.std.proofs.lemmas.Result.{err_from_is_err_and}
 use Rattle.smv_expression_reader.proofs.ReadLaws.{each_pushed, each_end, each_spent, each_deep, each_none}
-use Rattle.smv_expression_reader.specs.Reads.{text_at}
-use Rattle.fault_reader.specs.Reads.{in_braces, texts_at}
+use Rattle.smv_expression_reader.specs.SecondPass.{text_at}
+use Rattle.fault_reader.specs.InstructionParts.{in_braces, texts_at}
 use Rattle.fault_reader.proofs.build.mark_texts.Goals as goal
 use Rattle.base_values.proofs.ResultLaws.{same_fault}
 

@@ -1,6 +1,6 @@
 use Rattle.std.proofs.Common.{◌≡◌, ◌-◌}
-use Rattle.smv_expression_reader.specs.Reads.{each_at, with_front, text_at}
-use Rattle.fault_reader.specs.Reads.{in_braces, texts_at}
+use Rattle.smv_expression_reader.specs.SecondPass.{each_at, with_front, text_at}
+use Rattle.fault_reader.specs.InstructionParts.{in_braces, texts_at}
 use Rattle.fault_reader.proofs.build.mark_texts.Given as goal
 
 abbrev pub invariant-loop-round : goal.invariant-loop-round

@@ -3,8 +3,8 @@ use Rattle.std.specs.Prelude.{Err, codes}
 use Rattle.std.proofs.lemmas.Result.{err_from_is_err_and}
 use Rattle.fault_instructions.specs.Instructions.{mode_tree}
 use Rattle.smv_expression_reader.proofs.ReadLaws.{each_viewed, each_end, each_spent, each_deep, each_none}
-use Rattle.smv_expression_reader.specs.Reads.{has_word}
-use Rattle.fault_reader.specs.Reads.{modes_at, mode_at}
+use Rattle.smv_expression_reader.specs.SecondPass.{has_word}
+use Rattle.fault_reader.specs.InstructionParts.{modes_at, mode_at}
 use Rattle.fault_reader.proofs.build.modes.Goals as goal
 use Rattle.base_values.proofs.ResultLaws.{same_fault}
 

@@ -2,7 +2,7 @@ use Rattle.std.proofs.Common.{None, sym, ap, ◌∙◌, subst}
 use Rattle.std.specs.Prelude.{IfSome}
 use Rattle.std.proofs.lemmas.List.{take_all}
 use Rattle.smv_expression_reader.proofs.StopLaws.{path_more}
-use Rattle.fault_reader.specs.InstructionRead.{Sym, file, instructions}
+use Rattle.fault_reader.specs.InstructionGrammar.{Sym, file, instructions}
 use Rattle.fault_reader.specs.InstructionPlaces.{expected_after, place_view, after_view, Fits}
 use Rattle.fault_reader.proofs.PlaceLaws.{fits_goes, ends_law}
 use Rattle.fault_reader.proofs.place.read_through.Goals as goal

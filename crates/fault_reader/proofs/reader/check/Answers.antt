@@ -1,7 +1,7 @@
 use Rattle.std.proofs.Common.{refl, subst, length}
-use Rattle.fault_reader.specs.InstructionRead.{Sym, file, instructions}
+use Rattle.fault_reader.specs.InstructionGrammar.{Sym, file, instructions}
 use Rattle.fault_reader.specs.InstructionPlaces.{ListReads}
-use Rattle.fault_reader.specs.Within.{AreInstructionsTooDeep}
+use Rattle.fault_reader.specs.InstructionDepths.{AreInstructionsTooDeep}
 use Rattle.smv_expression_reader.proofs.StopLaws.{is_spelled, check_ends, check_stops}
 use Rattle.fault_reader.proofs.InstructionReads.{instructions_predictable}
 use Rattle.fault_reader.proofs.reader.check.Goals as goal

@@ -1,6 +1,6 @@
 use Rattle.std.proofs.Common.{◌≡◌, map, drop}
 use Rattle.fault_instructions.specs.Instructions.{mode_tree}
-use Rattle.fault_rules.specs.Counted.{counted_modes}
+use Rattle.fault_rules.specs.FaultCounts.{counted_modes}
 use Rattle.fault_rules.proofs.count.count_modes.Given as goal
 
 abbrev pub invariant-loop-place : goal.invariant-loop-place

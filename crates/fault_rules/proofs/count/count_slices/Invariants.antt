@@ -1,6 +1,6 @@
 use Rattle.std.proofs.Common.{◌≡◌, map, drop}
 use Rattle.fault_instructions.specs.Instructions.{slice_tree}
-use Rattle.fault_rules.specs.Counted.{counted_slices}
+use Rattle.fault_rules.specs.FaultCounts.{counted_slices}
 use Rattle.fault_rules.proofs.count.count_slices.Given as goal
 
 abbrev pub invariant-loop-slice : goal.invariant-loop-slice

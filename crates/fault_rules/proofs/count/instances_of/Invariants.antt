@@ -1,6 +1,6 @@
 use Rattle.std.proofs.Common.{◌≡◌, ◌+◌, ◌≤◌, drop}
-use Rattle.fault_rules.specs.Counting.{instances_of}
-use Rattle.fault_rules.specs.Counted.{module_names}
+use Rattle.fault_rules.specs.CountLimits.{instances_of}
+use Rattle.fault_rules.specs.FaultCounts.{module_names}
 use Rattle.fault_rules.proofs.count.instances_of.Given as goal
 
 abbrev pub invariant-loop-instance : goal.invariant-loop-instance

@@ -2,8 +2,8 @@ use Rattle.std.proofs.Common.{[], subst, map}
 use Rattle.std.proofs.lemmas.Result.{err_from_is_err_and}
 use Rattle.fault_instructions.specs.Instructions.{extension_tree}
 use Rattle.fault_rules.specs.Sites.{extension_sites}
-use Rattle.fault_rules.specs.Counting.{count_broken_at}
-use Rattle.fault_rules.specs.Counted.{module_names}
+use Rattle.fault_rules.specs.CountLimits.{count_broken_at}
+use Rattle.fault_rules.specs.FaultCounts.{module_names}
 use Rattle.fault_rules.specs.FirstBroken.{AllKept, IsFirstBroken}
 use Rattle.fault_rules.proofs.CountLaws.{count_kept, count_broken}
 use Rattle.fault_rules.proofs.count.judge_counts.Goals as goal

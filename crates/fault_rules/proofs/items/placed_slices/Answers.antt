@@ -6,7 +6,7 @@ use Rattle.fault_rules.specs.Sites.{extension_sites}
 use Rattle.fault_rules.specs.Rules.{broken_at}
 use Rattle.fault_rules.specs.FirstBroken.{AllKept, IsFirstBroken}
 use Rattle.fault_rules.specs.Faults.{slices_in}
-use Rattle.fault_rules.specs.Placing.{placed_from}
+use Rattle.fault_rules.specs.PlacedSlices.{placed_from}
 use Rattle.fault_rules.proofs.SiteFaults.{file_kept, file_broken}
 use Rattle.fault_rules.proofs.items.placed_slices.Goals as goal
 

@@ -1,6 +1,6 @@
 use Rattle.std.proofs.Common.{◌≡◌, map, drop}
 use Rattle.smv_language.specs.ProgramTree.{define_tree}
-use Rattle.fault_rules.specs.Keyed.{with_texts}
+use Rattle.fault_rules.specs.KeyedLists.{with_texts}
 use Rattle.fault_rules.specs.Names.{define_name}
 use Rattle.fault_rules.proofs.names.add_defines.Given as goal
 

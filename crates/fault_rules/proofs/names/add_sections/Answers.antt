@@ -1,7 +1,7 @@
 use Rattle.std.proofs.Common.{arith, ◌<◌, length, map}
 use Rattle.std.specs.Prelude.{flat_map}
 use Rattle.smv_language.specs.ProgramTree.{section_tree}
-use Rattle.fault_rules.specs.Keyed.{with_texts}
+use Rattle.fault_rules.specs.KeyedLists.{with_texts}
 use Rattle.fault_rules.specs.Names.{section_names}
 use Rattle.fault_rules.proofs.KeyedLaws.{texts_next}
 use Rattle.fault_rules.proofs.names.add_sections.Goals as goal

@@ -1,5 +1,5 @@
 use Rattle.std.proofs.Common.{◌≡◌, ◌++◌, arith, ◌<◌, ◌∙◌, ap, length}
-use Rattle.fault_rules.specs.Keyed.{with_text}
+use Rattle.fault_rules.specs.KeyedLists.{with_text}
 use Rattle.fault_rules.specs.Steps.{text_at, texts_in}
 use Rattle.fault_rules.proofs.StepLaws.{begins_more, each_added}
 use Rattle.fault_rules.proofs.texts.ended_each.Goals as goal

@@ -1,6 +1,6 @@
 use Rattle.std.proofs.Common.{◌≡◌, map, drop}
 use Rattle.fault_instructions.specs.Instructions.{mode_tree}
-use Rattle.fault_rules.specs.Keyed.{with_texts}
+use Rattle.fault_rules.specs.KeyedLists.{with_texts}
 use Rattle.fault_rules.specs.Steps.{IsTree, IsBeginning, text_at, texts_in, texts_after}
 use Rattle.fault_rules.proofs.texts.ended_each.Given as goal
 

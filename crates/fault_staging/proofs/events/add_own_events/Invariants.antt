@@ -1,7 +1,7 @@
 use Rattle.std.proofs.Common.{◌≡◌, ◌+◌, ◌++◌, length, map, drop}
 use Rattle.smv_language.specs.ModelTree.{model_tree, name_of_fault}
 use Rattle.smv_flat_laws.specs.FaultModes.{mode_of}
-use Rattle.fault_cause_laws.specs.Staged.{with_owns, own_events}
+use Rattle.fault_cause_laws.specs.StagedModel.{with_owns, own_events}
 use Rattle.fault_staging.specs.CauseOf.{cause_of}
 use Rattle.fault_staging.proofs.events.add_own_events.Given as goal
 

@@ -5,7 +5,7 @@ use Rattle.smv_language.specs.declared.expr.Expr.{Expr}
 use Rattle.smv_language.specs.declared.model.Flat.{Flat}
 use Rattle.smv_language.specs.ModelTree.{flat_tree}
 use Rattle.cut_right_laws.specs.Sets.{has_number}
-use Rattle.fault_cause_laws.specs.Staged.{in_window, joined, windows_on}
+use Rattle.fault_cause_laws.specs.StagedModel.{in_window, joined, windows_on}
 use Rattle.fault_staging.specs.CauseOf.{cause_of, either_tree, joined_from}
 use Rattle.fault_staging.proofs.Counts.{window_next, window_passed}
 use Rattle.fault_staging.proofs.events.windows_on.Goals.{then-has_number+in_ok-in_window+in_ok-either, else-has_number}

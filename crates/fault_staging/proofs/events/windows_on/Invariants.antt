@@ -1,7 +1,7 @@
 use Rattle.std.proofs.Common.{◌≡◌, map, drop}
 use Rattle.std.specs.Prelude.{option_map}
 use Rattle.smv_language.specs.ModelTree.{flat_tree}
-use Rattle.fault_cause_laws.specs.Staged.{joined, windows_on}
+use Rattle.fault_cause_laws.specs.StagedModel.{joined, windows_on}
 use Rattle.fault_staging.specs.CauseOf.{cause_of, joined_from}
 use Rattle.fault_staging.proofs.events.windows_on.Given as goal
 

@@ -3,7 +3,7 @@ use Rattle.std.proofs.lemmas.List.{length-map}
 use Rattle.smv_language.specs.ModelTree.{model_tree, variable_tree, name_of_fault}
 use Rattle.smv_flat_laws.specs.FaultModes.{mode_of}
 use Rattle.fault_cause_laws.specs.Causes.{IsCauseOf}
-use Rattle.fault_cause_laws.specs.Staged.{with_cause, with_each_cause, age_numbers, cause_events}
+use Rattle.fault_cause_laws.specs.StagedModel.{with_cause, with_each_cause, age_numbers, cause_events}
 use Rattle.fault_staging.specs.CauseOf.{cause_of, told_cause}
 use Rattle.fault_staging.proofs.Counts.{each_map_get, causes_next, ages_next, events_next, told_next}
 use Rattle.fault_staging.proofs.staging.add_causes.Goals as goal

@@ -1,7 +1,7 @@
 use Rattle.std.proofs.Common.{◌≡◌, ◌++◌, length, map, drop}
 use Rattle.smv_language.specs.ModelTree.{model_tree, name_of_fault}
 use Rattle.smv_flat_laws.specs.FaultModes.{mode_of}
-use Rattle.fault_cause_laws.specs.Staged.{with_each_cause, age_numbers, cause_events}
+use Rattle.fault_cause_laws.specs.StagedModel.{with_each_cause, age_numbers, cause_events}
 use Rattle.fault_staging.specs.CauseOf.{cause_of, told_cause}
 use Rattle.fault_staging.proofs.staging.add_causes.Given as goal
 

@@ -1,7 +1,7 @@
 use Rattle.std.proofs.Common.{◌≡◌, ◌+◌, map, drop}
 use Rattle.smv_language.specs.ModelTree.{model_tree}
 use Rattle.smv_flat_laws.specs.FaultModes.{mode_of}
-use Rattle.fault_cause_laws.specs.Staged.{with_hits}
+use Rattle.fault_cause_laws.specs.StagedModel.{with_hits}
 use Rattle.fault_staging.specs.CauseOf.{cause_of}
 use Rattle.fault_staging.proofs.staging.add_hits.Given as goal
 

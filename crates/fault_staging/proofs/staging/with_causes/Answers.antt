@@ -1,7 +1,7 @@
 use Rattle.std.proofs.Common.{◌++◌, length, map, sym, ap, ◌∙◌}
 use Rattle.std.proofs.lemmas.List.{length-map}
 use Rattle.smv_language.specs.ModelTree.{model_tree}
-use Rattle.fault_cause_laws.specs.Staged.{age_numbers}
+use Rattle.fault_cause_laws.specs.StagedModel.{age_numbers}
 use Rattle.fault_staging.specs.CauseOf.{cause_of}
 use Rattle.fault_staging.proofs.Counts.{length_ages}
 use Rattle.fault_staging.proofs.staging.with_causes.Goals as goal

@@ -1,6 +1,6 @@
 use Rattle.std.proofs.Common.{arith, ◌≤◌, length}
 use Rattle.fault_instructions.specs.Instructions.{instruction_tree, is_affected}
-use Rattle.fault_weave.specs.Woven.{renaming}
+use Rattle.fault_weave.specs.WovenProgram.{renaming}
 use Rattle.fault_weave.proofs.RenameLaws.{members_done, branches_done}
 use Rattle.fault_weave.proofs.rename.+renamed.Goals as goal
 

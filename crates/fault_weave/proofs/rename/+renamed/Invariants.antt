@@ -1,7 +1,7 @@
 use Rattle.std.proofs.Common.{◌≡◌, map, take}
-use Rattle.smv_language.specs.Written.{tree_of, branch_trees}
+use Rattle.smv_language.specs.ExpressionTree.{tree_of, branch_trees}
 use Rattle.fault_instructions.specs.Instructions.{instruction_tree, is_affected}
-use Rattle.fault_weave.specs.Woven.{renaming, tree_map_both}
+use Rattle.fault_weave.specs.WovenProgram.{renaming, tree_map_both}
 use Rattle.fault_weave.proofs.RenameLaws.{renamed_branch}
 use Rattle.fault_weave.proofs.rename.+renamed.Given as goal
 

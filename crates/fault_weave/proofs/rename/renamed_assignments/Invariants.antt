@@ -1,7 +1,7 @@
 use Rattle.std.proofs.Common.{◌≡◌, map, take}
 use Rattle.smv_language.specs.ProgramTree.{assignment_tree}
 use Rattle.fault_instructions.specs.Instructions.{instruction_tree, is_affected}
-use Rattle.fault_weave.specs.Woven.{woven_assignment}
+use Rattle.fault_weave.specs.WovenProgram.{woven_assignment}
 use Rattle.fault_weave.proofs.rename.renamed_assignments.Given as goal
 
 abbrev pub invariant-loop-assignment : goal.invariant-loop-assignment

@@ -1,7 +1,7 @@
 use Rattle.std.proofs.Common.{◌≡◌, map, take}
 use Rattle.smv_language.specs.ProgramTree.{section_tree}
 use Rattle.fault_instructions.specs.Instructions.{instruction_tree, is_affected}
-use Rattle.fault_weave.specs.Woven.{woven_section}
+use Rattle.fault_weave.specs.WovenProgram.{woven_section}
 use Rattle.fault_weave.proofs.rename.renamed_sections.Given as goal
 
 abbrev pub invariant-loop-section : goal.invariant-loop-section

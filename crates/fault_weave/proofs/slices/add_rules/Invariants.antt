@@ -2,7 +2,7 @@ use Rattle.std.proofs.Common.{◌≡◌, ◌++◌, map, drop}
 use Rattle.std.specs.Prelude.{flat_map}
 use Rattle.smv_language.specs.ProgramTree.{section_tree}
 use Rattle.fault_instructions.specs.Instructions.{mode_tree}
-use Rattle.fault_weave.specs.Woven.{mode_rules}
+use Rattle.fault_weave.specs.WovenProgram.{mode_rules}
 use Rattle.fault_weave.proofs.slices.add_rules.Given as goal
 
 abbrev pub invariant-loop-mode : goal.invariant-loop-mode

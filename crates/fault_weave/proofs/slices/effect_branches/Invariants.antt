@@ -1,5 +1,5 @@
 use Rattle.std.proofs.Common.{◌≡◌, map, take}
-use Rattle.smv_language.specs.Written.{branch_trees}
+use Rattle.smv_language.specs.ExpressionTree.{branch_trees}
 use Rattle.smv_language.specs.ProgramTree.{declared_tree}
 use Rattle.fault_instructions.specs.Instructions.{mode_tree}
 use Rattle.fault_instructions.specs.Templates.{stands, branch}

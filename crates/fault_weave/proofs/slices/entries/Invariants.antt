@@ -1,7 +1,7 @@
 use Rattle.std.proofs.Common.{◌≡◌, map, drop}
-use Rattle.smv_language.specs.Written.{tree_of}
+use Rattle.smv_language.specs.ExpressionTree.{tree_of}
 use Rattle.fault_instructions.specs.Instructions.{mode_tree}
-use Rattle.fault_weave.specs.Woven.{entries_from, entries}
+use Rattle.fault_weave.specs.WovenProgram.{entries_from, entries}
 use Rattle.fault_weave.proofs.slices.entries.Given as goal
 
 abbrev pub invariant-loop-mode : goal.invariant-loop-mode

@@ -1,8 +1,8 @@
 use Rattle.std.proofs.Common.{◌≡◌, subst, map}
 use Rattle.std.specs.Prelude.{IfOk}
-use Rattle.smv_language.specs.Written.{tree_of, branch_trees}
+use Rattle.smv_language.specs.ExpressionTree.{tree_of, branch_trees}
 use Rattle.fault_instructions.specs.Instructions.{mode_tree}
-use Rattle.fault_weave.specs.Woven.{stay_branch, entries}
+use Rattle.fault_weave.specs.WovenProgram.{stay_branch, entries}
 use Rattle.fault_weave.proofs.SliceLaws.{case_done}
 use Rattle.fault_weave.proofs.slices.moves.Goals as goal
 

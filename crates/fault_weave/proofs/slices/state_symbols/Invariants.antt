@@ -1,5 +1,5 @@
 use Rattle.std.proofs.Common.{◌≡◌, ◌∷◌, map, take, Some, None}
-use Rattle.smv_language.specs.Written.{tree_of}
+use Rattle.smv_language.specs.ExpressionTree.{tree_of}
 use Rattle.fault_instructions.specs.Instructions.{mode_tree}
 use Rattle.fault_instructions.specs.AddedNames.{mode_symbol}
 use Rattle.fault_instructions.specs.Templates.{named}

@@ -1,8 +1,8 @@
 use Rattle.std.proofs.Common.{◌≡◌, map, take}
-use Rattle.smv_language.specs.Written.{branch_trees}
+use Rattle.smv_language.specs.ExpressionTree.{branch_trees}
 use Rattle.fault_instructions.specs.Instructions.{mode_tree}
 use Rattle.fault_instructions.specs.Templates.{stands}
-use Rattle.fault_weave.specs.Woven.{stay_branch}
+use Rattle.fault_weave.specs.WovenProgram.{stay_branch}
 use Rattle.fault_weave.proofs.slices.stay_branches.Given as goal
 
 abbrev pub invariant-loop-mode : goal.invariant-loop-mode

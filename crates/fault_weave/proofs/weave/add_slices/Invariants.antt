@@ -2,7 +2,7 @@ use Rattle.std.proofs.Common.{◌≡◌, ◌++◌, map, drop}
 use Rattle.std.specs.Prelude.{flat_map}
 use Rattle.smv_language.specs.ProgramTree.{module_tree, section_tree}
 use Rattle.fault_instructions.specs.Instructions.{slice_tree}
-use Rattle.fault_weave.specs.Woven.{slice_sections}
+use Rattle.fault_weave.specs.WovenProgram.{slice_sections}
 use Rattle.fault_weave.proofs.weave.add_slices.Given as goal
 
 abbrev pub invariant-loop-slice : goal.invariant-loop-slice

@@ -1,7 +1,7 @@
 use Rattle.std.proofs.Common.{◌≡◌, map, take}
 use Rattle.smv_language.specs.ProgramTree.{module_tree}
 use Rattle.fault_instructions.specs.Instructions.{instruction_tree}
-use Rattle.fault_weave.specs.Woven.{woven_tree}
+use Rattle.fault_weave.specs.WovenProgram.{woven_tree}
 use Rattle.fault_weave.proofs.weave.woven_modules.Given as goal
 
 abbrev pub invariant-loop-owner : goal.invariant-loop-owner

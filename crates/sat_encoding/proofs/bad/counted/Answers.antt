@@ -8,7 +8,7 @@ use Rattle.sat_encoding_laws.specs.Lists.{size_gates}
 use Rattle.sat_encoding_laws.specs.Signals.{Signal}
 use Rattle.sat_encoding_laws.specs.Layout.{input_place}
 use Rattle.sat_expressions.proofs.ChoiceLoop.{usable_later, length_signals}
-use Rattle.sat_expressions.specs.Naming.{names_in}
+use Rattle.sat_expressions.specs.ModelNames.{names_in}
 use Rattle.sat_encoding.specs.Copies.{source_model}
 use Rattle.sat_encoding.specs.History.{last_numbers, literal_of}
 use Rattle.sat_encoding.proofs.ListLaws.{length_signals_now, counted_is}

@@ -2,7 +2,7 @@ use Rattle.std.proofs.Common.{◌+◌, ◌-◌, ◌++◌, ◌∙◌, List, lengt
 use Rattle.std.specs.List.{range_with_len}
 use Rattle.sat_clauses.specs.Literal.{Literal}
 use Rattle.sat_circuits.specs.Meaning.{AllBelow}
-use Rattle.sat_expressions.specs.Built.{signal_of, signals_of}
+use Rattle.sat_expressions.specs.BuiltSignals.{signal_of, signals_of}
 use Rattle.sat_expressions.proofs.ChoiceLoop.{get_mapped}
 use Rattle.sat_encoding.specs.History.{literal_of}
 use Rattle.sat_encoding.proofs.BadLaws.{literals_next, below_end}

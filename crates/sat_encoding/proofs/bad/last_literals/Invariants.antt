@@ -1,7 +1,7 @@
 use Rattle.std.proofs.Common.{◌≡◌, ◌≤◌, ◌-◌, ◌++◌, length, map}
 use Rattle.std.specs.List.{range_with_len}
 use Rattle.sat_circuits.specs.Meaning.{AllBelow}
-use Rattle.sat_expressions.specs.Built.{signals_of}
+use Rattle.sat_expressions.specs.BuiltSignals.{signals_of}
 use Rattle.sat_encoding.specs.History.{literal_of}
 use Rattle.sat_encoding.proofs.bad.last_literals.Given as goal
 

@@ -4,7 +4,7 @@ use Rattle.std.proofs.lemmas.List.{length-map}
 use Rattle.smv_language.specs.declared.model.FlatModel.{FlatModel as Model}
 use Rattle.smv_language.specs.ModelTree.{model_tree, variable_tree}
 use Rattle.sat_encoding_laws.specs.Lists.{names_of}
-use Rattle.sat_expressions.specs.Built.{signal_of, signals_of}
+use Rattle.sat_expressions.specs.BuiltSignals.{signal_of, signals_of}
 use Rattle.sat_expressions.proofs.ChoiceLoop.{usable_at, usable_later, length_signals}
 use Rattle.sat_encoding.specs.Domains.{domain_gates}
 use Rattle.sat_encoding.specs.Copies.{Builds}

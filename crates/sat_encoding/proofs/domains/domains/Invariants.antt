@@ -1,7 +1,7 @@
 use Rattle.std.proofs.Common.{◌≡◌, ◌≤◌, drop, map}
 use Rattle.smv_language.specs.ModelTree.{model_tree, variable_tree}
 use Rattle.sat_encoding_laws.specs.Lists.{Copy, names_of, domains_gates}
-use Rattle.sat_expressions.specs.Built.{signals_of}
+use Rattle.sat_expressions.specs.BuiltSignals.{signals_of}
 use Rattle.sat_encoding.proofs.domains.domains.Given as goal
 
 abbrev pub invariant-loop-i : goal.invariant-loop-i

@@ -3,7 +3,7 @@ use Rattle.std.proofs.lemmas.Int.{to_z-of_z}
 use Rattle.sat_clauses.specs.Literal.{Literal}
 use Rattle.sat_circuits.specs.Circuit.{Circuit}
 use Rattle.sat_encoding_laws.specs.Signals.{between_gates}
-use Rattle.sat_expressions.specs.Built.{BuildsLiteral}
+use Rattle.sat_expressions.specs.BuiltSignals.{BuildsLiteral}
 use Rattle.sat_encoding.proofs.LoopLaws.{literal_is}
 use Rattle.sat_encoding.proofs.domains.range.Goals as goal
 

@@ -2,7 +2,7 @@ use Rattle.std.proofs.Common.{◌≡◌, ◌≤◌, false, drop, map}
 use Rattle.sat_clauses.specs.Models.{IsBelow}
 use Rattle.sat_circuits.specs.Gates.{constant_lit}
 use Rattle.sat_circuits.specs.Numbers.{number_word}
-use Rattle.sat_expressions.specs.Built.{signal_of}
+use Rattle.sat_expressions.specs.BuiltSignals.{signal_of}
 use Rattle.sat_encoding.specs.Domains.{some_gates}
 use Rattle.sat_encoding.proofs.domains.some_number.Given as goal
 

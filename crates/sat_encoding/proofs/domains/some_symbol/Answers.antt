@@ -1,7 +1,7 @@
 use Rattle.std.proofs.Common.{◌≡◌, get_or, arith}
 use Rattle.std.proofs.lemmas.Grind.{common_steps}
 use Rattle.sat_encoding.specs.Domains.{symbol_word}
-use Rattle.sat_expressions.specs.Built.{signal_of}
+use Rattle.sat_expressions.specs.BuiltSignals.{signal_of}
 use Rattle.sat_encoding.proofs.SomeLaws.{some_next, some_end}
 use Rattle.sat_encoding.proofs.domains.some_symbol.Goals as goal
 

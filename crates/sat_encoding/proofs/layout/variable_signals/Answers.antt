@@ -4,7 +4,7 @@ use Rattle.smv_language.specs.declared.model.FlatModel.{FlatModel as Model}
 use Rattle.smv_language.specs.ModelTree.{variable_tree, role_of}
 use Rattle.smv_type_laws.specs.Costs.{role_width}
 use Rattle.sat_encoding_laws.specs.Layout.{width_as_input, variable_signals}
-use Rattle.sat_expressions.specs.Built.{signals_of}
+use Rattle.sat_expressions.specs.BuiltSignals.{signals_of}
 use Rattle.sat_encoding.specs.declared.layout.Places.{Places}
 use Rattle.sat_encoding.specs.Domains.{domain_width, domain_signal}
 use Rattle.sat_encoding.proofs.LoopLaws.{signals_next}

@@ -1,7 +1,7 @@
 use Rattle.std.proofs.Common.{◌≡◌, ◌≤◌, ◌++◌, drop, map}
 use Rattle.smv_language.specs.ModelTree.{variable_tree}
 use Rattle.sat_encoding_laws.specs.Layout.{variable_signals}
-use Rattle.sat_expressions.specs.Built.{signals_of}
+use Rattle.sat_expressions.specs.BuiltSignals.{signals_of}
 use Rattle.sat_encoding.proofs.layout.variable_signals.Given as goal
 
 abbrev pub invariant-loop-i : goal.invariant-loop-i

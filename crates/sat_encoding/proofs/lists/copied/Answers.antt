@@ -1,6 +1,6 @@
 use Rattle.std.proofs.Common.{ap, arith}
 use Rattle.sat_clauses.specs.Literal.{Literal}
-use Rattle.sat_expressions.specs.Built.{signals_of}
+use Rattle.sat_expressions.specs.BuiltSignals.{signals_of}
 use Rattle.sat_encoding.specs.Copies.{source_model}
 use Rattle.sat_encoding.proofs.CopyLaws.{variables_usable, copy_is}
 use Rattle.sat_encoding.proofs.lists.copied.Goals as goal

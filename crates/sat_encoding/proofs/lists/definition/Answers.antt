@@ -1,8 +1,8 @@
 use Rattle.std.proofs.Common.{◌≡◌, ◌∙◌, Bool, false, true, not, ◌&&◌, sym, ap, arith}
 use Rattle.smv_language.specs.ModelTree.{flat_tree, formula_tree}
 use Rattle.sat_encoding_laws.specs.Inputs.{reads_input}
-use Rattle.sat_expressions.specs.Built.{signals_of}
-use Rattle.sat_expressions.specs.Naming.{model_of, names_in}
+use Rattle.sat_expressions.specs.BuiltSignals.{signals_of}
+use Rattle.sat_expressions.specs.ModelNames.{model_of, names_in}
 use Rattle.sat_encoding.specs.Copies.{source_model}
 use Rattle.sat_encoding.proofs.ListLaws.{read_is, both_true, both_false, first_false, definition_left, definition_is}
 use Rattle.sat_encoding.proofs.lists.definition.Goals as goal

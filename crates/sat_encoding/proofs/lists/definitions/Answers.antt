@@ -3,7 +3,7 @@ use Rattle.std.proofs.lemmas.List.{length-map}
 use Rattle.smv_language.specs.declared.model.Formula.{Formula}
 use Rattle.smv_language.specs.declared.model.FlatModel.{FlatModel as Model}
 use Rattle.smv_language.specs.ModelTree.{formula_tree}
-use Rattle.sat_expressions.specs.Built.{signals_of}
+use Rattle.sat_expressions.specs.BuiltSignals.{signals_of}
 use Rattle.sat_encoding.specs.Copies.{source_model}
 use Rattle.sat_encoding.proofs.ModelParts.{definition_right, got_in}
 use Rattle.sat_encoding.proofs.ListLaws.{defines_next, defines_end}

@@ -2,7 +2,7 @@ use Rattle.std.proofs.Common.{drop, map}
 use Rattle.smv_language.specs.ModelTree.{formula_tree}
 use Rattle.sat_circuits.specs.Circuit.{fold_gates}
 use Rattle.sat_encoding_laws.specs.Lists.{definition_gates, definitions_gates}
-use Rattle.sat_expressions.specs.Built.{signals_of}
+use Rattle.sat_expressions.specs.BuiltSignals.{signals_of}
 use Rattle.sat_encoding.specs.Copies.{source_model, Defines}
 use Rattle.sat_encoding.proofs.lists.definitions.Given as goal
 

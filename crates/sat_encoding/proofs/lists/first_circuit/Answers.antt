@@ -3,7 +3,7 @@ use Rattle.smv_language.specs.declared.model.Formula.{Formula}
 use Rattle.smv_language.specs.declared.model.FlatModel.{FlatModel as Model}
 use Rattle.smv_language.specs.ModelTree.{formula_tree}
 use Rattle.sat_circuits.specs.Circuit.{Circuit}
-use Rattle.sat_expressions.specs.Naming.{model_of, names_in}
+use Rattle.sat_expressions.specs.ModelNames.{model_of, names_in}
 use Rattle.sat_encoding.specs.Copies.{source_model}
 use Rattle.sat_encoding.proofs.ModelParts.{first_right}
 use Rattle.sat_encoding.proofs.ListLaws.{rights_at, first_is}

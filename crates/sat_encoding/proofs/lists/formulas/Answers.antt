@@ -1,6 +1,6 @@
 use Rattle.std.proofs.Common.{map, arith}
 use Rattle.smv_language.specs.ModelTree.{formula_tree}
-use Rattle.sat_expressions.specs.Naming.{model_of, names_in}
+use Rattle.sat_expressions.specs.ModelNames.{model_of, names_in}
 use Rattle.sat_expressions.proofs.Members.{named_later}
 use Rattle.sat_encoding.specs.Copies.{IsRightFormula}
 use Rattle.sat_encoding.proofs.LoopLaws.{formulas_next}

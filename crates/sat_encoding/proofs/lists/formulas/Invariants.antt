@@ -1,7 +1,7 @@
 use Rattle.std.proofs.Common.{◌≡◌, ◌≤◌, drop, map}
 use Rattle.smv_language.specs.ModelTree.{formula_tree}
 use Rattle.sat_encoding_laws.specs.Lists.{formulas_gates}
-use Rattle.sat_expressions.specs.Naming.{names_in}
+use Rattle.sat_expressions.specs.ModelNames.{names_in}
 use Rattle.sat_encoding.proofs.lists.formulas.Given as goal
 
 abbrev pub invariant-loop-formula : goal.invariant-loop-formula

@@ -3,7 +3,7 @@ use Rattle.smv_language.specs.declared.model.FlatModel.{FlatModel as Model}
 use Rattle.smv_language.specs.ModelTree.{formula_tree}
 use Rattle.sat_circuits.specs.Circuit.{Circuit}
 use Rattle.sat_encoding_laws.specs.Lists.{formulas_gates}
-use Rattle.sat_expressions.specs.Naming.{model_of, names_in, copy_of, IsNamed}
+use Rattle.sat_expressions.specs.ModelNames.{model_of, names_in, copy_of, IsNamed}
 use Rattle.sat_encoding.specs.Copies.{source_model, Builds}
 use Rattle.sat_encoding.proofs.ModelParts.{each_right}
 use Rattle.sat_encoding.proofs.CopyLaws.{copied_later, moment_is}

@@ -1,5 +1,5 @@
 use Rattle.std.proofs.Common.{◌≡◌, ap, subst, ◌∙◌}
-use Rattle.sat_expressions.specs.Built.{signal_of, signals_of}
+use Rattle.sat_expressions.specs.BuiltSignals.{signal_of, signals_of}
 use Rattle.sat_expressions.specs.Choices.{chosen_gates}
 use Rattle.sat_expressions.specs.Sorts.{sort_width}
 use Rattle.sat_expressions.proofs.branches.chosen_of.Goals as goal

@@ -1,5 +1,5 @@
 use Rattle.std.proofs.Common.{◌≡◌, ◌-◌, suc, length, arith}
-use Rattle.sat_expressions.specs.Built.{signal_of, signals_of}
+use Rattle.sat_expressions.specs.BuiltSignals.{signal_of, signals_of}
 use Rattle.sat_expressions.proofs.ChoiceLoop.{usable_at, usable_later, choices_first, choices_next, choices_end}
 use Rattle.sat_expressions.proofs.choices.choices.Goals as goal
 use Rattle.smv_language.proofs.ListLaws.{get_there}

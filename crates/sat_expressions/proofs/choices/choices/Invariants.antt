@@ -1,6 +1,6 @@
 use Rattle.std.proofs.Common.{◌≡◌, ◌≤◌, length, take}
 use Rattle.sat_encoding_laws.specs.Meanings.{IsSignal}
-use Rattle.sat_expressions.specs.Built.{signal_of, signals_of}
+use Rattle.sat_expressions.specs.BuiltSignals.{signal_of, signals_of}
 use Rattle.sat_expressions.specs.Choices.{chosen_gates, upward_gates}
 use Rattle.sat_expressions.proofs.choices.choices.Given as goal
 

@@ -1,6 +1,6 @@
 use Rattle.std.proofs.Common.{◌≡◌, ◌≤◌, ◌<◌, ◌+◌, ◌-◌, ◌*◌, rules, to_z, of_z, w64, IfOk, refl, sym, ◌∙◌, subst, arith, length}
 use Rattle.std.proofs.lemmas.Int.{to_z-of_z}
-use Rattle.smv_language.specs.Written.{trees_of, branches_of}
+use Rattle.smv_language.specs.ExpressionTree.{trees_of, branches_of}
 use Rattle.smv_language.specs.Leaves.{trees_map, branches_map}
 use Rattle.sat_circuits.specs.Circuit.{Circuit}
 use Rattle.smv_language.specs.ModelTree.{leaf_of}
@@ -9,7 +9,7 @@ use Rattle.sat_encoding_laws.specs.Signals.{literal_in, word}
 use Rattle.sat_encoding_laws.specs.Expressions.{span_gates}
 use Rattle.sat_encoding_laws.specs.Meanings.{IsSignal}
 use Rattle.sat_expressions.specs.declared.signal.Signal.{Signal}
-use Rattle.sat_expressions.specs.Built.{signal_of, BuildsSignal}
+use Rattle.sat_expressions.specs.BuiltSignals.{signal_of, BuildsSignal}
 use Rattle.sat_expressions.specs.Sorts.{literal_sort}
 use Rattle.sat_expressions.specs.Parts.{asked_of, Answers}
 use Rattle.sat_expressions.proofs.Members.{signal_later, named_later, asked_later, symbols_some, named_next, some_first, some_step, some_done}

@@ -1,5 +1,5 @@
 use Rattle.std.proofs.Common.{◌≡◌, map, take}
-use Rattle.sat_expressions.specs.Built.{signal_of}
+use Rattle.sat_expressions.specs.BuiltSignals.{signal_of}
 use Rattle.sat_expressions.proofs.names.copy_signals.Given as goal
 
 abbrev pub invariant-loop-signal : goal.invariant-loop-signal

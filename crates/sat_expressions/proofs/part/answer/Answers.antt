@@ -1,5 +1,5 @@
 use Rattle.std.proofs.Common.{sym, subst}
-use Rattle.sat_expressions.specs.Built.{signal_of}
+use Rattle.sat_expressions.specs.BuiltSignals.{signal_of}
 use Rattle.sat_expressions.specs.Parts.{asked_of, Answers}
 use Rattle.sat_expressions.proofs.Nodes.{answers_value, answers_has}
 use Rattle.sat_expressions.proofs.part.answer.Goals as goal

@@ -1,8 +1,8 @@
 use Rattle.std.proofs.Common.{◌≡◌, false, ap, subst, ◌∙◌}
 use Rattle.smv_types.specs.Rows.{row_binary}
-use Rattle.smv_types.specs.declared.sort.Judged.{Judged}
+use Rattle.smv_types.specs.declared.sort.JudgedExpr.{JudgedExpr}
 use Rattle.sat_encoding_laws.specs.Signals.{operator_gates}
-use Rattle.sat_expressions.specs.Built.{signal_of}
+use Rattle.sat_expressions.specs.BuiltSignals.{signal_of}
 use Rattle.sat_expressions.specs.Sorts.{kept_sort, sort_width, operation_sort}
 use Rattle.sat_expressions.specs.Parts.{asked_of}
 use Rattle.sat_expressions.proofs.Members.{asked_later}
@@ -18,10 +18,10 @@ answer-requires-clause-usable c = c.in_ok-signal.ensures.usable
 pub returns : goal.returns
 returns c =
     let before : c.operation.result.sort ≡ operation_sort c.args.op c.args.a.sort c.args.b.sort =
-    ap (λ (j : Judged). j.sort) (c.operation.ensures ∙ ap (λ j. row_binary false c.args.op j c.kept-2.result) c.kept.ensures ∙ ap (row_binary false c.args.op (kept_sort c.args.a.sort)) c.kept-2.ensures)
+    ap (λ (j : JudgedExpr). j.sort) (c.operation.ensures ∙ ap (λ j. row_binary false c.args.op j c.kept-2.result) c.kept.ensures ∙ ap (row_binary false c.args.op (kept_sort c.args.a.sort)) c.kept-2.ensures)
     in
     let sort : c.operation-2.result.sort ≡ operation_sort c.args.op c.args.a.sort c.args.b.sort =
-    ap (λ (j : Judged). j.sort) (c.operation-2.ensures ∙ ap (λ j. row_binary false c.args.op j c.kept-4.result) c.kept-3.ensures ∙ ap (row_binary false c.args.op (kept_sort c.args.a.sort)) c.kept-4.ensures)
+    ap (λ (j : JudgedExpr). j.sort) (c.operation-2.ensures ∙ ap (λ j. row_binary false c.args.op j c.kept-4.result) c.kept-3.ensures ∙ ap (row_binary false c.args.op (kept_sort c.args.a.sort)) c.kept-4.ensures)
     in
     let width : c.sort_width-width.result ≡ sort_width c.args.names.now.symbols (operation_sort c.args.op c.args.a.sort c.args.b.sort) = c.sort_width-width.ensures.value ∙ ap (sort_width c.args.names.now.symbols) before in
     result_after _ (asked_of c.args.asked) c.args.g.now c.operator.new.g _

@@ -1,6 +1,6 @@
 use Rattle.std.proofs.Common.{ap, subst, ◌∙◌}
 use Rattle.sat_encoding_laws.specs.Signals.{literal_in, choice_gates}
-use Rattle.sat_expressions.specs.Built.{signal_of, BuildsSignal}
+use Rattle.sat_expressions.specs.BuiltSignals.{signal_of, BuildsSignal}
 use Rattle.sat_expressions.specs.Sorts.{sort_width}
 use Rattle.sat_expressions.proofs.part.chosen_part.Goals as goal
 

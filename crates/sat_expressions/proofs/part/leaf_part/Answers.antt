@@ -1,7 +1,7 @@
 use Rattle.smv_language.specs.ModelTree.{leaf_of}
 use Rattle.smv_type_laws.specs.Models.{kind_of_leaf}
 use Rattle.smv_types.specs.Answers.{told_sort}
-use Rattle.sat_expressions.specs.Naming.{model_of, names_in}
+use Rattle.sat_expressions.specs.ModelNames.{model_of, names_in}
 use Rattle.sat_expressions.specs.Parts.{asked_of}
 use Rattle.sat_expressions.proofs.Nodes.{result_at}
 use Rattle.sat_expressions.proofs.part.leaf_part.Goals as goal

@@ -3,8 +3,8 @@ use Rattle.sat_clauses.specs.Literal.{Literal}
 use Rattle.smv_language.specs.ModelTree.{leaf_of}
 use Rattle.sat_encoding_laws.specs.Meanings.{IsSignal, IsReady}
 use Rattle.sat_encoding_laws.proofs.NameMeans.{leaf_usable}
-use Rattle.sat_expressions.specs.Built.{signals_of}
-use Rattle.sat_expressions.specs.Naming.{model_of}
+use Rattle.sat_expressions.specs.BuiltSignals.{signals_of}
+use Rattle.sat_expressions.specs.ModelNames.{model_of}
 use Rattle.sat_expressions.proofs.part.named_part.Goals as goal
 
 pub returns-clause-usable : goal.returns-clause-usable

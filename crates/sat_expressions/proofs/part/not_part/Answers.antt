@@ -3,7 +3,7 @@ use Rattle.sat_clauses.specs.Literal.{opposite}
 use Rattle.sat_clauses.specs.Models.{IsBelow}
 use Rattle.sat_encoding_laws.specs.Signals.{bit, literal_in}
 use Rattle.sat_encoding_laws.specs.Meanings.{IsSignal}
-use Rattle.sat_expressions.specs.Built.{signal_of}
+use Rattle.sat_expressions.specs.BuiltSignals.{signal_of}
 use Rattle.sat_expressions.specs.Parts.{asked_of, truth_sort}
 use Rattle.sat_expressions.proofs.Nodes.{result_at}
 use Rattle.sat_expressions.proofs.part.not_part.Goals as goal

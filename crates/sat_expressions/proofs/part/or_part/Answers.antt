@@ -1,7 +1,7 @@
 use Rattle.std.proofs.Common.{subst}
 use Rattle.std.specs.Prelude.{IfOk}
 use Rattle.sat_circuits.specs.Gates.{or_gate}
-use Rattle.sat_expressions.specs.Built.{BuildsLiteral}
+use Rattle.sat_expressions.specs.BuiltSignals.{BuildsLiteral}
 use Rattle.sat_expressions.proofs.part.or_part.Goals as goal
 
 pub returns : goal.returns

@@ -1,7 +1,7 @@
 use Rattle.std.proofs.Common.{sym, subst}
 use Rattle.sat_circuits.specs.Gates.{or_gate}
 use Rattle.sat_encoding_laws.specs.Signals.{literal_in}
-use Rattle.sat_expressions.specs.Built.{signal_of, BuildsLiteral}
+use Rattle.sat_expressions.specs.BuiltSignals.{signal_of, BuildsLiteral}
 use Rattle.sat_expressions.specs.Parts.{IsBit}
 use Rattle.sat_expressions.proofs.Nodes.{literal_built}
 use Rattle.sat_expressions.proofs.part.union_part.Goals as goal

@@ -2,7 +2,7 @@ use Rattle.std.proofs.Common.{subst, w64}
 use Rattle.std.proofs.lemmas.Int.{to_z-of_z}
 use Rattle.sat_circuits.specs.Numbers.{number_word}
 use Rattle.sat_circuits.specs.Sums.{less_gates}
-use Rattle.sat_expressions.specs.Built.{BuildsLiteral}
+use Rattle.sat_expressions.specs.BuiltSignals.{BuildsLiteral}
 use Rattle.sat_expressions.proofs.SignalLaws.{between_is}
 use Rattle.sat_expressions.proofs.signal.between.Goals as goal
 

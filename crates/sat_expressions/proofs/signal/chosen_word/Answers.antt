@@ -1,6 +1,6 @@
 use Rattle.std.proofs.Common.{◌<◌, sym, ◌∙◌, arith}
 use Rattle.sat_encoding_laws.specs.Signals.{word_in}
-use Rattle.sat_expressions.specs.Built.{signal_of}
+use Rattle.sat_expressions.specs.BuiltSignals.{signal_of}
 use Rattle.sat_expressions.proofs.SignalLaws.{fitted_below, fitted_long, chosen_is}
 use Rattle.sat_expressions.proofs.signal.chosen_word.Goals as goal
 

@@ -1,5 +1,5 @@
 use Rattle.std.proofs.Common.{◌≡◌, take}
-use Rattle.sat_simplify.specs.Compacting.{compacted_clause}
+use Rattle.sat_simplify.specs.CompactNumbers.{compacted_clause}
 use Rattle.sat_simplify.proofs.compact.clause_of.Given as goal
 
 abbrev pub invariant-loop-lit : goal.invariant-loop-lit

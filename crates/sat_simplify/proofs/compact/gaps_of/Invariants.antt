@@ -1,5 +1,5 @@
 use Rattle.std.proofs.Common.{◌≡◌, ◌≤◌, ◌++◌, drop}
-use Rattle.sat_simplify.specs.Compacting.{gaps}
+use Rattle.sat_simplify.specs.CompactNumbers.{gaps}
 use Rattle.sat_simplify.proofs.compact.gaps_of.Given as goal
 
 abbrev pub invariant-loop-is_marked : goal.invariant-loop-is_marked

@@ -1,5 +1,5 @@
 use Rattle.std.proofs.Common.{◌≡◌, take}
-use Rattle.sat_simplify.specs.Compacting.{compacted_list}
+use Rattle.sat_simplify.specs.CompactNumbers.{compacted_list}
 use Rattle.sat_simplify.proofs.compact.list_of.Given as goal
 
 abbrev pub invariant-loop-clause : goal.invariant-loop-clause

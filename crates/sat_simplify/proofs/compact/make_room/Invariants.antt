@@ -1,5 +1,5 @@
 use Rattle.std.proofs.Common.{◌+◌, ◌-◌, length}
-use Rattle.sat_simplify.specs.Compacting.{KeepsMarks}
+use Rattle.sat_simplify.specs.CompactNumbers.{KeepsMarks}
 use Rattle.sat_simplify.proofs.compact.make_room.Given as goal
 
 abbrev pub invariant-loop-marks : goal.invariant-loop-marks

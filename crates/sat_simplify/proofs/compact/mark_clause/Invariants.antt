@@ -1,5 +1,5 @@
 use Rattle.std.proofs.Common.{take}
-use Rattle.sat_simplify.specs.Compacting.{HasMarked}
+use Rattle.sat_simplify.specs.CompactNumbers.{HasMarked}
 use Rattle.sat_simplify.proofs.compact.mark_clause.Given as goal
 
 abbrev pub invariant-loop-lit : goal.invariant-loop-lit

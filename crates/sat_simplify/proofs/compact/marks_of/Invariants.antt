@@ -1,5 +1,5 @@
 use Rattle.std.proofs.Common.{take, All}
-use Rattle.sat_simplify.specs.Compacting.{IsMarked}
+use Rattle.sat_simplify.specs.CompactNumbers.{IsMarked}
 use Rattle.sat_simplify.proofs.compact.marks_of.Given as goal
 
 abbrev pub invariant-loop-clause : goal.invariant-loop-clause

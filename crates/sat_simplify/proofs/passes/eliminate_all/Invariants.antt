@@ -1,4 +1,4 @@
-use Rattle.sat_simplify.specs.Based.{Becomes}
+use Rattle.sat_simplify.specs.ClauseBase.{Becomes}
 use Rattle.sat_simplify.proofs.passes.eliminate_all.Given as goal
 
 abbrev pub invariant-loop-turn : goal.invariant-loop-turn

@@ -1,4 +1,4 @@
-use Rattle.sat_simplify.specs.Based.{Becomes}
+use Rattle.sat_simplify.specs.ClauseBase.{Becomes}
 use Rattle.sat_simplify.proofs.passes.simplify.Given as goal
 
 abbrev pub invariant-loop-round : goal.invariant-loop-round

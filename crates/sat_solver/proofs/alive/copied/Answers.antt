@@ -1,7 +1,7 @@
 use Rattle.std.proofs.Common.{◌≡◌, ℕ, Bool, List, [], All, length, sym, ap, ◌∙◌, subst, arith}
 use Rattle.sat_clauses.specs.StoreRecord.{StoreValue}
 use Rattle.sat_clauses.specs.Derivation.{IsUpTo}
-use Rattle.sat_solver.specs.Alive.{IsAlive}
+use Rattle.sat_solver.specs.LivingClauses.{IsAlive}
 use Rattle.sat_solver.proofs.AliveLemmas.{alive_none}
 use Rattle.sat_solver.proofs.alive.copied.Goals as goal
 

@@ -1,5 +1,5 @@
 use Rattle.std.proofs.Common.{◌≡◌, ◌≤◌, ◌-◌, [], length}
-use Rattle.sat_solver.specs.Alive.{IsAlive}
+use Rattle.sat_solver.specs.LivingClauses.{IsAlive}
 use Rattle.sat_solver.proofs.alive.copied.Given as goal
 
 -- of the clauses so far those stay that are alive

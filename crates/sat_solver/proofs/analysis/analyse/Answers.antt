@@ -1,6 +1,6 @@
 use Rattle.std.proofs.Common.{◌≡◌, ◌+◌, ◌-◌, List, length, reverse, ap, ◌∙◌, arith}
 use Rattle.std.proofs.lemmas.List.{take_all}
-use Rattle.sat_solver.specs.declared.trail.Entry.{Entry}
+use Rattle.sat_solver.specs.declared.trail.TrailEntry.{TrailEntry}
 use Rattle.sat_solver.specs.Trail.{below}
 use Rattle.sat_solver.specs.AnalysisRecord.{AnalysisValue}
 use Rattle.sat_solver.specs.Analysis.{analysed, begun, visited}
@@ -19,7 +19,7 @@ loop-i-init g c =
       within = omega arith;
       marks = ap (λ (s : AnalysisValue). length s.marks) is ∙ length-begun n cs c.args.conflict;
       rest = ap (λ s. analysed cs c.args.fully s (below xs c.len-i.result)) is
-          ∙ ap (λ (ys : List Entry). analysed cs c.args.fully (begun n cs c.args.conflict) (reverse ys)) (take_all c.len-i.result xs (omega arith));
+          ∙ ap (λ (ys : List TrailEntry). analysed cs c.args.fully (begun n cs c.args.conflict) (reverse ys)) (take_all c.len-i.result xs (omega arith));
     }
 
 pub visit-requires-clause-in_range : goal.visit-requires-clause-in_range

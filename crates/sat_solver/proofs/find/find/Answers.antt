@@ -2,7 +2,7 @@ use Rattle.std.proofs.Common.{◌≤◌, All, length, sym, ◌∙◌, subst, ari
 use Rattle.std.proofs.lemmas.List.{take_all}
 use Rattle.std.proofs.lemmas.List.Elements.{All-more}
 use Rattle.std.proofs.lemmas.Option.{get_or_from_slice_get}
-use Rattle.sat_solver.specs.Found.{IsTrueIn}
+use Rattle.sat_solver.specs.ClauseFindings.{IsTrueIn}
 use Rattle.sat_solver.proofs.VerdictLemmas.{only_true}
 use Rattle.sat_solver.proofs.find.find.Goals as goal
 

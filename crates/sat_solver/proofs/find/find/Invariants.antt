@@ -1,5 +1,5 @@
 use Rattle.std.proofs.Common.{◌≤◌, ◌-◌, All, length, take}
-use Rattle.sat_solver.specs.Found.{IsTrueIn}
+use Rattle.sat_solver.specs.ClauseFindings.{IsTrueIn}
 use Rattle.sat_solver.proofs.find.find.Given as goal
 
 -- the clauses so far are true

@@ -1,6 +1,6 @@
 use Rattle.std.proofs.Common.{ℕ, ◌<◌, ◌^◌, All, sym, subst}
 use Rattle.sat_clauses.specs.Derivation.{IsUpTo}
-use Rattle.sat_solver.specs.Kept.{IsAnswer}
+use Rattle.sat_solver.specs.LearnedClauses.{IsAnswer}
 use Rattle.sat_solver.specs.Search.{Grows}
 use Rattle.sat_solver.proofs.SearchLemmas.{grows_more}
 use Rattle.sat_solver.proofs.ProposedLemmas.{grown_in_range, right_from_answer}

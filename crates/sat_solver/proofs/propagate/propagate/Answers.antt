@@ -1,7 +1,7 @@
 use Rattle.std.proofs.Common.{◌≡◌, All, sym, ap, ◌∙◌, subst}
 use Rattle.sat_clauses.specs.Assignment.{Assignment, IsInRange}
 use Rattle.sat_solver.specs.TrailRecord.{TrailValue}
-use Rattle.sat_solver.specs.Found.{IsUseful}
+use Rattle.sat_solver.specs.ClauseFindings.{IsUseful}
 use Rattle.sat_solver.proofs.propagate.propagate.Goals as goal
 
 pub try_clause-found-requires : goal.try_clause-found-requires

@@ -1,6 +1,6 @@
 use Rattle.std.proofs.Common.{◌≡◌, ◌≤◌, ℕ, ⊎_elim, IsTrue, [], length, false, true, get_or, sym, subst, arith}
 use Rattle.std.proofs.lemmas.Bool.{cases_lt}
-use Rattle.sat_solver.specs.Proposed.{HasTrue}
+use Rattle.sat_solver.specs.Proposals.{HasTrue}
 use Rattle.sat_solver.proofs.ProposedLemmas.{all_true_from}
 use Rattle.sat_solver.proofs.proposed.all_true.Goals as goal
 

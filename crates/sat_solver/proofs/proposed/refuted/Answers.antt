@@ -1,7 +1,7 @@
 use Rattle.std.proofs.Common.{ℕ, All, sym, subst}
 use Rattle.sat_clauses.specs.Derivation.{IsUpTo}
 use Rattle.sat_solver.specs.Search.{Grows}
-use Rattle.sat_solver.specs.Proposed.{IsRight}
+use Rattle.sat_solver.specs.Proposals.{IsRight}
 use Rattle.std.proofs.Common.{IfSome}
 use Rattle.sat_solver.proofs.SearchLemmas.{grows_more}
 use Rattle.sat_solver.proofs.ProposedLemmas.{grown_in_range, right_some}

@@ -2,7 +2,7 @@ use Rattle.std.proofs.Common.{List, All, length, sym, ◌∙◌, subst}
 use Rattle.sat_clauses.specs.Literal.{Literal}
 use Rattle.sat_clauses.specs.Assignment.{IsInRange}
 use Rattle.sat_solver.specs.TrailRecord.{TrailValue}
-use Rattle.sat_solver.specs.Found.{IsUseful}
+use Rattle.sat_solver.specs.ClauseFindings.{IsUseful}
 use Rattle.sat_solver.specs.Verdict.{IsAdvance}
 use Rattle.sat_solver.proofs.FollowLemmas.{advance_followed}
 use Rattle.sat_solver.proofs.RunningLemmas.{running_followed, goes_on_since, keeps_since}

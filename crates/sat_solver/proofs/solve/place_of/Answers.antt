@@ -2,13 +2,13 @@ use Rattle.std.proofs.Common.{◌≢◌, ◌≤◌, All, length, sym, subst, ari
 use Rattle.std.proofs.lemmas.List.{take_all}
 use Rattle.std.proofs.lemmas.List.Elements.{All-more}
 use Rattle.std.proofs.lemmas.Option.{get_or_from_slice_get}
-use Rattle.sat_solver.specs.declared.trail.Entry.{Entry}
+use Rattle.sat_solver.specs.declared.trail.TrailEntry.{TrailEntry}
 use Rattle.sat_solver.proofs.LessonLemmas.{not_listed}
 use Rattle.sat_solver.proofs.solve.place_of.Goals as goal
 
 pub loop-i-preserved : goal.loop-i-preserved
 loop-i-preserved c =
-    let P : Entry → Type 0 = λ e. e.lit ≢ c.args.lit in
+    let P : TrailEntry → Type 0 = λ e. e.lit ≢ c.args.lit in
     let xs = c.args.trail.now.entries in
     let i = c.loop-i.i in
     let e = c.at.result in
@@ -22,4 +22,4 @@ pub unreachable-requires : goal.unreachable-requires
 unreachable-requires c =
     let over : length c.args.trail.now.entries ≤ c.loop-i.i = omega arith in
     not_listed c.args.trail.now c.args.lit c.requires.lawful c.requires.is_true
-    (subst (All (λ (e : Entry). e.lit ≢ c.args.lit)) (take_all c.loop-i.i c.args.trail.now.entries over) c.loop-i.invariant.elsewhere)
+    (subst (All (λ (e : TrailEntry). e.lit ≢ c.args.lit)) (take_all c.loop-i.i c.args.trail.now.entries over) c.loop-i.invariant.elsewhere)

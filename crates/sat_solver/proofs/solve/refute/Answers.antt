@@ -5,7 +5,7 @@ use Rattle.sat_clauses.specs.Literal.{Literal, opposite}
 use Rattle.sat_clauses.specs.Assignment.{Assignment, value_of, made_true}
 use Rattle.sat_clauses.specs.Hints.{truth_at}
 use Rattle.sat_clauses.specs.declared.clause.Truth.TheVariants.{Unit as UnitClause}
-use Rattle.sat_solver.specs.declared.trail.Entry.{Entry}
+use Rattle.sat_solver.specs.declared.trail.TrailEntry.{TrailEntry}
 use Rattle.sat_solver.specs.declared.trail.Reason.TheVariants.{Assumed}
 use Rattle.sat_solver.specs.Trail.{assigned, below}
 use Rattle.sat_solver.specs.Search.{IsReason}
@@ -24,7 +24,7 @@ unreachable-requires g c =
     let e = c.at-reason.result in
     let place = c.place_of-place.ensures.place in
     let same : place.0 ≡ e = same_Some _ _ (sym place.1 ∙ c.at-reason.ensures) in
-    let is : e.lit ≡ opposite c.args.assumption = ap (λ (d : Entry). d.lit) (sym same) ∙ (place.2 ∙ c.neg.ensures) in
+    let is : e.lit ≡ opposite c.args.assumption = ap (λ (d : TrailEntry). d.lit) (sym same) ∙ (place.2 ∙ c.neg.ensures) in
     only_implied (g.S.Store.held c.args.store.now).clauses c.args.assumptions.now n c.args.assumption e (below t.entries i) c.requires.running.apart c.requires.assumed is
     (fresh_at n t.entries i e c.at-reason.ensures c.requires.running.sound.lawful.fresh)
     (justified_at (g.S.Store.held c.args.store.now).clauses c.args.assumptions.now n t.entries i e c.at-reason.ensures c.requires.running.sound.justified)
@@ -43,7 +43,7 @@ push-requires-clause-free g c =
     let e = c.at-reason.result in
     let place = c.place_of-place.ensures.place in
     let same : place.0 ≡ e = same_Some _ _ (sym place.1 ∙ c.at-reason.ensures) in
-    let is : e.lit ≡ opposite c.args.assumption = ap (λ (d : Entry). d.lit) (sym same) ∙ (place.2 ∙ c.neg.ensures) in
+    let is : e.lit ≡ opposite c.args.assumption = ap (λ (d : TrailEntry). d.lit) (sym same) ∙ (place.2 ∙ c.neg.ensures) in
     ap (λ (a : Assignment). value_of a c.args.assumption) c.undo.ensures.values
     ∙ free_before n c.args.assumption e (below t.entries i) is (fresh_at n t.entries i e c.at-reason.ensures c.requires.running.sound.lawful.fresh)
 
@@ -58,7 +58,7 @@ take_core-requires-clause-is_false g c =
     let u = c.push.new.trail in
     let place = c.place_of-place.ensures.place in
     let same : place.0 ≡ e = same_Some _ _ (sym place.1 ∙ c.at-reason.ensures) in
-    let is : e.lit ≡ opposite p = ap (λ (d : Entry). d.lit) (sym same) ∙ (place.2 ∙ c.neg.ensures) in
+    let is : e.lit ≡ opposite p = ap (λ (d : TrailEntry). d.lit) (sym same) ∙ (place.2 ∙ c.neg.ensures) in
     let fresh = fresh_at n t.entries i e c.at-reason.ensures c.requires.running.sound.lawful.fresh in
     let justified = justified_at cs c.args.assumptions.now n t.entries i e c.at-reason.ensures c.requires.running.sound.justified in
     let unit : truth_at cs (assigned n (below t.entries i)) c.in-Implied.number ≡ Some (UnitClause (opposite p)) =
@@ -83,10 +83,10 @@ returns-clause-core g c =
     let e = c.at-reason.result in
     let p = c.args.assumption in
     let u = c.push.new.trail in
-    let d : Entry = record { lit = p; reason = Assumed 0 } in
+    let d : TrailEntry = record { lit = p; reason = Assumed 0 } in
     let place = c.place_of-place.ensures.place in
     let same : place.0 ≡ e = same_Some _ _ (sym place.1 ∙ c.at-reason.ensures) in
-    let is : e.lit ≡ opposite p = ap (λ (x : Entry). x.lit) (sym same) ∙ (place.2 ∙ c.neg.ensures) in
+    let is : e.lit ≡ opposite p = ap (λ (x : TrailEntry). x.lit) (sym same) ∙ (place.2 ∙ c.neg.ensures) in
     let fresh = fresh_at n t.entries i e c.at-reason.ensures c.requires.running.sound.lawful.fresh in
     let free = free_before n p e (below t.entries i) is fresh in
     let justified = justified_at cs c.args.assumptions.now n t.entries i e c.at-reason.ensures c.requires.running.sound.justified in
@@ -97,7 +97,7 @@ returns-clause-core g c =
     let lits : clause ≡ (analysed cs true (begun n cs c.in-Implied.number) (d ∷ below t.entries i)).lits =
     c.in_ok-core.ensures.lits
     ∙ (ap (λ m. (analysed cs true (begun m cs c.in-Implied.number) (reverse u.entries)).lits) places
-    ∙ ap (λ (ys : List Entry). (analysed cs true (begun n cs c.in-Implied.number) ys).lits) turned) in
+    ∙ ap (λ (ys : List TrailEntry). (analysed cs true (begun n cs c.in-Implied.number) ys).lits) turned) in
     record {
       listed = c.in_ok-core.ensures.listed;
       negated = subst (All (λ l. Contains c.args.assumptions.now (opposite l))) (sym lits)

@@ -1,6 +1,6 @@
 use Rattle.std.proofs.Common.{◌≡◌, ◌+◌, ◌≤◌}
 use Rattle.sat_solver.specs.Search.{Grows}
-use Rattle.sat_solver.specs.Running.{IsRunning}
+use Rattle.sat_solver.specs.SearchSteps.{IsRunning}
 use Rattle.sat_solver.specs.Score.{left}
 use Rattle.sat_solver.proofs.solve.search.Given as goal
 

@@ -1,7 +1,7 @@
 use Rattle.std.proofs.Common.{◌≡◌, Some, subst}
 use Rattle.sat_clauses.specs.declared.clause.Truth.TheVariants.{Unit as UnitClause}
 use Rattle.sat_clauses.specs.Hints.{truth_at}
-use Rattle.sat_solver.specs.Found.{IsUseful}
+use Rattle.sat_solver.specs.ClauseFindings.{IsUseful}
 use Rattle.sat_solver.proofs.LessonLemmas.{unit_in_range, unit_free}
 use Rattle.sat_solver.proofs.solve.take_step.Goals as goal
 

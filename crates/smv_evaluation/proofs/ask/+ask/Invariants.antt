@@ -1,6 +1,6 @@
 use Rattle.std.proofs.Common.{◌≡◌, drop}
-use Rattle.smv_language.specs.Written.{trees_of, branches_of}
-use Rattle.smv_evaluation.specs.Asked.{known_value, members_of, taken_of}
+use Rattle.smv_language.specs.ExpressionTree.{trees_of, branches_of}
+use Rattle.smv_evaluation.specs.Evaluation.{known_value, members_of, taken_of}
 use Rattle.smv_evaluation.proofs.ask.+ask.Given as goal
 
 abbrev pub invariant-ask_members-loop-member : goal.invariant-ask_members-loop-member

@@ -1,7 +1,7 @@
 use Rattle.std.proofs.Common.{◌≡◌, ◌∙◌, ◌↔◌, IsTrue, ap, sym, subst}
 use Rattle.smv_language.specs.ModelTree.{model_tree}
-use Rattle.smv_evaluation.specs.Filled.{first_holds}
-use Rattle.smv_evaluation.specs.Named.{values_in}
+use Rattle.smv_evaluation.specs.MomentTables.{first_holds}
+use Rattle.smv_evaluation.specs.EvaluableModels.{values_in}
 use Rattle.smv_evaluation.specs.Stops.{IsFirstMoment}
 use Rattle.smv_evaluation.proofs.ConditionLaws.{first_law}
 use Rattle.smv_evaluation.proofs.conditions.holds_first.Goals as goal

@@ -1,7 +1,7 @@
 use Rattle.std.proofs.Common.{◌≡◌, ◌∙◌, ◌↔◌, IsTrue, ap, sym, subst}
 use Rattle.smv_language.specs.ModelTree.{model_tree}
-use Rattle.smv_evaluation.specs.Filled.{step_holds}
-use Rattle.smv_evaluation.specs.Named.{values_in}
+use Rattle.smv_evaluation.specs.MomentTables.{step_holds}
+use Rattle.smv_evaluation.specs.EvaluableModels.{values_in}
 use Rattle.smv_evaluation.specs.Stops.{IsNextMoment}
 use Rattle.smv_evaluation.proofs.ConditionLaws.{step_law}
 use Rattle.smv_evaluation.proofs.conditions.holds_step.Goals as goal

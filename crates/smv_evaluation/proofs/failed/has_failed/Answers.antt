@@ -3,7 +3,7 @@ use Rattle.std.specs.Prelude.{All}
 use Rattle.std.specs.List.{list_any}
 use Rattle.smv_language.specs.ModelTree.{model_tree}
 use Rattle.smv_flat_laws.specs.FaultModes.{mode_of}
-use Rattle.smv_evaluation.specs.Failed.{has_symbol, HasVariable}
+use Rattle.smv_evaluation.specs.SymbolTests.{has_symbol, HasVariable}
 use Rattle.smv_evaluation.proofs.FailedLaws.{failed_law}
 use Rattle.smv_evaluation.proofs.FilledLaws.{all_have, variable_of}
 use Rattle.smv_evaluation.proofs.failed.has_failed.Goals as goal

@@ -1,8 +1,8 @@
 use Rattle.std.proofs.Common.{◌∙◌, ap, sym, subst}
 use Rattle.smv_language.specs.declared.model.FlatModel.{FlatModel}
 use Rattle.smv_language.specs.ModelTree.{model_tree}
-use Rattle.smv_evaluation.specs.Filled.{filled, HasRoom, HasValues}
-use Rattle.smv_evaluation.specs.Named.{IsFilled}
+use Rattle.smv_evaluation.specs.MomentTables.{filled, HasRoom, HasValues}
+use Rattle.smv_evaluation.specs.EvaluableModels.{IsFilled}
 use Rattle.smv_evaluation.proofs.FilledLaws.{filled_law, lawful_values}
 use Rattle.smv_evaluation.proofs.table.fill.Goals as goal
 

@@ -1,5 +1,5 @@
 use Rattle.std.proofs.Common.{◌≡◌, [], take, drop, length}
-use Rattle.smv_evaluation.specs.Filled.{definition_values}
+use Rattle.smv_evaluation.specs.MomentTables.{definition_values}
 use Rattle.smv_evaluation.proofs.table.write_definitions.Given as goal
 
 abbrev pub invariant-loop-i : goal.invariant-loop-i

@@ -1,7 +1,7 @@
 use Rattle.std.proofs.Common.{◌≡◌, drop}
-use Rattle.smv_language.specs.Written.{tree_of}
-use Rattle.smv_evaluation.specs.Filled.{HasRoom}
-use Rattle.smv_evaluation.specs.Replayed.{replayed_from}
+use Rattle.smv_language.specs.ExpressionTree.{tree_of}
+use Rattle.smv_evaluation.specs.MomentTables.{HasRoom}
+use Rattle.smv_evaluation.specs.Replay.{replayed_from}
 use Rattle.smv_evaluation.proofs.trace.replay_rest.Given as goal
 
 abbrev pub invariant-loop-i : goal.invariant-loop-i

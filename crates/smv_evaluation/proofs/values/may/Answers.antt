@@ -1,6 +1,6 @@
 use Rattle.std.proofs.Common.{◌↔◌, IsTrue, sym, subst}
 use Rattle.smv_language.specs.ModelTree.{model_tree, flat_tree}
-use Rattle.smv_evaluation.specs.Named.{MayGive}
+use Rattle.smv_evaluation.specs.EvaluableModels.{MayGive}
 use Rattle.smv_evaluation.proofs.ValueLaws.{may_law}
 use Rattle.smv_evaluation.proofs.values.may.Goals as goal
 

@@ -1,6 +1,6 @@
 use Rattle.std.proofs.Common.{sym, subst}
 use Rattle.smv_language.specs.ModelTree.{model_tree, flat_tree}
-use Rattle.smv_evaluation.specs.Named.{Gives}
+use Rattle.smv_evaluation.specs.EvaluableModels.{Gives}
 use Rattle.smv_evaluation.proofs.ValueLaws.{value_law}
 use Rattle.smv_evaluation.proofs.values.value.Goals as goal
 

@@ -1,6 +1,6 @@
 use Rattle.std.proofs.Common.{◌≡◌, ◌+◌, drop}
 use Rattle.std.specs.Prelude.{◌||◌}
-use Rattle.smv_expression_reader.specs.Recognise as machine
+use Rattle.smv_expression_reader.specs.Recogniser as machine
 use Rattle.smv_expression_reader.specs.Views.{state_with}
 use Rattle.smv_expression_reader.specs.Extents.{reach_of, is_deep, ends_whole}
 use Rattle.smv_expression_reader.proofs.extent.reach.Given as goal

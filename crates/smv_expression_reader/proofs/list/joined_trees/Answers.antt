@@ -1,8 +1,8 @@
 use Rattle.std.proofs.Common.{sym, ap, ◌∙◌, map}
 use Rattle.std.specs.Prelude.{Err}
 use Rattle.std.proofs.lemmas.Result.{err_from_is_err_and}
-use Rattle.smv_language.specs.Written.{tree_of}
-use Rattle.smv_expression_reader.specs.Reads.{some_at, goes_on, expr_at, next_expr}
+use Rattle.smv_language.specs.ExpressionTree.{tree_of}
+use Rattle.smv_expression_reader.specs.SecondPass.{some_at, goes_on, expr_at, next_expr}
 use Rattle.smv_expression_reader.proofs.ReadLaws.{each_viewed, each_end, each_spent, each_deep, each_none}
 use Rattle.smv_expression_reader.proofs.list.joined_trees.Goals as goal
 use Rattle.base_values.proofs.ResultLaws.{same_fault}

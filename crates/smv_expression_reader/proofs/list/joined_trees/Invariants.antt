@@ -1,6 +1,6 @@
 use Rattle.std.proofs.Common.{◌≡◌, ◌-◌, map}
-use Rattle.smv_language.specs.Written.{tree_of}
-use Rattle.smv_expression_reader.specs.Reads.{with_front, some_at, each_at, goes_on, expr_at, next_expr}
+use Rattle.smv_language.specs.ExpressionTree.{tree_of}
+use Rattle.smv_expression_reader.specs.SecondPass.{with_front, some_at, each_at, goes_on, expr_at, next_expr}
 use Rattle.smv_expression_reader.proofs.list.joined_trees.Given as goal
 
 abbrev pub invariant-loop-round : goal.invariant-loop-round

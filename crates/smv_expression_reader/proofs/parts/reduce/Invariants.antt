@@ -1,6 +1,6 @@
 use Rattle.std.proofs.Common.{◌≡◌, length}
-use Rattle.smv_language.specs.Written.{tree_of}
-use Rattle.smv_expression_reader.specs.Build as machine
+use Rattle.smv_language.specs.ExpressionTree.{tree_of}
+use Rattle.smv_expression_reader.specs.TreeBuilder as machine
 use Rattle.smv_expression_reader.specs.PartViews.{parts_of}
 use Rattle.smv_expression_reader.proofs.parts.reduce.Given as goal
 

@@ -1,6 +1,6 @@
 use Rattle.std.proofs.Common.{◌≡◌, ℕ, List, ◌≤◌, Bool, true, false, not, refl, sym, ◌∙◌, subst, length}
 use Rattle.smv_language.specs.Lexemes.{Lexeme, lexemes_of}
-use Rattle.smv_expression_reader.specs.Recognise as machine
+use Rattle.smv_expression_reader.specs.Recogniser as machine
 use Rattle.smv_expression_reader.specs.Extents.{reach_of, is_deep, ends_whole}
 use Rattle.smv_expression_reader.specs.Stops.{IsTooDeep}
 use Rattle.smv_expression_reader.proofs.ExpressionLaws.{check_stops, expression_ends, expression_deep}

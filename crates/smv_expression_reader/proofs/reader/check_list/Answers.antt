@@ -1,7 +1,7 @@
 use Rattle.std.proofs.Common.{refl, subst, length}
 use Rattle.smv_expression_reader.specs.Formulas.{Sym, expressions, formulas}
 use Rattle.smv_expression_reader.specs.Lists.{ListReads}
-use Rattle.smv_expression_reader.specs.Within.{AreTooDeep}
+use Rattle.smv_expression_reader.specs.ExpressionDepths.{AreTooDeep}
 use Rattle.smv_expression_reader.proofs.FormulasRead.{formulas_predictable}
 use Rattle.smv_expression_reader.proofs.StopLaws.{is_spelled, check_ends, check_stops}
 use Rattle.smv_expression_reader.proofs.reader.check_list.Goals as goal

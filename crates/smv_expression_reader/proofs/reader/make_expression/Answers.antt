@@ -4,8 +4,8 @@ use Rattle.smv_language.specs.Tree.{height_of}
 use Rattle.smv_language.specs.ProgramTree.{Formula}
 use Rattle.smv_language.specs.Lexemes.{lexemes_of}
 use Rattle.smv_language.specs.Limits.{deepest}
-use Rattle.smv_expression_reader.specs.Recognise as machine
-use Rattle.smv_expression_reader.specs.Build.{built}
+use Rattle.smv_expression_reader.specs.Recogniser as machine
+use Rattle.smv_expression_reader.specs.TreeBuilder.{built}
 use Rattle.smv_expression_reader.proofs.ExpressionLaws.{expression_made, expression_high}
 use Rattle.smv_expression_reader.proofs.reader.make_expression.Goals as goal
 

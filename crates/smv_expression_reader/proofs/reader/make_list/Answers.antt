@@ -1,8 +1,8 @@
 use Rattle.std.proofs.Common.{sym, ap, ◌∙◌, subst, map}
 use Rattle.std.specs.Prelude.{Err}
-use Rattle.smv_language.specs.Written.{tree_of}
+use Rattle.smv_language.specs.ExpressionTree.{tree_of}
 use Rattle.smv_expression_reader.specs.Lists.{IsExpressions}
-use Rattle.smv_expression_reader.specs.Reads.{exprs_at}
+use Rattle.smv_expression_reader.specs.SecondPass.{exprs_at}
 use Rattle.smv_expression_reader.proofs.ListReads.{list_spelled_by, list_only, list_depths, list_deep, list_made}
 use Rattle.smv_expression_reader.proofs.reader.make_list.Goals as goal
 

@@ -1,13 +1,13 @@
 use Rattle.std.proofs.Common.{◌≡◌, ◌≤◌, Some, true, false, subst}
 use Rattle.std.proofs.lemmas.Result.{IfOk-weaker}
 use Rattle.smv_language.specs.Tree.{height_of}
-use Rattle.smv_language.specs.Written.{tree_of}
+use Rattle.smv_language.specs.ExpressionTree.{tree_of}
 use Rattle.smv_language.specs.Bytes.{BytesSpellExpr, HasDepths}
 use Rattle.smv_language.specs.ProgramTree.{Formula}
 use Rattle.smv_language.specs.Lexemes.{lexemes_of}
 use Rattle.smv_language.specs.Limits.{deepest}
-use Rattle.smv_expression_reader.specs.Recognise as machine
-use Rattle.smv_expression_reader.specs.Build.{built}
+use Rattle.smv_expression_reader.specs.Recogniser as machine
+use Rattle.smv_expression_reader.specs.TreeBuilder.{built}
 use Rattle.smv_expression_reader.specs.Extents.{is_deep}
 use Rattle.smv_expression_reader.proofs.ExpressionLaws.{expression_spelled, expression_only, expression_depths}
 use Rattle.smv_expression_reader.proofs.reader.read_expression.Goals as goal

@@ -1,5 +1,5 @@
 use Rattle.std.proofs.Common.{◌≡◌, [], drop}
-use Rattle.smv_expression_reader.specs.Build as machine
+use Rattle.smv_expression_reader.specs.TreeBuilder as machine
 use Rattle.smv_expression_reader.specs.PartViews.{parts_of}
 use Rattle.smv_expression_reader.specs.BuildViews.{build_view}
 use Rattle.smv_expression_reader.proofs.tree.tree.Given as goal

@@ -2,7 +2,7 @@
 use Rattle.std.proofs.Common.{rules, arith, ◌≡◌, [], ◌+◌, ◌<◌, ◌≤◌, ◌++◌, length, map, drop, ap, ◌∙◌, sym, append-nil}
 use Rattle.smv_flat_laws.specs.Items.{instances_of}
 use Rattle.smv_scope.specs.SceneTree.{program_of, items_at}
-use Rattle.smv_flat.specs.Asked.{told, conditions_asked, asked_items, asked_from}
+use Rattle.smv_flat.specs.FormulaLists.{told, conditions_asked, asked_items, asked_from}
 use Rattle.smv_flat.proofs.BuildLoops.{appended, spots_step, spots_end, many_spots}
 use Rattle.smv_flat.proofs.build.add_formulas.Goals as goal
 

@@ -1,9 +1,9 @@
 -- The formulas so far, with those of the instances that are left, are all.
 use Rattle.std.proofs.Common.{◌≡◌, ◌++◌, true, map, drop}
 use Rattle.smv_flat_laws.specs.Items.{instances_of}
-use Rattle.smv_scope.specs.Closed.{are_closed}
+use Rattle.smv_scope.specs.ClosedModels.{are_closed}
 use Rattle.smv_scope.specs.SceneTree.{program_of}
-use Rattle.smv_flat.specs.Asked.{told, conditions_asked, asked_from}
+use Rattle.smv_flat.specs.FormulaLists.{told, conditions_asked, asked_from}
 use Rattle.smv_flat.proofs.build.add_formulas.Given as goal
 
 abbrev pub invariant-loop-spot : goal.invariant-loop-spot

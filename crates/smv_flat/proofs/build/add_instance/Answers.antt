@@ -2,7 +2,7 @@
 use Rattle.std.proofs.Common.{◌≡◌, ◌<◌, ◌≤◌, List, Some, None, length, map, ◌++◌, ap, subst, ◌∙◌, sym, append-nil}
 use Rattle.std.specs.Prelude.{slice_get, OnOk}
 use Rattle.std.proofs.lemmas.Bool.{ltb-true, ltb-false}
-use Rattle.smv_scope.specs.declared.modules.Names.{Names}
+use Rattle.smv_scope.specs.declared.modules.ModuleNames.{ModuleNames}
 use Rattle.smv_language.specs.ModelTree.{instance_tree}
 use Rattle.smv_flat.proofs.BuildLoops.{told_some, told_none}
 use Rattle.smv_flat.proofs.build.add_instance.Goals as goal
@@ -11,7 +11,7 @@ use Rattle.smv_language.proofs.ListLaws.{get_there}
 
 pub returns-in-Some : goal.returns-in-Some
 returns-in-Some c =
-    let xs : List Names = c.as_slice.result.now in
+    let xs : List ModuleNames = c.as_slice.result.now in
     let less : c.args.spot.now.«module» < length xs = ltb-true c.args.spot.now.«module» (length xs) (sym c.in-Some.ensures.lookup.0) in
     let there : slice_get xs c.args.spot.now.«module» ≡ Some c.in-Some.names.now = get_there xs c.args.spot.now.«module» c.in-Some.names.now less c.in-Some.ensures.lookup.1 in
     let listed : slice_get c.args.scene.now.modules.list.items c.args.spot.now.«module» ≡ Some c.in-Some.names.now =
@@ -21,7 +21,7 @@ returns-in-Some c =
 
 pub returns-in-None : goal.returns-in-None
 returns-in-None c =
-    let xs : List Names = c.as_slice.result.now in
+    let xs : List ModuleNames = c.as_slice.result.now in
     let past : length xs ≤ c.args.spot.now.«module» = ltb-false c.args.spot.now.«module» (length xs) (sym c.in-None.ensures.lookup.0) in
     let none : slice_get c.args.scene.now.modules.list.items c.args.spot.now.«module» ≡ None =
     subst (λ ys. slice_get ys c.args.spot.now.«module» ≡ None) c.as_slice.ensures.value (get_past xs c.args.spot.now.«module» past) in

@@ -1,7 +1,7 @@
 -- One item more.
 use Rattle.std.proofs.Common.{rules, ◌+◌, ◌++◌, map, drop}
 use Rattle.smv_scope.specs.SceneTree.{program_of, items_at}
-use Rattle.smv_flat.specs.Asked.{told, conditions_asked, asked_items, item_listed}
+use Rattle.smv_flat.specs.FormulaLists.{told, conditions_asked, asked_items, item_listed}
 use Rattle.std.specs.Prelude.{slice_get}
 use Rattle.smv_flat.proofs.BuildLoops.{appended, items_step}
 use Rattle.smv_flat.proofs.build.add_of_instance.Goals as goal

@@ -1,8 +1,8 @@
 -- The formulas so far, with those of the items that are left, are all.
 use Rattle.std.proofs.Common.{◌≡◌, ◌++◌, true, map, drop}
-use Rattle.smv_scope.specs.Closed.{are_closed}
+use Rattle.smv_scope.specs.ClosedModels.{are_closed}
 use Rattle.smv_scope.specs.SceneTree.{program_of, items_at}
-use Rattle.smv_flat.specs.Asked.{told, conditions_asked, asked_items}
+use Rattle.smv_flat.specs.FormulaLists.{told, conditions_asked, asked_items}
 use Rattle.smv_flat.proofs.build.add_of_instance.Given as goal
 
 abbrev pub invariant-loop-place : goal.invariant-loop-place

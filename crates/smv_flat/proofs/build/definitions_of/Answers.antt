@@ -1,7 +1,7 @@
 -- The definition at a place of the order is ready there.
 use Rattle.std.proofs.Common.{rules, ◌≡◌, ℕ, ◌<◌, List, length, slice_index_or, subst, sym, ap, ◌∙◌}
 use Rattle.std.specs.Prelude.{slice_get}
-use Rattle.smv_flat.specs.Asked.{IsReady}
+use Rattle.smv_flat.specs.FormulaLists.{IsReady}
 use Rattle.smv_flat.proofs.BuildLoops.{index_get}
 use Rattle.smv_flat.proofs.build.definitions_of.Goals as goal
 

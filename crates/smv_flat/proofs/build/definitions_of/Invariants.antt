@@ -1,7 +1,7 @@
 -- The definitions so far are those of the order so far, and each uses those before it.
 use Rattle.std.proofs.Common.{◌≡◌, true, map, take, length}
-use Rattle.smv_scope.specs.Closed.{are_earlier}
-use Rattle.smv_flat.specs.Asked.{told, asked_definition}
+use Rattle.smv_scope.specs.ClosedModels.{are_earlier}
+use Rattle.smv_flat.specs.FormulaLists.{told, asked_definition}
 use Rattle.smv_flat.proofs.build.definitions_of.Given as goal
 
 abbrev pub invariant-loop-place : goal.invariant-loop-place

@@ -2,7 +2,7 @@
 use Rattle.std.proofs.Common.{◌≡◌, ◌++◌, map, drop}
 use Rattle.std.specs.List.{flat_map}
 use Rattle.smv_language.specs.ModelTree.{instance_tree}
-use Rattle.smv_flat.specs.Asked.{instance_told}
+use Rattle.smv_flat.specs.FormulaLists.{instance_told}
 use Rattle.smv_flat.proofs.build.instances_of.Given as goal
 
 abbrev pub invariant-loop-spot : goal.invariant-loop-spot

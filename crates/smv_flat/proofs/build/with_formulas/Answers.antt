@@ -1,11 +1,11 @@
 -- The formulas are asked for within the bounds that are read off the lists, and the whole is the program's model.
 use Rattle.std.proofs.Common.{rules, ◌≡◌, ◌++◌, length, map, ap, ◌∙◌}
 use Rattle.smv_flat_laws.specs.Items.{instances_of}
-use Rattle.smv_flat.specs.declared.clauses.Asked.TheVariants as asked
+use Rattle.smv_flat.specs.declared.clauses.AskedFormulas.TheVariants as asked
 use Rattle.smv_scope.specs.declared.names.Scene.{Scene}
 use Rattle.smv_scope.specs.declared.needs.Needs.{Needs}
 use Rattle.smv_scope.specs.SceneTree.{program_of}
-use Rattle.smv_flat.specs.Asked.{told, conditions_asked, asked_from}
+use Rattle.smv_flat.specs.FormulaLists.{told, conditions_asked, asked_from}
 use Rattle.smv_flat.proofs.BuildModel.{is_flat, many_variables, many_symbols, many_definitions, known_within}
 use Rattle.smv_flat.proofs.build.with_formulas.Goals as goal
 

@@ -6,7 +6,7 @@ use Rattle.smv_flat_laws.specs.Looks.{ActualsMean}
 use Rattle.smv_flat_laws.specs.Model.{IsFlatOf}
 use Rattle.smv_flat_laws.specs.FlatTrace.{NamesOwn}
 use Rattle.smv_language.specs.ModelTree.{model_tree}
-use Rattle.smv_scope.specs.Closed.{IsClosedModel}
+use Rattle.smv_scope.specs.ClosedModels.{IsClosedModel}
 use Rattle.smv_flat.proofs.OwnNames.{closed_names_own}
 use Rattle.smv_flat.proofs.flattening.flatten_from.Goals as goal
 

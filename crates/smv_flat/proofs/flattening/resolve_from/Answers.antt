@@ -1,9 +1,9 @@
 -- The tables are the program's, and of an accepted one they only want memory.
 use Rattle.std.proofs.Common.{rules, ◌≡◌, false, IfOk, OnOk, subst}
 use Rattle.smv_language.specs.ProgramTree.{ProgramTree, program_tree}
-use Rattle.smv_language.specs.Written.{tree_of}
+use Rattle.smv_language.specs.ExpressionTree.{tree_of}
 use Rattle.smv_language.specs.Flat.{FlatInstance}
-use Rattle.smv_flat_laws.specs.Resolved.{has_next}
+use Rattle.smv_flat_laws.specs.NameResolution.{has_next}
 use Rattle.smv_scope.specs.Faults.{IsFaultOf}
 use Rattle.smv_language.specs.ModelTree.{model_tree, flat_tree}
 use Rattle.smv_scope.specs.SceneTree.{program_of}

@@ -1,21 +1,21 @@
 -- A value that breaks no rule is resolved, or memory is wanting.
 use Rattle.std.proofs.Common.{◌≡◌, not, ◌&&◌, false, IfErr, IfOk, sym, ◌∙◌, subst}
 use Rattle.std.proofs.lemmas.Result.{IfOk-weaker}
-use Rattle.smv_language.specs.Written.{tree_of}
+use Rattle.smv_language.specs.ExpressionTree.{tree_of}
 use Rattle.smv_flat_laws.specs.Rules.{SomeHasNoValue}
-use Rattle.smv_scope.specs.declared.fault.Rule.TheVariants.{NoSuchName, NextHere, InputHere}
+use Rattle.smv_scope.specs.declared.fault.FlatRule.TheVariants.{NoSuchName, NextHere, InputHere}
 use Rattle.smv_scope.specs.declared.names.Scene.{Scene}
 use Rattle.smv_scope.specs.declared.needs.Needs.{Needs}
-use Rattle.smv_flat.specs.declared.resolve.Source.{Source}
-use Rattle.smv_scope.specs.Closed.{bounds_of}
+use Rattle.smv_flat.specs.declared.resolve.ExpressionSource.{ExpressionSource}
+use Rattle.smv_scope.specs.ClosedModels.{bounds_of}
 use Rattle.smv_scope.specs.Faults.{IsWant}
 use Rattle.smv_language.specs.ModelTree.{model_tree, flat_tree}
 use Rattle.smv_scope.specs.SceneTree.{program_of}
-use Rattle.smv_flat.specs.Judging.{IsJudged}
+use Rattle.smv_flat.specs.ValueJudgement.{IsJudged}
 use Rattle.smv_flat.specs.ResolverOf.{leaf_at, told_tree, asked_tree, IsKnown}
 use Rattle.smv_flat_laws.specs.ResolvedAt.{IsResolvedAt}
 use Rattle.smv_flat.specs.ResolvedAt.{IsValueFault}
-use Rattle.smv_flat_laws.specs.Resolved.{has_next}
+use Rattle.smv_flat_laws.specs.NameResolution.{has_next}
 use Rattle.smv_flat.proofs.FlatFaults.{err_weaker, ok_always}
 use Rattle.smv_flat.proofs.OnlyModel.{second_not}
 use Rattle.smv_flat.proofs.ResolvedAtLaws.{there, resolved_at, known_at, none_told, none_broken, want_value}
@@ -28,7 +28,7 @@ returns-in-None-clause-resolved c = λ at is.
     IfOk-weaker c.resolve.result (λ made. told_tree made ≡ asked_tree (leaf_at s n c.args.spot) c.args.e.now)
     (λ made. IsResolvedAt (program_of s) (model_tree c.args.m.now) at.place (tree_of c.args.e.now) (flat_tree made))
     (λ made h. resolved_at s n c.requires.scene c.requires.needs is.accepted (model_tree c.args.m.now) c.args.spot at is (tree_of c.args.e.now) (flat_tree made) h)
-    (subst (λ (q : Source). IfOk c.resolve.result (λ made. told_tree made ≡ asked_tree (leaf_at s n q.spot) c.args.e.now)) c.source_at.ensures c.resolve.ensures.resolved)
+    (subst (λ (q : ExpressionSource). IfOk c.resolve.result (λ made. told_tree made ≡ asked_tree (leaf_at s n q.spot) c.args.e.now)) c.source_at.ensures c.resolve.ensures.resolved)
 
 pub returns-in-None-clause-fault : goal.returns-in-None-clause-fault
 returns-in-None-clause-fault c = λ at is.
@@ -41,7 +41,7 @@ returns-in-None-clause-fault c = λ at is.
     known_at s n c.requires.scene c.requires.needs is.accepted c.args.m.now c.args.spot at is (tree_of c.args.e.now) value in
     err_weaker c.resolve.result IsWant (IsValueFault (program_of s) at.place c.args.inputs (tree_of c.args.e.now))
     (λ f want. want_value (program_of s) at.place c.args.inputs (tree_of c.args.e.now) f want)
-    (subst (λ (q : Source). IsKnown (leaf_at s n q.spot) q.bounds c.args.e.now → IfErr c.resolve.result IsWant) c.source_at.ensures c.resolve.ensures.want known)
+    (subst (λ (q : ExpressionSource). IsKnown (leaf_at s n q.spot) q.bounds c.args.e.now → IfErr c.resolve.result IsWant) c.source_at.ensures c.resolve.ensures.want known)
 
 pub returns-in-None-clause-no_next : goal.returns-in-None-clause-no_next
 returns-in-None-clause-no_next c = λ at is.

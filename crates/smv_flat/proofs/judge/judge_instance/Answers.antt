@@ -1,6 +1,6 @@
 -- The items one after another.
 use Rattle.std.proofs.Common.{ℕ, ◌<◌, ◌≤◌, subst}
-use Rattle.smv_flat.specs.Assigned.{IsPlaceTold}
+use Rattle.smv_flat.specs.Assignments.{IsPlaceTold}
 use Rattle.smv_scope.specs.SceneTree.{program_of}
 use Rattle.smv_flat.proofs.JudgeInstances.{none_so_far, one_more_item, first_item, all_items}
 use Rattle.smv_flat.proofs.judge.judge_instance.Goals as goal

@@ -1,6 +1,6 @@
 -- The item at a place, with its number.
 use Rattle.std.proofs.Common.{subst}
-use Rattle.smv_flat.specs.Assigned.{IsItemTold}
+use Rattle.smv_flat.specs.Assignments.{IsItemTold}
 use Rattle.smv_scope.specs.ItemTree.{item_tree}
 use Rattle.smv_scope.specs.SceneTree.{program_of}
 use Rattle.smv_flat.proofs.JudgeInstances.{no_item, kept_item, broken_item}

@@ -1,5 +1,5 @@
 -- An expression of a moment and the next is told by what is judged of it.
-use Rattle.smv_language.specs.Written.{tree_of}
+use Rattle.smv_language.specs.ExpressionTree.{tree_of}
 use Rattle.smv_scope.specs.SceneTree.{program_of}
 use Rattle.smv_flat.proofs.JudgeItems.{trans_told}
 use Rattle.smv_flat.proofs.judge.judge_step.Goals as goal

@@ -1,6 +1,6 @@
 -- The table with the times of one text.
 use Rattle.std.proofs.Common.{ap, ◌∙◌}
-use Rattle.smv_flat.specs.Assigned.{times_of}
+use Rattle.smv_flat.specs.Assignments.{times_of}
 use Rattle.smv_flat.proofs.JudgeTimes.{inserted}
 use Rattle.smv_flat.proofs.judge.note_times.Goals as goal
 

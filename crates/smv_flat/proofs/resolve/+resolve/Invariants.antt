@@ -2,7 +2,7 @@
 use Rattle.std.proofs.Common.{◌≡◌, true, map, take}
 use Rattle.std.specs.List.{list_all}
 use Rattle.smv_flat.specs.Shape.{shape, branch_shapes}
-use Rattle.smv_scope.specs.Closed.{is_closed, is_branch_closed}
+use Rattle.smv_scope.specs.ClosedModels.{is_closed, is_branch_closed}
 use Rattle.smv_flat.specs.ResolverOf.{leaf_at, told_tree, asked_tree, told_branch, asked_branch}
 use Rattle.smv_flat.proofs.resolve.+resolve.Given as goal
 

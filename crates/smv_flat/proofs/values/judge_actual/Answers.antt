@@ -1,6 +1,6 @@
 -- An actual is judged by what is known of its formal, or by its value.
 use Rattle.std.proofs.Common.{sym, ◌∙◌}
-use Rattle.smv_language.specs.Written.{tree_of}
+use Rattle.smv_language.specs.ExpressionTree.{tree_of}
 use Rattle.smv_flat.proofs.JudgeHanded.{plain_actual, value_actual}
 use Rattle.smv_flat.proofs.values.judge_actual.Goals as goal
 

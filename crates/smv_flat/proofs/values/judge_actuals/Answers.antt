@@ -1,6 +1,6 @@
 -- The actuals are judged one after another.
 use Rattle.std.proofs.Common.{map}
-use Rattle.smv_language.specs.Written.{tree_of}
+use Rattle.smv_language.specs.ExpressionTree.{tree_of}
 use Rattle.smv_scope.specs.SceneTree.{program_of}
 use Rattle.smv_flat.proofs.JudgeHanded.{no_actuals, actuals_step, actuals_end}
 use Rattle.smv_flat.proofs.values.judge_actuals.Goals as goal

@@ -1,6 +1,6 @@
 -- The actuals so far are judged.
 use Rattle.std.proofs.Common.{map, take}
-use Rattle.smv_language.specs.Written.{tree_of}
+use Rattle.smv_language.specs.ExpressionTree.{tree_of}
 use Rattle.smv_scope.specs.SceneTree.{program_of}
 use Rattle.smv_flat.specs.Verdicts.{JudgesActuals}
 use Rattle.smv_flat.proofs.values.judge_actuals.Given as goal

@@ -1,6 +1,6 @@
 -- A value is judged by its names.
 use Rattle.std.proofs.Common.{rules}
-use Rattle.smv_language.specs.Written.{tree_of}
+use Rattle.smv_language.specs.ExpressionTree.{tree_of}
 use Rattle.smv_scope.specs.SceneTree.{program_of}
 use Rattle.smv_flat.proofs.JudgeValues.{value_judged}
 use Rattle.smv_flat.proofs.values.judge_value.Goals as goal

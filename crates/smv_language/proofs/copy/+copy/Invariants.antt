@@ -1,5 +1,5 @@
 use Rattle.std.proofs.Common.{◌≡◌, map, take}
-use Rattle.smv_language.specs.Written.{tree_of, branch_trees}
+use Rattle.smv_language.specs.ExpressionTree.{tree_of, branch_trees}
 use Rattle.smv_language.proofs.copy.+copy.Given as goal
 
 abbrev pub invariant-copy_expressions-loop-expression : goal.invariant-copy_expressions-loop-expression

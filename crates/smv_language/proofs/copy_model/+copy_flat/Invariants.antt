@@ -1,6 +1,6 @@
 -- What is made so far has the trees of what was read so far.
 use Rattle.std.proofs.Common.{◌≡◌, map, take}
-use Rattle.smv_language.specs.Written.{tree_of, branch_trees}
+use Rattle.smv_language.specs.ExpressionTree.{tree_of, branch_trees}
 use Rattle.smv_language.proofs.copy_model.+copy_flat.Given as goal
 
 abbrev pub invariant-copy_expressions-loop-member : goal.invariant-copy_expressions-loop-member

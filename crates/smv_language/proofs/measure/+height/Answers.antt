@@ -1,6 +1,6 @@
 use Rattle.std.proofs.Common.{rules, ◌≤◌, ◌+◌}
 use Rattle.smv_language.specs.Tree.{size_of}
-use Rattle.smv_language.specs.Written.{tree_of}
+use Rattle.smv_language.specs.ExpressionTree.{tree_of}
 use Rattle.smv_language.proofs.WrittenLaws.{tree_of_case, tree_of_set}
 use Rattle.smv_language.proofs.measure.+height.Goals as goal
 

@@ -1,6 +1,6 @@
 use Rattle.std.proofs.Common.{◌≡◌, ◌≤◌, ◌+◌, ◌*◌, max, drop}
 use Rattle.smv_language.specs.Tree.{size_of, trees_size, branches_size, trees_height, branches_height}
-use Rattle.smv_language.specs.Written.{tree_of, trees_of, branches_of}
+use Rattle.smv_language.specs.ExpressionTree.{tree_of, trees_of, branches_of}
 use Rattle.smv_language.proofs.measure.+height.Given as goal
 
 abbrev pub invariant-members_top-loop-member : goal.invariant-members_top-loop-member

@@ -1,6 +1,6 @@
 use Rattle.std.proofs.Common.{◌≡◌, ◌+◌, ◌*◌, drop}
 use Rattle.smv_language.specs.Tree.{size_of, trees_size, branches_size}
-use Rattle.smv_language.specs.Written.{tree_of, trees_of, branches_of}
+use Rattle.smv_language.specs.ExpressionTree.{tree_of, trees_of, branches_of}
 use Rattle.smv_language.proofs.measure.+size.Given as goal
 
 abbrev pub invariant-members_total-loop-member : goal.invariant-members_total-loop-member

@@ -1,6 +1,6 @@
 use Rattle.std.proofs.Common.{◌≡◌, ◌++◌, drop, map, codes}
 use Rattle.smv_language.specs.Text.{text_of, each_after, branches_text}
-use Rattle.smv_language.specs.Written.{tree_of, branches_of}
+use Rattle.smv_language.specs.ExpressionTree.{tree_of, branches_of}
 use Rattle.smv_language.proofs.print.+print.Given as goal
 
 abbrev pub invariant-append_expressions-loop-expression : goal.invariant-append_expressions-loop-expression

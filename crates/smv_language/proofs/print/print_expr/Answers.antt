@@ -1,6 +1,6 @@
 use Rattle.std.proofs.Common.{rules, ◌≡◌, sym, subst}
 use Rattle.smv_language.specs.Text.{text_of}
-use Rattle.smv_language.specs.Written.{tree_of}
+use Rattle.smv_language.specs.ExpressionTree.{tree_of}
 use Rattle.smv_language.specs.Bytes.{BytesSpellExpr}
 use Rattle.smv_language.proofs.TextSpells.{text_spells}
 use Rattle.smv_language.proofs.print.print_expr.Goals as goal

@@ -1,6 +1,6 @@
 use Rattle.std.proofs.Common.{◌≡◌, length}
-use Rattle.smv_expression_reader.specs.Predict.{all_empty}
-use Rattle.smv_model_reader.specs.ProgramRead.{Sym, programs}
+use Rattle.smv_expression_reader.specs.PredictiveReader.{all_empty}
+use Rattle.smv_model_reader.specs.ProgramGrammar.{Sym, programs}
 use Rattle.smv_model_reader.proofs.expected.may_all_be_empty.Given as goal
 
 abbrev pub invariant-loop-symbol : goal.invariant-loop-symbol

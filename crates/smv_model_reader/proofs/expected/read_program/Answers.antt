@@ -1,7 +1,7 @@
 use Rattle.std.proofs.Common.{None, sym, ap, ◌∙◌, subst}
 use Rattle.std.specs.Prelude.{IfSome}
 use Rattle.std.proofs.lemmas.List.{take_all}
-use Rattle.smv_model_reader.specs.ProgramRead.{Sym, modules, programs}
+use Rattle.smv_model_reader.specs.ProgramGrammar.{Sym, modules, programs}
 use Rattle.smv_expression_reader.specs.Readings.{expected_after}
 use Rattle.smv_model_reader.specs.Symbols.{position_view, after_view, Fits}
 use Rattle.smv_expression_reader.proofs.StopLaws.{path_more}

@@ -1,5 +1,5 @@
 use Rattle.std.proofs.Common.{◌≡◌, take}
-use Rattle.smv_model_reader.specs.ProgramRead.{Sym, modules, programs}
+use Rattle.smv_model_reader.specs.ProgramGrammar.{Sym, modules, programs}
 use Rattle.smv_expression_reader.specs.Readings.{expected_after}
 use Rattle.smv_model_reader.specs.Symbols.{position_view, Fits}
 use Rattle.smv_model_reader.proofs.expected.read_program.Given as goal

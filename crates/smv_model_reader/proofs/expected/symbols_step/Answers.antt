@@ -1,7 +1,7 @@
 use Rattle.std.proofs.Common.{sym, ap, ◌∙◌, subst}
 use Rattle.std.specs.Prelude.{IfSome}
-use Rattle.smv_expression_reader.specs.Predict.{step}
-use Rattle.smv_model_reader.specs.ProgramRead.{Sym, programs}
+use Rattle.smv_expression_reader.specs.PredictiveReader.{step}
+use Rattle.smv_model_reader.specs.ProgramGrammar.{Sym, programs}
 use Rattle.smv_model_reader.specs.Symbols.{symbol_view, Taken, Fits}
 use Rattle.smv_model_reader.proofs.ProgramStops.{symbol_goes}
 use Rattle.smv_model_reader.proofs.expected.symbols_step.Goals as goal

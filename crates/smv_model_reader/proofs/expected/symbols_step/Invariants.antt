@@ -1,6 +1,6 @@
 use Rattle.std.proofs.Common.{◌≡◌, [], length}
-use Rattle.smv_expression_reader.specs.Predict.{step}
-use Rattle.smv_model_reader.specs.ProgramRead.{Sym, programs}
+use Rattle.smv_expression_reader.specs.PredictiveReader.{step}
+use Rattle.smv_model_reader.specs.ProgramGrammar.{Sym, programs}
 use Rattle.smv_model_reader.proofs.expected.symbols_step.Given as goal
 
 abbrev pub invariant-loop-symbol : goal.invariant-loop-symbol

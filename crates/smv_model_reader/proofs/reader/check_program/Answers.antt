@@ -1,7 +1,7 @@
 use Rattle.std.proofs.Common.{refl, subst, length}
-use Rattle.smv_model_reader.specs.ProgramRead.{Sym, modules, programs}
+use Rattle.smv_model_reader.specs.ProgramGrammar.{Sym, modules, programs}
 use Rattle.smv_expression_reader.specs.Readings.{ReadsTo}
-use Rattle.smv_model_reader.specs.Within.{IsProgramTooDeep}
+use Rattle.smv_model_reader.specs.ProgramDepths.{IsProgramTooDeep}
 use Rattle.smv_model_reader.proofs.ProgramReads.{programs_predictable}
 use Rattle.smv_expression_reader.proofs.StopLaws.{is_spelled, check_ends, check_stops}
 use Rattle.smv_model_reader.proofs.reader.check_program.Goals as goal

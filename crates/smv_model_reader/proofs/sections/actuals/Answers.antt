@@ -1,9 +1,9 @@
 use Rattle.std.proofs.Common.{sym, ap, ◌∙◌, map}
 use Rattle.std.specs.Prelude.{Err}
 use Rattle.std.proofs.lemmas.Result.{err_from_is_err_and}
-use Rattle.smv_language.specs.Written.{tree_of}
+use Rattle.smv_language.specs.ExpressionTree.{tree_of}
 use Rattle.smv_expression_reader.specs.Marks.{s_comma}
-use Rattle.smv_expression_reader.specs.Reads.{has_next, next_expr, expr_at}
+use Rattle.smv_expression_reader.specs.SecondPass.{has_next, next_expr, expr_at}
 use Rattle.smv_model_reader.specs.ProgramParts.{commas_at}
 use Rattle.smv_expression_reader.proofs.ReadLaws.{each_viewed, each_end, each_spent, each_deep, each_none}
 use Rattle.smv_model_reader.proofs.sections.actuals.Goals as goal

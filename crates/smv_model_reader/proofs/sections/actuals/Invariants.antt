@@ -1,7 +1,7 @@
 use Rattle.std.proofs.Common.{◌≡◌, ◌-◌, map}
-use Rattle.smv_language.specs.Written.{tree_of}
+use Rattle.smv_language.specs.ExpressionTree.{tree_of}
 use Rattle.smv_expression_reader.specs.Marks.{s_comma}
-use Rattle.smv_expression_reader.specs.Reads.{has_next, next_expr, each_at, with_front}
+use Rattle.smv_expression_reader.specs.SecondPass.{has_next, next_expr, each_at, with_front}
 use Rattle.smv_model_reader.specs.ProgramParts.{commas_at}
 use Rattle.smv_model_reader.proofs.sections.actuals.Given as goal
 

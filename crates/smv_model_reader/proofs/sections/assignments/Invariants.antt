@@ -1,6 +1,6 @@
 use Rattle.std.proofs.Common.{◌≡◌, ◌-◌, map}
 use Rattle.smv_language.specs.ProgramTree.{assignment_tree}
-use Rattle.smv_expression_reader.specs.Reads.{each_at, with_front}
+use Rattle.smv_expression_reader.specs.SecondPass.{each_at, with_front}
 use Rattle.smv_model_reader.specs.ProgramParts.{assignment_at, assigns_at, begins_assignment}
 use Rattle.smv_model_reader.proofs.sections.assignments.Given as goal
 

@@ -1,7 +1,7 @@
 use Rattle.std.proofs.Common.{◌≡◌, ◌-◌, map}
 use Rattle.smv_language.specs.ProgramTree.{define_tree}
 use Rattle.smv_expression_reader.specs.Marks.{a_name}
-use Rattle.smv_expression_reader.specs.Reads.{has_next, each_at, with_front}
+use Rattle.smv_expression_reader.specs.SecondPass.{has_next, each_at, with_front}
 use Rattle.smv_model_reader.specs.ProgramParts.{define_at, defines_at}
 use Rattle.smv_model_reader.proofs.sections.defines.Given as goal
 

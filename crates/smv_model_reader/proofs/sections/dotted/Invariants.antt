@@ -1,6 +1,6 @@
 use Rattle.std.proofs.Common.{◌≡◌, ◌-◌}
 use Rattle.smv_expression_reader.specs.Marks.{s_dot}
-use Rattle.smv_expression_reader.specs.Reads.{has_next, each_at, with_front}
+use Rattle.smv_expression_reader.specs.SecondPass.{has_next, each_at, with_front}
 use Rattle.smv_model_reader.specs.ProgramParts.{dotted_at, next_name}
 use Rattle.smv_model_reader.proofs.sections.dotted.Given as goal
 

@@ -3,7 +3,7 @@ use Rattle.std.specs.Prelude.{Err}
 use Rattle.std.proofs.lemmas.Result.{err_from_is_err_and}
 use Rattle.smv_language.specs.ProgramTree.{module_tree}
 use Rattle.smv_expression_reader.specs.Marks.{w_module}
-use Rattle.smv_expression_reader.specs.Reads.{has_next}
+use Rattle.smv_expression_reader.specs.SecondPass.{has_next}
 use Rattle.smv_model_reader.specs.ProgramParts.{program_at, next_module, module_at}
 use Rattle.smv_expression_reader.proofs.ReadLaws.{each_viewed, each_end, each_spent, each_deep, each_none}
 use Rattle.smv_model_reader.proofs.sections.modules.Goals as goal

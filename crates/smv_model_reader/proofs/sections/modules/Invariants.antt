@@ -1,7 +1,7 @@
 use Rattle.std.proofs.Common.{◌≡◌, ◌-◌, map}
 use Rattle.smv_language.specs.ProgramTree.{module_tree}
 use Rattle.smv_expression_reader.specs.Marks.{w_module}
-use Rattle.smv_expression_reader.specs.Reads.{has_next, each_at, with_front}
+use Rattle.smv_expression_reader.specs.SecondPass.{has_next, each_at, with_front}
 use Rattle.smv_model_reader.specs.ProgramParts.{next_module, program_at}
 use Rattle.smv_model_reader.proofs.sections.modules.Given as goal
 

@@ -2,7 +2,7 @@ use Rattle.std.proofs.Common.{sym, ap, ◌∙◌}
 use Rattle.std.specs.Prelude.{Err}
 use Rattle.std.proofs.lemmas.Result.{err_from_is_err_and}
 use Rattle.smv_expression_reader.specs.Marks.{s_comma}
-use Rattle.smv_expression_reader.specs.Reads.{has_next, name_at}
+use Rattle.smv_expression_reader.specs.SecondPass.{has_next, name_at}
 use Rattle.smv_model_reader.specs.ProgramParts.{names_at, next_name}
 use Rattle.smv_expression_reader.proofs.ReadLaws.{each_pushed, each_end, each_spent, each_deep, each_none}
 use Rattle.smv_model_reader.proofs.sections.names.Goals as goal

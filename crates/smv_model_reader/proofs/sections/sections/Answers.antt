@@ -3,7 +3,7 @@ use Rattle.std.specs.Prelude.{Err}
 use Rattle.std.proofs.lemmas.Result.{err_from_is_err_and}
 use Rattle.smv_language.specs.ProgramTree.{section_tree}
 use Rattle.smv_expression_reader.specs.MarkView.{mark_view}
-use Rattle.smv_expression_reader.specs.Reads.{rest_of, with_front}
+use Rattle.smv_expression_reader.specs.SecondPass.{rest_of, with_front}
 use Rattle.smv_model_reader.specs.ProgramParts.{past_skipped, section_at, is_kept, sections_at}
 use Rattle.smv_model_reader.proofs.PartLaws.{sections_skip, sections_next, sections_end, sections_deep, sections_none}
 use Rattle.smv_model_reader.proofs.sections.sections.Goals.{then-is_next, else-is_next+then-begins_section+in_ok-section+in_ok-push}

@@ -1,6 +1,6 @@
 use Rattle.std.proofs.Common.{◌≡◌, ◌-◌, length, map}
 use Rattle.smv_language.specs.ProgramTree.{section_tree}
-use Rattle.smv_expression_reader.specs.Reads.{with_front}
+use Rattle.smv_expression_reader.specs.SecondPass.{with_front}
 use Rattle.smv_model_reader.specs.ProgramParts.{sections_at}
 use Rattle.smv_model_reader.proofs.sections.sections.Given as goal
 

@@ -3,7 +3,7 @@ use Rattle.std.specs.Prelude.{Err}
 use Rattle.std.proofs.lemmas.Result.{err_from_is_err_and}
 use Rattle.smv_language.specs.ProgramTree.{decl_tree}
 use Rattle.smv_expression_reader.specs.Marks.{a_name}
-use Rattle.smv_expression_reader.specs.Reads.{has_next}
+use Rattle.smv_expression_reader.specs.SecondPass.{has_next}
 use Rattle.smv_model_reader.specs.ProgramParts.{decls_at, decl_at, type_at}
 use Rattle.smv_expression_reader.proofs.ReadLaws.{each_viewed, each_end, each_spent, each_deep, each_none}
 use Rattle.smv_model_reader.proofs.sections.type_decls.Goals as goal

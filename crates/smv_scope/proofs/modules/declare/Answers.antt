@@ -1,7 +1,7 @@
 -- A name that has an entry was seen before, and one that has none gets one.
 use Rattle.std.proofs.Common.{ap, ◌∙◌, sym, true, false}
 use Rattle.smv_flat_laws.specs.Rules.{double_name}
-use Rattle.smv_scope.specs.Reading.{told_if}
+use Rattle.smv_scope.specs.ModuleFaults.{told_if}
 use Rattle.smv_scope.proofs.MapLaws.{seen, stands_last}
 use Rattle.smv_scope.proofs.modules.declare.Goals as goal
 

@@ -5,7 +5,7 @@ use Rattle.smv_language.specs.Texts.{is_among}
 use Rattle.smv_flat_laws.specs.Rules.{double_name}
 use Rattle.smv_scope.specs.declared.modules.Local.{Local}
 use Rattle.smv_scope.specs.declared.modules.Local.TheVariants as local
-use Rattle.smv_scope.specs.Reading.{told_if, texts_of}
+use Rattle.smv_scope.specs.ModuleFaults.{told_if, texts_of}
 use Rattle.smv_scope.specs.SceneTree.{named}
 use Rattle.smv_scope.proofs.ReadingLaws.{formals_next, formal_entries_next, formal_entries_end, formals_end}
 use Rattle.smv_scope.proofs.modules.declare_formals.Goals as goal

@@ -1,6 +1,6 @@
 -- The formals so far, with those that are left, are all.
 use Rattle.std.proofs.Common.{◌≡◌, ◌++◌, drop}
-use Rattle.smv_scope.specs.Reading.{formals_told, texts_of}
+use Rattle.smv_scope.specs.ModuleFaults.{formals_told, texts_of}
 use Rattle.smv_scope.specs.SceneTree.{named, formal_entries}
 use Rattle.smv_scope.proofs.modules.declare_formals.Given as goal
 

@@ -4,7 +4,7 @@ use Rattle.smv_language.specs.ProgramTree.{Text}
 use Rattle.smv_flat_laws.specs.Rules.{double_name, names_of_item, is_name_again}
 use Rattle.smv_scope.specs.declared.items.Numbered.{Numbered}
 use Rattle.smv_scope.specs.declared.modules.Local.{Local}
-use Rattle.smv_scope.specs.Reading.{told_if, texts_of, item_of_numbered}
+use Rattle.smv_scope.specs.ModuleFaults.{told_if, texts_of, item_of_numbered}
 use Rattle.smv_scope.specs.SceneTree.{named, entries_of_item}
 use Rattle.smv_scope.proofs.ReadingLaws.{items_next, item_entries_next, item_entries_end, items_end}
 use Rattle.smv_scope.proofs.modules.declare_items.Goals as goal

@@ -1,7 +1,7 @@
 -- The items so far, with those that are left, are all.
 use Rattle.std.proofs.Common.{◌≡◌, ◌++◌, drop, map}
 use Rattle.smv_scope.specs.ItemTree.{numbered_tree}
-use Rattle.smv_scope.specs.Reading.{items_told, item_of_numbered, texts_of}
+use Rattle.smv_scope.specs.ModuleFaults.{items_told, item_of_numbered, texts_of}
 use Rattle.smv_scope.specs.SceneTree.{named, item_entries}
 use Rattle.smv_scope.proofs.modules.declare_items.Given as goal
 

@@ -1,10 +1,10 @@
 -- Each task keeps the invariant, and leaves less to do.
 use Rattle.std.proofs.Common.{rules, ◌≡◌, ℕ, List, false, [], ◌∷◌, ◌++◌, length, replicate, reverse, ◌∙◌, sym, subst, ap}
 use Rattle.std.proofs.lemmas.List.{reverse-append}
-use Rattle.smv_scope.specs.declared.needs.Mark.TheVariants.{Unmet}
+use Rattle.smv_scope.specs.declared.needs.WalkMark.TheVariants.{Unmet}
 use Rattle.smv_scope.specs.declared.needs.Task.{Task}
 use Rattle.smv_scope.specs.Links.{graph_of}
-use Rattle.smv_scope.specs.Laying.{upto, visits, Lay, lay_of, lay_by, IsLaying}
+use Rattle.smv_scope.specs.DefinitionOrder.{upto, visits, Lay, lay_of, lay_by, IsLaying}
 use Rattle.smv_scope.specs.Components.{IsFinishing}
 use Rattle.smv_scope.proofs.LayLaws.{laying_first, laying_by}
 use Rattle.smv_scope.proofs.FinishLaws.{finishing_first, finishing_by, finished}

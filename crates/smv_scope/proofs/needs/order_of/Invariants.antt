@@ -2,9 +2,9 @@
 -- what is left orders all. Each task leaves less to do.
 use Rattle.std.proofs.Common.{length}
 use Rattle.smv_scope.specs.Links.{graph_of}
-use Rattle.smv_scope.specs.Laying.{lay_of, IsLaying}
+use Rattle.smv_scope.specs.DefinitionOrder.{lay_of, IsLaying}
 use Rattle.smv_scope.specs.Components.{IsFinishing}
-use Rattle.smv_scope.specs.Left.{left_to_lay}
+use Rattle.smv_scope.specs.WorkLeft.{left_to_lay}
 use Rattle.smv_scope.proofs.needs.order_of.Given as goal
 
 abbrev pub invariant-loop-task : goal.invariant-loop-task

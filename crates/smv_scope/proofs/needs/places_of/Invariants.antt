@@ -1,6 +1,6 @@
 -- The places so far, with those of what is left, are all.
 use Rattle.std.proofs.Common.{◌≡◌, drop, replicate}
-use Rattle.smv_scope.specs.Laying.{placed_from}
+use Rattle.smv_scope.specs.DefinitionOrder.{placed_from}
 use Rattle.smv_scope.proofs.needs.places_of.Given as goal
 
 abbrev pub invariant-loop-place : goal.invariant-loop-place

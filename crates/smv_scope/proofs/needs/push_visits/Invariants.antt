@@ -1,6 +1,6 @@
 -- What is left, in front of the stack so far, is all in front of the first stack.
 use Rattle.std.proofs.Common.{◌≡◌, ◌++◌, reverse}
-use Rattle.smv_scope.specs.Laying.{visits}
+use Rattle.smv_scope.specs.DefinitionOrder.{visits}
 use Rattle.smv_scope.proofs.needs.push_visits.Given as goal
 
 abbrev pub invariant-loop-definition : goal.invariant-loop-definition

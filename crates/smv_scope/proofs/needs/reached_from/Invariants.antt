@@ -3,7 +3,7 @@
 use Rattle.std.proofs.Common.{length}
 use Rattle.smv_scope.specs.Links.{graph_of, IsSpreading}
 use Rattle.smv_scope.specs.Spreads.{spread_of}
-use Rattle.smv_scope.specs.Left.{left_to_spread}
+use Rattle.smv_scope.specs.WorkLeft.{left_to_spread}
 use Rattle.smv_scope.proofs.needs.reached_from.Given as goal
 
 abbrev pub invariant-loop-definition : goal.invariant-loop-definition

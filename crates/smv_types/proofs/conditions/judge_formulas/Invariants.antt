@@ -1,6 +1,6 @@
 use Rattle.std.proofs.Common.{◌≡◌, take}
 use Rattle.smv_type_laws.specs.FirstBreach.{first_of}
-use Rattle.smv_types.specs.Kept.{formula_breaches}
+use Rattle.smv_types.specs.KeptKinds.{formula_breaches}
 use Rattle.smv_types.specs.Names.{name_kind}
 use Rattle.smv_types.specs.Sites.{told_first_site}
 use Rattle.smv_types.proofs.conditions.judge_formulas.Given as goal

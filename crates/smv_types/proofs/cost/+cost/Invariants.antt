@@ -1,6 +1,6 @@
 use Rattle.std.proofs.Common.{◌≡◌, ◌+◌, ◌≤◌, min, drop}
 use Rattle.smv_type_laws.specs.Costs.{trees_cost, branches_cost}
-use Rattle.smv_language.specs.Written.{trees_of, branches_of}
+use Rattle.smv_language.specs.ExpressionTree.{trees_of, branches_of}
 use Rattle.smv_types.proofs.cost.+cost.Given as goal
 
 abbrev pub invariant-members_cost-loop-member : goal.invariant-members_cost-loop-member

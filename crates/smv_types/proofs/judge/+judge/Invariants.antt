@@ -1,8 +1,8 @@
 use Rattle.std.proofs.Common.{◌≡◌, drop, None}
-use Rattle.smv_language.specs.Written.{trees_of, branches_of}
-use Rattle.smv_type_laws.specs.Judged.{judge_trees, judge_values}
+use Rattle.smv_language.specs.ExpressionTree.{trees_of, branches_of}
+use Rattle.smv_type_laws.specs.ExpressionKinds.{judge_trees, judge_values}
 use Rattle.smv_types.specs.Names.{name_kind}
-use Rattle.smv_types.specs.Several.{add_all, guard_all, no_guards}
+use Rattle.smv_types.specs.ListKinds.{add_all, guard_all, no_guards}
 use Rattle.smv_types.proofs.judge.+judge.Given as goal
 
 abbrev pub invariant-judge_members-loop-member : goal.invariant-judge_members-loop-member

@@ -1,5 +1,5 @@
 use Rattle.std.proofs.Common.{◌≡◌, drop, None}
-use Rattle.smv_types.specs.Several.{add_all}
+use Rattle.smv_types.specs.ListKinds.{add_all}
 use Rattle.smv_types.specs.Types.{members_judged}
 use Rattle.smv_types.proofs.members.all_members.Given as goal
 

@@ -1,5 +1,5 @@
 use Rattle.std.proofs.Common.{arith}
-use Rattle.smv_types.specs.Met.{has_met}
+use Rattle.smv_types.specs.MemberTests.{has_met}
 use Rattle.smv_types.proofs.MetLaws.{first_again, again_step}
 use Rattle.smv_types.proofs.members.has_double.Goals as goal
 

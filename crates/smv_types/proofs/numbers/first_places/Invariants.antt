@@ -1,5 +1,5 @@
 use Rattle.std.proofs.Common.{◌≤◌, length, drop}
-use Rattle.smv_types.specs.Numbering.{AreNumbered}
+use Rattle.smv_types.specs.SymbolNumbering.{AreNumbered}
 use Rattle.smv_types.proofs.numbers.first_places.Given as goal
 
 abbrev pub invariant-loop-place : goal.invariant-loop-place

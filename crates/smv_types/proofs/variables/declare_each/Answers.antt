@@ -4,11 +4,11 @@ use Rattle.std.proofs.lemmas.List.{map_more}
 use Rattle.smv_language.specs.ProgramTree.{declared_tree}
 use Rattle.smv_language.specs.ModelTree.{variable_tree}
 use Rattle.smv_language.specs.declared.model.Variable.{Variable}
-use Rattle.smv_type_laws.specs.Declared.{judged_declared}
+use Rattle.smv_type_laws.specs.DeclaredKinds.{judged_declared}
 use Rattle.smv_type_laws.specs.FirstBreach.{first_of}
 use Rattle.smv_type_laws.specs.Models.{judged_variables, variable_breaches}
 use Rattle.smv_types.specs.Answers.{told_rules}
-use Rattle.smv_types.specs.Kept.{kept_sort, kept_sorts}
+use Rattle.smv_types.specs.KeptKinds.{kept_sort, kept_sorts}
 use Rattle.smv_types.specs.Sites.{told_first_site, earlier_site, site_at}
 use Rattle.smv_types.specs.Sizes.{variable_bits}
 use Rattle.smv_types.specs.Types.{variable_domain}

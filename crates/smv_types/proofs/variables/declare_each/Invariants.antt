@@ -3,7 +3,7 @@ use Rattle.std.specs.Prelude.{map}
 use Rattle.smv_language.specs.ModelTree.{variable_tree}
 use Rattle.smv_type_laws.specs.FirstBreach.{first_of}
 use Rattle.smv_type_laws.specs.Models.{judged_variables, variable_breaches}
-use Rattle.smv_types.specs.Kept.{kept_sorts}
+use Rattle.smv_types.specs.KeptKinds.{kept_sorts}
 use Rattle.smv_types.specs.Sites.{told_first_site}
 use Rattle.smv_types.specs.Sizes.{variables_bits}
 use Rattle.smv_types.specs.Types.{variable_domain}

@@ -1,6 +1,6 @@
 use Rattle.std.proofs.Common.{◌≡◌, true, IfOk, subst}
 use Rattle.smv_language.specs.declared.model.FlatModel.{FlatModel}
-use Rattle.smv_scope.specs.Closed.{is_closed, bounds_of}
+use Rattle.smv_scope.specs.ClosedModels.{is_closed, bounds_of}
 use Rattle.test_encoding.proofs.bad.resolved.Goals as goal
 
 pub returns : goal.returns

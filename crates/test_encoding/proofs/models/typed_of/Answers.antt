@@ -4,7 +4,7 @@ use Rattle.smv_language.specs.declared.model.FlatModel.{FlatModel}
 use Rattle.smv_language.specs.ModelTree.{model_tree}
 use Rattle.sat_encoding_laws.specs.Encodable.{IsEncodable}
 use Rattle.sat_encoding_laws.proofs.FlatEncodable.{flat_models_encodable}
-use Rattle.smv_evaluation.specs.Named.{IsEvaluable}
+use Rattle.smv_evaluation.specs.EvaluableModels.{IsEvaluable}
 use Rattle.smv_evaluation.proofs.ModelLaws.{evaluable}
 use Rattle.test_encoding.proofs.Laws.{each_has_member, many}
 use Rattle.test_encoding.proofs.models.typed_of.Goals as goal

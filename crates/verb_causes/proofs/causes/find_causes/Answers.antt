@@ -1,7 +1,7 @@
 use Rattle.std.proofs.Common.{Err, inl, sym, ap, subst, ◌∙◌}
 use Rattle.std.proofs.lemmas.Result.{err_from_is_err_and}
 use Rattle.base_files.specs.Desk.{said_more}
-use Rattle.verb_loading.specs.Answered.{told_maybe}
+use Rattle.verb_loading.specs.CaseAnswers.{told_maybe}
 use Rattle.verb_loading.specs.Statuses.{IsBoundedAt}
 use Rattle.verb_loading.proofs.SaidLaws.{rose_later}
 use Rattle.verb_loading.proofs.StopLaws.{write_refused, write_desk}

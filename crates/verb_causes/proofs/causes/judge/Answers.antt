@@ -1,7 +1,7 @@
 use Rattle.std.proofs.Common.{rules, ◌<◌, ◌^◌, length, sym, subst, ◌∙◌}
-use Rattle.cert_text.specs.Seen.{seen}
+use Rattle.cert_text.specs.CertificateView.{seen}
 use Rattle.cert_check.specs.Matter.{matter_of}
-use Rattle.cert_check.specs.Found.{IsJudged}
+use Rattle.cert_check.specs.SiteFindings.{IsJudged}
 use Rattle.verb_causes.proofs.StagedLaws.{event_fits, event_certifies, event_not_accepted}
 use Rattle.verb_causes.proofs.CausesLaws.{one_refusal}
 use Rattle.verb_causes.proofs.causes.judge.Goals as goal

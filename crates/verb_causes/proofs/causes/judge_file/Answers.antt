@@ -4,7 +4,7 @@ use Rattle.std.proofs.lemmas.List.{length-map}
 use Rattle.std.proofs.lemmas.Result.{err_from_is_err_and}
 use Rattle.smv_flat_laws.specs.FaultModes.{mode_of}
 use Rattle.cut_text_laws.specs.AnalysisText.{size_line}
-use Rattle.cert_text.specs.Seen.{seen}
+use Rattle.cert_text.specs.CertificateView.{seen}
 use Rattle.verb_loading.specs.declared.input.Stop.TheVariants as stop
 use Rattle.verb_causes.proofs.CausesLaws.{no_file, line_refused, accepts_staged}
 use Rattle.verb_causes.proofs.causes.judge_file.Goals as goal

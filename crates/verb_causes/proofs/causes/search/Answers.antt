@@ -1,7 +1,7 @@
 use Rattle.std.proofs.Common.{length, subst, sym, map, ap, ◌∙◌}
 use Rattle.smv_language.specs.ModelTree.{flat_tree, name_of_fault}
 use Rattle.cut_text_laws.specs.AnalysisText.{analysis_text}
-use Rattle.cut_report.specs.Analysed.{told_analysis}
+use Rattle.cut_report.specs.AnalysisView.{told_analysis}
 use Rattle.cut_report.specs.FaultText.{faults_text}
 use Rattle.cut_model_search.specs.Searches.{IsSearched}
 use Rattle.verb_causes.specs.Causes.{staged_in, events_in}

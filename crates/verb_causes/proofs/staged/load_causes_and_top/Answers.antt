@@ -3,7 +3,7 @@ use Rattle.std.proofs.lemmas.Result.{err_from_is_err_and}
 use Rattle.smv_language.specs.ProgramTree.{program_tree}
 use Rattle.smv_language.specs.ModelTree.{model_tree}
 use Rattle.fault_staging.specs.CauseOf.{cause_of}
-use Rattle.verb_loading.specs.Loaded.{case_of}
+use Rattle.verb_loading.specs.LoadedCases.{case_of}
 use Rattle.verb_loading.specs.declared.input.Stop.TheVariants as stop
 use Rattle.verb_causes.proofs.CausesLaws.{has_causes, keeps_limits, staged_no_causes, staged_no_top}
 use Rattle.verb_causes.proofs.staged.load_causes_and_top.Goals as goal

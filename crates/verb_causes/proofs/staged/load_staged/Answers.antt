@@ -3,7 +3,7 @@ use Rattle.std.proofs.lemmas.Result.{err_from_is_err_and}
 use Rattle.smv_language.specs.ProgramTree.{program_tree}
 use Rattle.smv_language.specs.ModelTree.{model_tree}
 use Rattle.fault_staging.specs.CauseOf.{cause_of}
-use Rattle.verb_loading.specs.Loaded.{case_of}
+use Rattle.verb_loading.specs.LoadedCases.{case_of}
 use Rattle.verb_loading.proofs.LoadedLaws.{holds_case}
 use Rattle.verb_loading.proofs.SaidLaws.{rose_later}
 use Rattle.verb_loading.specs.declared.input.Stop.TheVariants as stop

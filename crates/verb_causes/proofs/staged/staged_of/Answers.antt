@@ -8,7 +8,7 @@ use Rattle.smv_language.specs.declared.model.FlatModel.{FlatModel as Made}
 use Rattle.smv_flat_laws.specs.History.{with_history}
 use Rattle.smv_type_laws.specs.Models.{IsTyped}
 use Rattle.fault_cause_laws.specs.Causes.{IsCauseOf}
-use Rattle.fault_cause_laws.specs.Staged.{with_causes, events_of}
+use Rattle.fault_cause_laws.specs.StagedModel.{with_causes, events_of}
 use Rattle.fault_staging.specs.CauseOf.{cause_of}
 use Rattle.verb_causes.proofs.StagedLaws.{causes_named, staged_short, events_told}
 use Rattle.verb_causes.specs.Causes.{flat_in, modes_in}

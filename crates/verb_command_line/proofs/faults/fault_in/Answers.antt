@@ -1,5 +1,5 @@
 use Rattle.std.proofs.Common.{sym, ◌∙◌}
-use Rattle.verb_command_line.specs.Seen.{viewed}
+use Rattle.verb_command_line.specs.CommandView.{viewed}
 use Rattle.verb_command_line.proofs.StepLemmas.{few_read}
 use Rattle.verb_command_line.proofs.faults.fault_in.Goals as goal
 

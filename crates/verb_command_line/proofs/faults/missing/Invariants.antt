@@ -1,6 +1,6 @@
 use Rattle.std.proofs.Common.{◌≡◌, ◌+◌, map, drop}
-use Rattle.verb_command_line.specs.Reading.{pairs_of, missing_from}
-use Rattle.verb_command_line.specs.Seen.{texts, viewed}
+use Rattle.verb_command_line.specs.WordReading.{pairs_of, missing_from}
+use Rattle.verb_command_line.specs.CommandView.{texts, viewed}
 use Rattle.verb_command_line.proofs.faults.missing.Given as goal
 
 abbrev pub invariant-loop-i : goal.invariant-loop-i

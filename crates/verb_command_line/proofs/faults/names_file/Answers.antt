@@ -1,6 +1,6 @@
 use Rattle.std.proofs.Common.{ap, sym, ◌∙◌, map}
-use Rattle.verb_command_line.specs.Reading.{has_file}
-use Rattle.verb_command_line.specs.Seen.{viewed}
+use Rattle.verb_command_line.specs.WordReading.{has_file}
+use Rattle.verb_command_line.specs.CommandView.{viewed}
 use Rattle.verb_command_line.proofs.PairLemmas.{no_pair}
 use Rattle.verb_command_line.proofs.faults.names_file.Goals as goal
 

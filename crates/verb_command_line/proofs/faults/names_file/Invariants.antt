@@ -1,6 +1,6 @@
 use Rattle.std.proofs.Common.{◌≡◌, map, length}
-use Rattle.verb_command_line.specs.Reading.{pairs_of, has_file}
-use Rattle.verb_command_line.specs.Seen.{texts, viewed}
+use Rattle.verb_command_line.specs.WordReading.{pairs_of, has_file}
+use Rattle.verb_command_line.specs.CommandView.{texts, viewed}
 use Rattle.verb_command_line.proofs.faults.names_file.Given as goal
 
 abbrev pub invariant-loop-rest : goal.invariant-loop-rest

@@ -1,5 +1,5 @@
 use Rattle.std.proofs.Common.{◌≤◌, [], map, sym, ◌∙◌, arith}
-use Rattle.verb_command_line.specs.Seen.{texts, viewed}
+use Rattle.verb_command_line.specs.CommandView.{texts, viewed}
 use Rattle.verb_command_line.proofs.LoopLemmas.{searched_none}
 use Rattle.verb_command_line.proofs.StepLemmas.{fewer_left, front_read, step_on, step_out, step_last, step_end, step_few}
 use Rattle.verb_command_line.proofs.faults.pair_fault.Goals as goal

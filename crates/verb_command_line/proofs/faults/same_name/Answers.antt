@@ -1,5 +1,5 @@
 use Rattle.std.proofs.Common.{[], map, arith}
-use Rattle.verb_command_line.specs.Seen.{texts, viewed}
+use Rattle.verb_command_line.specs.CommandView.{texts, viewed}
 use Rattle.verb_command_line.proofs.LoopLemmas.{compared_none}
 use Rattle.verb_command_line.proofs.StepLemmas.{fewer_left, front_read, at_within, name_on, name_out, name_end}
 use Rattle.verb_command_line.proofs.faults.same_name.Goals as goal

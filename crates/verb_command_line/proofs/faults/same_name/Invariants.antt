@@ -1,5 +1,5 @@
 use Rattle.std.proofs.Common.{map, length}
-use Rattle.verb_command_line.specs.Seen.{texts, viewed}
+use Rattle.verb_command_line.specs.CommandView.{texts, viewed}
 use Rattle.verb_command_line.proofs.LoopLemmas.{Compared}
 use Rattle.verb_command_line.proofs.faults.same_name.Given as goal
 

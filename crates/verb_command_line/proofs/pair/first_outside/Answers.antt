@@ -1,5 +1,5 @@
 use Rattle.std.proofs.Common.{[], arith}
-use Rattle.verb_command_line.specs.Seen.{texts}
+use Rattle.verb_command_line.specs.CommandView.{texts}
 use Rattle.verb_command_line.proofs.StepLemmas.{fewer_left, at_within}
 use Rattle.verb_command_line.proofs.OutsideLoop.{passed_none, outside_on, outside_out, outside_end}
 use Rattle.verb_command_line.proofs.pair.first_outside.Goals as goal

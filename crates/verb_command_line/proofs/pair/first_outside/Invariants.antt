@@ -1,5 +1,5 @@
 use Rattle.std.proofs.Common.{length}
-use Rattle.verb_command_line.specs.Seen.{texts}
+use Rattle.verb_command_line.specs.CommandView.{texts}
 use Rattle.verb_command_line.proofs.OutsideLoop.{Passed}
 use Rattle.verb_command_line.proofs.pair.first_outside.Given as goal
 

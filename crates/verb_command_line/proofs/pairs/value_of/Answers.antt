@@ -1,5 +1,5 @@
 use Rattle.std.proofs.Common.{ap, sym, ◌∙◌}
-use Rattle.verb_command_line.specs.Reading.{value_in}
+use Rattle.verb_command_line.specs.WordReading.{value_in}
 use Rattle.verb_command_line.proofs.PairLemmas.{no_pair}
 use Rattle.verb_command_line.proofs.pairs.value_of.Goals as goal
 

@@ -1,6 +1,6 @@
 use Rattle.std.proofs.Common.{◌≡◌, length}
-use Rattle.verb_command_line.specs.Reading.{pairs_of, value_in}
-use Rattle.verb_command_line.specs.Seen.{texts}
+use Rattle.verb_command_line.specs.WordReading.{pairs_of, value_in}
+use Rattle.verb_command_line.specs.CommandView.{texts}
 use Rattle.verb_command_line.proofs.pairs.value_of.Given as goal
 
 abbrev pub invariant-loop-rest : goal.invariant-loop-rest

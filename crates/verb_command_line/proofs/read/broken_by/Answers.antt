@@ -1,6 +1,6 @@
 use Rattle.std.proofs.Common.{sym, ap, ◌∙◌}
-use Rattle.verb_command_line.specs.Reading.{option_fault}
-use Rattle.verb_command_line.specs.Seen.{texts}
+use Rattle.verb_command_line.specs.WordReading.{option_fault}
+use Rattle.verb_command_line.specs.CommandView.{texts}
 use Rattle.verb_command_line.proofs.OutsideLoop.{few_after, after_some, after_none}
 use Rattle.verb_command_line.proofs.read.broken_by.Goals as goal
 

@@ -1,4 +1,4 @@
-use Rattle.verb_command_line.specs.Seen.{texts}
+use Rattle.verb_command_line.specs.CommandView.{texts}
 use Rattle.verb_command_line.proofs.ReadingLaws.{means_seen, breaks_seen, one_command, one_fault, commands_have_no_fault}
 use Rattle.verb_command_line.proofs.read.read_words.Goals as goal
 

@@ -1,7 +1,7 @@
 use Rattle.std.proofs.Common.{◌≡◌}
 use Rattle.std.specs.Option.{option_map}
 use Rattle.verb_command_line.specs.Sets.{words_of}
-use Rattle.verb_command_line.specs.Reading.{is_rising, words_left, left_length}
+use Rattle.verb_command_line.specs.WordReading.{is_rising, words_left, left_length}
 use Rattle.verb_command_line.proofs.set.are_rising.Given as goal
 
 abbrev pub invariant-loop-rest : goal.invariant-loop-rest

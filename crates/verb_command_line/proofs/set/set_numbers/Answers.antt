@@ -1,7 +1,7 @@
 use Rattle.std.proofs.Common.{◌≡◌, ◌∙◌}
 use Rattle.std.proofs.lemmas.Result.{IfOk-weaker}
 use Rattle.verb_command_line.specs.Sets.{words_of, numbers_of}
-use Rattle.verb_command_line.specs.Reading.{smalls}
+use Rattle.verb_command_line.specs.WordReading.{smalls}
 use Rattle.verb_command_line.proofs.SetLemmas.{smalls_of_set}
 use Rattle.verb_command_line.proofs.set.set_numbers.Goals as goal
 

@@ -4,7 +4,7 @@ use Rattle.fault_instructions.specs.Instructions.{instruction_tree}
 use Rattle.smv_language.specs.ProgramTree.{program_tree}
 use Rattle.smv_language.specs.Text.{program_text}
 use Rattle.smv_language.specs.ModelTree.{model_tree}
-use Rattle.fault_extend.specs.Refused.{KeepsRules, IsTold}
+use Rattle.fault_extend.specs.FirstRefusal.{KeepsRules, IsTold}
 use Rattle.fault_extend.specs.WovenFaults.{fault_tree}
 use Rattle.fault_extend.proofs.InstanceLaws.{instances_listed}
 use Rattle.verb_loading.specs.Wholes.{HasItsModes, IsWrongWhole, IsWithinLimits}

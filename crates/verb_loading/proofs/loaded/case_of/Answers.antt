@@ -3,11 +3,11 @@ use Rattle.std.proofs.lemmas.Result.{err_from_is_err_and}
 use Rattle.fault_instructions.specs.Instructions.{instruction_tree}
 use Rattle.smv_language.specs.ProgramTree.{program_tree}
 use Rattle.smv_language.specs.ModelTree.{model_tree}
-use Rattle.fault_extend.specs.Refused.{KeepsRules, IsTold}
+use Rattle.fault_extend.specs.FirstRefusal.{KeepsRules, IsTold}
 use Rattle.fault_extend.specs.WovenFaults.{fault_tree}
 use Rattle.fault_extend.proofs.InstanceLaws.{instances_listed}
 use Rattle.verb_loading.specs.Wholes.{HasItsModes}
-use Rattle.verb_loading.specs.Loaded.{IsWrongLimited}
+use Rattle.verb_loading.specs.LoadedCases.{IsWrongLimited}
 use Rattle.verb_loading.proofs.FlatLimits.{whole_wrong}
 use Rattle.verb_loading.proofs.CaseLemmas.{is_loaded}
 use Rattle.verb_loading.specs.Inputs.{IsInstructionText, AreTaken, IsWrongFaults, not_spelled, not_woven, past_limit}

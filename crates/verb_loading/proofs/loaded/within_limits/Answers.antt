@@ -8,7 +8,7 @@ use Rattle.fault_extend.specs.WovenFaults.{fault_tree}
 use Rattle.fault_extend.specs.NumberedFaults.{AreNumbered}
 use Rattle.verb_loading.specs.Models.{IsModelOf}
 use Rattle.verb_loading.specs.Wholes.{IsWhole, BreaksNames, BreaksKinds, by_names, by_kinds, IsWithinLimits}
-use Rattle.verb_loading.specs.Loaded.{IsWrongLimited, whole_is_wrong, flat_is_wrong}
+use Rattle.verb_loading.specs.LoadedCases.{IsWrongLimited, whole_is_wrong, flat_is_wrong}
 use Rattle.verb_loading.proofs.Told.{refused_weaker}
 use Rattle.verb_loading.proofs.WholeLemmas.{is_whole}
 use Rattle.verb_loading.proofs.FaultModes.{have_modes}

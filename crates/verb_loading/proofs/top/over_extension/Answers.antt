@@ -1,7 +1,7 @@
 use Rattle.std.proofs.Common.{◌∙◌}
 use Rattle.std.proofs.lemmas.Result.{err_from_is_err_and}
 use Rattle.smv_language.specs.ProgramTree.{program_tree}
-use Rattle.smv_language.specs.Written.{tree_of}
+use Rattle.smv_language.specs.ExpressionTree.{tree_of}
 use Rattle.smv_language.specs.ModelTree.{model_tree}
 use Rattle.verb_loading.proofs.Told.{if_refused}
 use Rattle.verb_loading.proofs.TopLaws.{main_instance, main_is_at, names_untold}

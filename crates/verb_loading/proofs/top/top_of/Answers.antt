@@ -1,14 +1,14 @@
 use Rattle.std.proofs.Common.{[], false, sym, subst}
 use Rattle.std.proofs.lemmas.Result.{err_from_is_err_and, IfOk-weaker, IfErr-weaker}
 use Rattle.smv_language.specs.ProgramTree.{program_tree}
-use Rattle.smv_language.specs.Written.{tree_of}
+use Rattle.smv_language.specs.ExpressionTree.{tree_of}
 use Rattle.smv_language.specs.ModelTree.{flat_tree, model_tree}
 use Rattle.smv_flat_laws.specs.ResolvedAt.{IsResolvedAt}
 use Rattle.smv_flat_laws.specs.Rules.{IsAccepted}
 use Rattle.smv_flat_laws.specs.Model.{IsFlatOf}
 use Rattle.verb_loading.specs.Wrongs.{IfRefused}
 use Rattle.verb_loading.specs.Cases.{IsWrongTop, IsWrongWord, not_kept}
-use Rattle.verb_loading.specs.Loaded.{case_of, IsTopIn, IsWrongTopText}
+use Rattle.verb_loading.specs.LoadedCases.{case_of, IsTopIn, IsWrongTopText}
 use Rattle.verb_loading.proofs.Told.{refused_weaker}
 use Rattle.verb_loading.proofs.TopLaws.{names_over, top_over}
 use Rattle.verb_loading.proofs.TopLemmas.{wrong_text}

@@ -1,6 +1,6 @@
 use Rattle.std.proofs.Common.{arith, ◌∙◌}
 use Rattle.std.proofs.lemmas.Result.{err_from_is_err_and}
-use Rattle.verb_loading.specs.Loaded.{IsWrongTopText, not_a_top}
+use Rattle.verb_loading.specs.LoadedCases.{IsWrongTopText, not_a_top}
 use Rattle.verb_loading.proofs.Told.{if_refused}
 use Rattle.verb_loading.proofs.top.written_top.Goals as goal
 

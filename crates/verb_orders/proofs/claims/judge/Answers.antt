@@ -1,7 +1,7 @@
 use Rattle.std.proofs.Common.{subst}
 use Rattle.smv_language.specs.ModelTree.{model_tree, flat_tree}
-use Rattle.cert_text.specs.Seen.{seen}
-use Rattle.cert_check.specs.Found.{IsJudgedUnlisted}
+use Rattle.cert_text.specs.CertificateView.{seen}
+use Rattle.cert_check.specs.SiteFindings.{IsJudgedUnlisted}
 use Rattle.verb_orders.specs.Orders.{staged_matter}
 use Rattle.verb_orders.proofs.ClaimLaws.{claim_accepted, claim_refused, line_refused, line_no_desk}
 use Rattle.verb_orders.proofs.claims.judge.Goals as goal

@@ -1,8 +1,8 @@
 use Rattle.std.proofs.Common.{Err, sym, ap, subst, ◌∙◌, OnOk}
 use Rattle.std.proofs.lemmas.Result.{err_from_is_err_and}
-use Rattle.cert_text.specs.Seen.{seen}
+use Rattle.cert_text.specs.CertificateView.{seen}
 use Rattle.verb_orders.specs.Orders.{IsAcceptedClaim, RefusesClaim, claim_in}
-use Rattle.verb_orders.specs.Claimed.{staged_in, against_in}
+use Rattle.verb_orders.specs.ClaimSearch.{staged_in, against_in}
 use Rattle.verb_orders.proofs.ClaimLaws.{file_unread, file_unfit, file_accepted}
 use Rattle.verb_orders.proofs.claims.judge_file.Goals as goal
 use Rattle.base_values.proofs.ResultLaws.{same_fault}

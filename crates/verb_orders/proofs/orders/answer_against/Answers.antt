@@ -1,6 +1,6 @@
 use Rattle.std.proofs.Common.{◌≡◌, Some, IsTrue, false, sym, subst, arith}
 use Rattle.std.proofs.lemmas.Result.{IfOk-weaker}
-use Rattle.verb_orders.specs.Claimed.{IsSearchOf, IsConclusion, relation_in}
+use Rattle.verb_orders.specs.ClaimSearch.{IsSearchOf, IsConclusion, relation_in}
 use Rattle.verb_orders.proofs.OrderLaws.{trace_found, some_trace}
 use Rattle.verb_orders.proofs.orders.answer_against.Goals as goal
 

@@ -1,5 +1,5 @@
 use Rattle.std.proofs.Common.{Some, subst}
-use Rattle.verb_orders.specs.Claimed.{IsSearchOf}
+use Rattle.verb_orders.specs.ClaimSearch.{IsSearchOf}
 use Rattle.verb_orders.proofs.orders.answer_of.Goals as goal
 
 pub search-requires : goal.search-requires

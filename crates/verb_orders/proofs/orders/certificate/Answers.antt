@@ -1,5 +1,5 @@
 use Rattle.std.proofs.Common.{Some, None, sym, subst}
-use Rattle.verb_orders.specs.Claimed.{HasClaimCertificate}
+use Rattle.verb_orders.specs.ClaimSearch.{HasClaimCertificate}
 use Rattle.verb_orders.proofs.orders.certificate.Goals as goal
 
 pub certificate_text-requires-clause-complete : goal.certificate_text-requires-clause-complete

@@ -2,7 +2,7 @@ use Rattle.std.proofs.Common.{◌≡◌}
 use Rattle.std.proofs.lemmas.Result.{IfOk-weaker}
 use Rattle.smv_language.specs.ModelTree.{model_tree, flat_tree}
 use Rattle.verb_loading.specs.LoadedEvents.{case_in}
-use Rattle.cert_text.specs.Seen.{seen}
+use Rattle.cert_text.specs.CertificateView.{seen}
 use Rattle.cut_text_laws.specs.Lines.{fed}
 use Rattle.cert_laws.specs.CertificateText.{version_two, lines_of}
 use Rattle.verb_orders.specs.Orders.{CertifiesClaim}

@@ -2,7 +2,7 @@ use Rattle.std.proofs.Common.{◌≡◌, length, map, take, ◌∙◌, ap}
 use Rattle.smv_language.specs.declared.model.FlatModel.{FlatModel}
 use Rattle.smv_type_laws.specs.Costs.{state_bits}
 use Rattle.verb_loading.specs.LoadedEvents.{case_in}
-use Rattle.smv_language.specs.Told.{told_trace}
+use Rattle.smv_language.specs.NumberedValues.{told_trace}
 use Rattle.cut_report_laws.specs.ExtendedTraces.{complete}
 use Rattle.verb_orders.specs.Orders.{either, order_text, staged_of}
 use Rattle.verb_orders.proofs.OrderLaws.{either_concluded}

@@ -3,7 +3,7 @@ use Rattle.std.specs.Prelude.{codes}
 use Rattle.std.proofs.lemmas.Result.{err_from_is_err_and}
 use Rattle.smv_language.specs.ProgramTree.{program_tree}
 use Rattle.smv_language.specs.ModelTree.{flat_tree}
-use Rattle.cert_text.specs.Seen.{seen}
+use Rattle.cert_text.specs.CertificateView.{seen}
 use Rattle.cut_text_laws.specs.AnalysisText.{size_line}
 use Rattle.verb_loading.specs.LoadedEvents.{case_in}
 use Rattle.verb_loading.specs.declared.input.Stop.TheVariants as stop

@@ -1,7 +1,7 @@
 use Rattle.std.proofs.Common.{rules, ◌<◌, ◌^◌, length, sym, subst, ◌∙◌}
-use Rattle.cert_text.specs.Seen.{seen}
+use Rattle.cert_text.specs.CertificateView.{seen}
 use Rattle.cert_check.specs.Matter.{matter_of}
-use Rattle.cert_check.specs.Found.{IsJudged}
+use Rattle.cert_check.specs.SiteFindings.{IsJudged}
 use Rattle.verb_loading.proofs.InputLemmas.{same_refusal}
 use Rattle.verb_run.proofs.CertificateLaws.{event_fits, event_accepted, event_not_accepted}
 use Rattle.verb_run.proofs.certificate.judge_certificate.Goals as goal

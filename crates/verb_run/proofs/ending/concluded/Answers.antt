@@ -1,6 +1,6 @@
 use Rattle.std.proofs.Common.{Err, IfOk, ⊎_elim, inl, inr, refl, sym, ap, subst, ◌∙◌}
 use Rattle.verb_loading.specs.Statuses.{IsFinished}
-use Rattle.verb_run.specs.Delivered.{Concluded}
+use Rattle.verb_run.specs.RunEndings.{Concluded}
 use Rattle.verb_run.proofs.ending.concluded.Goals as goal
 
 pub returns-in-Ok-clause-concluded : goal.returns-in-Ok-clause-concluded

@@ -6,7 +6,7 @@ use Rattle.verb_run.specs.Runs.{Stands, StandsInPart, finds_causes, is_refused, 
 use Rattle.verb_run.proofs.FurtherLaws.{answers_work, leaves_work, rose_before, done_told, some_told, left_told}
 use Rattle.verb_causes.proofs.OneRefusal.{staged_of_caused}
 use Rattle.verb_command_line.specs.declared.command.Command.TheVariants as ask
-use Rattle.verb_command_line.specs.Seen.{seen}
+use Rattle.verb_command_line.specs.CommandView.{seen}
 use Rattle.verb_loading.proofs.SaidLaws.{rose_later}
 use Rattle.verb_run.proofs.StatusLaws.{concluded_of, work_of}
 use Rattle.verb_run.proofs.further.causes.Goals as goal

@@ -7,7 +7,7 @@ use Rattle.verb_run.specs.Runs.{Stands, StandsInPart, accepts_order, is_refused,
 use Rattle.verb_run.proofs.FurtherLaws.{answers_work, leaves_work, rose_before, done_told, some_told, given_done, line_left}
 use Rattle.verb_command_line.specs.Sets.{numbers_of}
 use Rattle.verb_command_line.specs.declared.command.Command.TheVariants as ask
-use Rattle.verb_command_line.specs.Seen.{seen}
+use Rattle.verb_command_line.specs.CommandView.{seen}
 use Rattle.verb_loading.proofs.SaidLaws.{rose_later}
 use Rattle.verb_run.proofs.StatusLaws.{concluded_of, done_of}
 use Rattle.verb_run.proofs.further.checked_orders.Goals as goal

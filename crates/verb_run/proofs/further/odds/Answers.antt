@@ -5,7 +5,7 @@ use Rattle.verb_loading.specs.declared.status.Status.{Status}
 use Rattle.verb_run.specs.Runs.{Stands, StandsInPart, finds_odds, is_refused, is_done, CommandComesTo}
 use Rattle.verb_run.proofs.FurtherLaws.{answers_work, leaves_work, rose_before, done_told, some_told, left_said}
 use Rattle.verb_command_line.specs.declared.command.Command.TheVariants as ask
-use Rattle.verb_command_line.specs.Seen.{seen}
+use Rattle.verb_command_line.specs.CommandView.{seen}
 use Rattle.verb_loading.proofs.SaidLaws.{rose_later}
 use Rattle.verb_run.proofs.StatusLaws.{concluded_of, work_of}
 use Rattle.verb_run.proofs.further.odds.Goals as goal

@@ -6,7 +6,7 @@ use Rattle.verb_run.specs.Runs.{Stands, StandsInPart, finds_order, is_refused, i
 use Rattle.verb_run.proofs.FurtherLaws.{answers_work, leaves_work, rose_before, done_told, some_told, left_told, given_done, given_left}
 use Rattle.verb_command_line.specs.Sets.{numbers_of}
 use Rattle.verb_command_line.specs.declared.command.Command.TheVariants as ask
-use Rattle.verb_command_line.specs.Seen.{seen}
+use Rattle.verb_command_line.specs.CommandView.{seen}
 use Rattle.verb_loading.proofs.SaidLaws.{rose_later}
 use Rattle.verb_run.proofs.StatusLaws.{concluded_of, work_of}
 use Rattle.verb_run.proofs.further.orders.Goals as goal

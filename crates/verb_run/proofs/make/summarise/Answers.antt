@@ -1,7 +1,7 @@
 use Rattle.std.proofs.Common.{arith, length, ap, ◌∙◌}
 use Rattle.smv_language.specs.ProgramTree.{program_tree}
 use Rattle.smv_language.specs.ModelTree.{flat_tree}
-use Rattle.verb_run.specs.Made.{dead_word}
+use Rattle.verb_run.specs.GeneratedCase.{dead_word}
 use Rattle.cut_model_search.proofs.Analysable.{case_few, case_searchable}
 use Rattle.verb_run.proofs.MakeLaws.{summarised}
 use Rattle.verb_run.proofs.make.summarise.Goals as goal

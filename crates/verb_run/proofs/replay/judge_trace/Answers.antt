@@ -1,13 +1,13 @@
 use Rattle.std.proofs.Common.{sym, subst, ◌-◌, ◌∙◌}
 use Rattle.smv_language.specs.ModelTree.{model_tree, flat_tree}
 use Rattle.smv_evaluation.specs.Stops.{Stops}
-use Rattle.smv_evaluation.specs.Replayed.{IsReplayed}
+use Rattle.smv_evaluation.specs.Replay.{IsReplayed}
 use Rattle.verb_loading.specs.declared.status.Why.TheVariants as why
 use Rattle.verb_run.specs.Replays.{reason_of}
 use Rattle.verb_run.proofs.ReplayLemmas.{moment_told, as_many}
 use Rattle.verb_run.proofs.replay.judge_trace.Goals as goal
 use Rattle.base_values.proofs.ResultLaws.{same_fault}
-use Rattle.smv_language.specs.Told.{told_trace}
+use Rattle.smv_language.specs.NumberedValues.{told_trace}
 
 pub returns-in-Reaches-clause-ok : goal.returns-in-Reaches-clause-ok
 returns-in-Reaches-clause-ok c = subst (IsReplayed _ _ _) c.in-Reaches.is c.replay.ensures.answer

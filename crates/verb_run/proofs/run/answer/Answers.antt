@@ -1,6 +1,6 @@
 use Rattle.std.proofs.Common.{map, inr, sym, subst}
 use Rattle.verb_command_line.specs.Meaning.{Means}
-use Rattle.verb_command_line.specs.Seen.{seen}
+use Rattle.verb_command_line.specs.CommandView.{seen}
 use Rattle.verb_run.proofs.ExtensionLemmas.{words_not_asked}
 use Rattle.verb_run.proofs.OutcomeLemmas.{answers_words, stops_at_words, answers_carried, stops_carried}
 use Rattle.verb_run.proofs.StatusLaws.{depth_asked, never_words, words_told, words_meant, words_unbounded}

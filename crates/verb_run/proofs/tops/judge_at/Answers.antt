@@ -1,5 +1,5 @@
 use Rattle.smv_language.specs.ProgramTree.{program_tree}
-use Rattle.smv_language.specs.Written.{tree_of}
+use Rattle.smv_language.specs.ExpressionTree.{tree_of}
 use Rattle.verb_run.proofs.TableLemmas.{refused_at}
 use Rattle.verb_run.proofs.tops.judge_at.Goals as goal
 

@@ -2,7 +2,7 @@ use Rattle.std.proofs.Common.{arith, ◌+◌, map}
 use Rattle.std.proofs.lemmas.Result.{err_from_is_err_and}
 use Rattle.std.proofs.lemmas.List.{length-map}
 use Rattle.smv_language.specs.ProgramTree.{program_tree}
-use Rattle.smv_language.specs.Written.{tree_of}
+use Rattle.smv_language.specs.ExpressionTree.{tree_of}
 use Rattle.fault_extend.proofs.EachItem.{item_there}
 use Rattle.verb_loading.specs.Cases.{IsTop, IsWrongTop}
 use Rattle.verb_run.specs.Tables.{IsFirstNoTop}

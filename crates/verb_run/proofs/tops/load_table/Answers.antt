@@ -1,10 +1,10 @@
 use Rattle.std.proofs.Common.{Err, IfSome, IsErrOf, map, sym, ap, subst, ◌∙◌}
 use Rattle.std.proofs.lemmas.Result.{err_from_is_err_and}
 use Rattle.smv_language.specs.ProgramTree.{program_tree}
-use Rattle.smv_language.specs.Written.{tree_of}
+use Rattle.smv_language.specs.ExpressionTree.{tree_of}
 use Rattle.smv_language.specs.ModelTree.{model_tree}
 use Rattle.verb_loading.specs.Cases.{HoldsTops}
-use Rattle.verb_loading.specs.Loaded.{case_of}
+use Rattle.verb_loading.specs.LoadedCases.{case_of}
 use Rattle.verb_loading.specs.declared.input.Stop.TheVariants as stop
 use Rattle.verb_loading.proofs.LoadedLaws.{holds_case}
 use Rattle.verb_run.proofs.TableLemmas.{table_model_refused, table_faults_refused, table_tops_refused}

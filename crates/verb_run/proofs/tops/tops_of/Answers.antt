@@ -3,14 +3,14 @@ use Rattle.std.proofs.lemmas.Result.{err_from_is_err_and}
 use Rattle.std.proofs.lemmas.List.{length-map}
 use Rattle.smv_language.specs.ProgramTree.{program_tree}
 use Rattle.smv_language.specs.Trace.{Each, EachBoth}
-use Rattle.smv_language.specs.Written.{tree_of}
+use Rattle.smv_language.specs.ExpressionTree.{tree_of}
 use Rattle.smv_language.specs.ModelTree.{flat_tree, model_tree}
 use Rattle.smv_flat_laws.specs.Model.{IsFlatOf}
 use Rattle.smv_flat_laws.specs.ResolvedAt.{IsResolvedAt}
 use Rattle.smv_flat_laws.specs.Rules.{IsAccepted}
 use Rattle.verb_loading.specs.Wrongs.{IfRefused}
 use Rattle.verb_loading.specs.Cases.{IsTop}
-use Rattle.verb_loading.specs.Loaded.{case_of}
+use Rattle.verb_loading.specs.LoadedCases.{case_of}
 use Rattle.verb_run.specs.Tables.{IsWrongList, IsFirstNoTop, IsWrongTops, wrong_list, wrong_event}
 use Rattle.verb_loading.proofs.Told.{refused_weaker}
 use Rattle.verb_loading.proofs.TopLaws.{names_over}

@@ -1,7 +1,7 @@
 use Rattle.std.proofs.Common.{arith, map, refl, ◌∙◌}
 use Rattle.std.proofs.lemmas.Result.{err_from_is_err_and}
 use Rattle.std.proofs.lemmas.List.{length-map}
-use Rattle.smv_language.specs.Written.{tree_of}
+use Rattle.smv_language.specs.ExpressionTree.{tree_of}
 use Rattle.verb_run.specs.Tables.{IsListText, IsWrongList, no_list, long_list}
 use Rattle.verb_loading.proofs.Told.{if_refused}
 use Rattle.verb_run.proofs.tops.written_tops.Goals as goal

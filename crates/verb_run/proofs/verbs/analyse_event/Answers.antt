@@ -1,6 +1,6 @@
 use Rattle.std.proofs.Common.{Some, Err, inr, sym, ap, ◌∙◌}
 use Rattle.verb_command_line.specs.declared.command.Command.TheVariants as ask
-use Rattle.verb_command_line.specs.Seen.{seen}
+use Rattle.verb_command_line.specs.CommandView.{seen}
 use Rattle.verb_run.specs.Findings.{analysed_case, analysed_size}
 use Rattle.verb_run.specs.Runs.{analyses, CommandComesTo, IsDelivered}
 use Rattle.verb_run.proofs.OutcomeLemmas.{answers_prepared, stops_at_prepared, finished_answers, failed_finish, not_desk, answers_stop, leaves_stop}

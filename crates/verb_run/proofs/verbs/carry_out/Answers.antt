@@ -1,8 +1,8 @@
 use Rattle.std.proofs.Common.{sym, subst, ◌∙◌}
-use Rattle.verb_command_line.specs.Seen.{seen}
-use Rattle.verb_run.specs.Commanded.{IsAskable}
+use Rattle.verb_command_line.specs.CommandView.{seen}
+use Rattle.verb_run.specs.CommandNumbers.{IsAskable}
 use Rattle.verb_run.specs.Runs.{IsCarriedOut, IsLeftInPart}
-use Rattle.verb_run.specs.Short.{IsOfCommand}
+use Rattle.verb_run.specs.BoundedAnswers.{IsOfCommand}
 use Rattle.verb_run.proofs.verbs.carry_out.Goals as goal
 
 pub tabulate-requires : goal.tabulate-requires

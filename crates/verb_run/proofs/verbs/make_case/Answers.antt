@@ -1,7 +1,7 @@
 use Rattle.std.proofs.Common.{Some, inl, inr, refl, sym, ap}
 use Rattle.verb_command_line.specs.declared.command.Command.TheVariants as ask
-use Rattle.verb_command_line.specs.Seen.{seen}
-use Rattle.verb_run.specs.Made.{made_case}
+use Rattle.verb_command_line.specs.CommandView.{seen}
+use Rattle.verb_run.specs.GeneratedCase.{made_case}
 use Rattle.verb_run.specs.Runs.{makes, MakeComesTo, CommandComesTo, IsDelivered}
 use Rattle.verb_run.proofs.OutcomeLemmas.{answers_prepared, stops_at_prepared, finished_answers, failed_finish, not_desk, for_files}
 use Rattle.verb_run.proofs.StatusLaws.{finished_of, analysed_of}

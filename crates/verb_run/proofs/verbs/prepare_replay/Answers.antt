@@ -2,7 +2,7 @@ use Rattle.std.proofs.Common.{Err, IsErrOf, sym, ap, ◌∙◌}
 use Rattle.std.proofs.lemmas.Result.{err_from_is_err_and, IfOk-weaker}
 use Rattle.smv_language.specs.ProgramTree.{program_tree}
 use Rattle.smv_language.specs.ModelTree.{flat_tree}
-use Rattle.verb_loading.specs.Loaded.{case_of}
+use Rattle.verb_loading.specs.LoadedCases.{case_of}
 use Rattle.verb_run.specs.Runs.{refuses, says}
 use Rattle.verb_loading.specs.declared.input.Stop.TheVariants as stop
 use Rattle.verb_run.proofs.OutcomeLemmas.{replays_no_model, replays_no_faults, replays_no_top, replays_trace}

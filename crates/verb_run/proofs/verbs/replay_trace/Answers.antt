@@ -1,6 +1,6 @@
 use Rattle.std.proofs.Common.{Err, inr, ap}
 use Rattle.verb_command_line.specs.declared.command.Command.TheVariants as ask
-use Rattle.verb_command_line.specs.Seen.{seen}
+use Rattle.verb_command_line.specs.CommandView.{seen}
 use Rattle.verb_run.specs.Runs.{says, CommandComesTo}
 use Rattle.verb_run.proofs.OutcomeLemmas.{answers_prepared, stops_at_prepared, answers_stop, leaves_stop}
 use Rattle.verb_run.proofs.StatusLaws.{answered_of, stopped_of}

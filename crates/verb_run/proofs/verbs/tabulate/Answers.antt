@@ -1,6 +1,6 @@
 use Rattle.std.proofs.Common.{Some, Err, inr, map, sym, ap}
 use Rattle.verb_command_line.specs.declared.command.Command.TheVariants as ask
-use Rattle.verb_command_line.specs.Seen.{seen}
+use Rattle.verb_command_line.specs.CommandView.{seen}
 use Rattle.verb_run.specs.Tables.{tabulated_case, tabulated_events}
 use Rattle.verb_run.specs.Runs.{tabulates, CommandComesTo, IsDelivered}
 use Rattle.verb_run.proofs.OutcomeLemmas.{answers_prepared, stops_at_prepared, finished_answers, failed_finish, no_column_desk, answers_stop, leaves_stop}

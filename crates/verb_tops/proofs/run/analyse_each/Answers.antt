@@ -1,5 +1,5 @@
 use Rattle.std.proofs.Common.{Err, IfOk, length, map, ap, subst}
-use Rattle.cut_model_search.specs.Found.{size_for}
+use Rattle.cut_model_search.specs.CaseAnalysis.{size_for}
 use Rattle.verb_loading.proofs.SaidLaws.{rose_later}
 use Rattle.verb_run.specs.Tables.{tabulated_case, tabulated_events}
 use Rattle.verb_run.proofs.OutcomeLemmas.{finished_answers, failed_finish, no_column_desk}

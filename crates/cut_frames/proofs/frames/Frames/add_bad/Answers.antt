@@ -8,7 +8,7 @@ use Rattle.cut_frames.specs.Condition.{IsFit, IsOverNow}
 use Rattle.std.specs.Result.{is_err}
 use Rattle.cut_frames.specs.FramesRecord.{FramesValue}
 use Rattle.cut_frames.specs.Levels.{frames_of}
-use Rattle.cut_frames.specs.Numbered.{AreNumbered}
+use Rattle.cut_frames.specs.FramesByNumber.{AreNumbered}
 use Rattle.cut_frames.proofs.Framing.{numbered}
 use Rattle.cut_frames.proofs.frames.Frames.add_bad.Goals as goal
 

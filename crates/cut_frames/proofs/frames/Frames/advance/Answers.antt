@@ -1,9 +1,9 @@
 use Rattle.std.proofs.Common.{◌≡◌, ◌∙◌, ◌+◌, ◌-◌, length, OnOk, Result, Ok, Err, sym, subst, true, false}
 use Rattle.std.specs.Result.{is_err}
-use Rattle.cut_frames.specs.Framed.{ArePushed}
+use Rattle.cut_frames.specs.FrameLists.{ArePushed}
 use Rattle.cut_frames.specs.FramesRecord.{FramesValue}
 use Rattle.cut_frames.specs.Levels.{frames_of}
-use Rattle.cut_frames.specs.Numbered.{AreNumbered}
+use Rattle.cut_frames.specs.FramesByNumber.{AreNumbered}
 use Rattle.cut_frames.proofs.Framing.{numbered}
 use Rattle.cut_frames.proofs.LevelLaws.{last_more}
 use Rattle.cut_frames.proofs.frames.Frames.advance.Goals as goal

@@ -1,14 +1,14 @@
 use Rattle.std.proofs.Common.{◌≡◌, ◌∙◌, sym, subst, true, false, List, Result, Ok, Err, OnOk}
 use Rattle.std.specs.Result.{is_err}
 use Rattle.sat_clauses.specs.Literal.{Literal}
-use Rattle.cut_frames.specs.Apart.{IsKept, apart_system, apart_list}
-use Rattle.cut_frames.specs.Guarding.{places_of}
+use Rattle.cut_frames.specs.OwnVariables.{IsKept, apart_system, apart_list}
+use Rattle.cut_frames.specs.GuardedSearch.{places_of}
 use Rattle.cut_frames.proofs.LevelLaws.{frames_new}
 use Rattle.cut_frames.proofs.OwedLemmas.{levelled_new}
 use Rattle.cut_frames.specs.FramesRecord.{FramesValue}
 use Rattle.cut_frames.specs.Levels.{frames_of}
-use Rattle.cut_frames.specs.Numbered.{AreNumbered}
-use Rattle.cut_frames.specs.Framed.{IsInductive}
+use Rattle.cut_frames.specs.FramesByNumber.{AreNumbered}
+use Rattle.cut_frames.specs.FrameLists.{IsInductive}
 use Rattle.cut_frames.specs.declared.lasting.Lasting.{Lasting}
 use Rattle.cut_frames.proofs.LastingLaws.{lasting_again}
 use Rattle.cut_frames.proofs.Framing.{numbered}

@@ -4,7 +4,7 @@ use Rattle.cut_frames.specs.Parts.{AreAgreed}
 use Rattle.cut_frames.proofs.LastingLaws.{lasting_stronger}
 use Rattle.cut_frames.specs.FramesRecord.{FramesValue}
 use Rattle.cut_frames.specs.Levels.{frames_of}
-use Rattle.cut_frames.specs.Numbered.{AreNumbered}
+use Rattle.cut_frames.specs.FramesByNumber.{AreNumbered}
 use Rattle.cut_frames.proofs.Framing.{numbered}
 use Rattle.cut_frames.proofs.LevelLaws.{last_less, same_length}
 use Rattle.cut_frames.proofs.frames.Frames.clear.Goals as goal

@@ -1,7 +1,7 @@
 use Rattle.std.proofs.Common.{◌≡◌, ◌-◌, length, subst}
 use Rattle.cut_frames.specs.FramesRecord.{FramesValue}
 use Rattle.cut_frames.specs.Levels.{frames_of}
-use Rattle.cut_frames.specs.Numbered.{AreNumbered}
+use Rattle.cut_frames.specs.FramesByNumber.{AreNumbered}
 use Rattle.cut_frames.proofs.Framing.{numbered}
 use Rattle.cut_frames.proofs.LevelLaws.{last_is}
 use Rattle.cut_frames.proofs.frames.Frames.frontier.Goals as goal

@@ -1,6 +1,6 @@
 use Rattle.std.proofs.Common.{◌≡◌, ◌∷◌, [], List, true, subst, ap, ◌∙◌}
 use Rattle.sat_clauses.specs.Literal.{Literal, opposite}
-use Rattle.cut_frames.specs.Guarding.{HasPut}
+use Rattle.cut_frames.specs.GuardedSearch.{HasPut}
 use Rattle.cut_frames.proofs.GuardedLaws.{plain_guard}
 use Rattle.cut_frames.proofs.HeldMore.{adds_bad}
 use Rattle.cut_frames.proofs.guarded.Guarded.add_bad.Goals as goal

@@ -3,11 +3,11 @@ use Rattle.std.proofs.lemmas.Grind.{common_steps}
 use Rattle.sat_clauses.specs.Derivation.{IsUpTo}
 use Rattle.sat_clauses.specs.Hints.{HasNoOpposites}
 use Rattle.sat_clauses.specs.Literal.{Literal}
-use Rattle.sat_solver.specs.Kept.{IsAnswer, IsRefuted}
+use Rattle.sat_solver.specs.LearnedClauses.{IsAnswer, IsRefuted}
 use Rattle.sat_solver.specs.Search.{IsSolution}
 use Rattle.sat_solver.specs.declared.solve.Verdict.TheVariants.{Unsat}
 use Rattle.cut_frames.specs.declared.guarded.Guarded.{Guarded}
-use Rattle.cut_frames.specs.Guarding.{added_in, asked_guards, Tells}
+use Rattle.cut_frames.specs.GuardedSearch.{added_in, asked_guards, Tells}
 use Rattle.cut_frames.proofs.GuardedSteps.{asked_well}
 use Rattle.cut_frames.proofs.GuardedLaws.{asks}
 use Rattle.cut_frames.proofs.GuardedVerdicts.{tells_sat, tells_unsat, asked_up_to, asked_apart}

@@ -1,7 +1,7 @@
 use Rattle.std.proofs.Common.{◌≡◌, ◌<◌, ◌-◌, ◌∷◌, [], List, length, refl, subst, arith, slice_index_or, take}
 use Rattle.std.proofs.lemmas.Grind.{common_steps}
 use Rattle.sat_clauses.specs.Literal.{Literal, opposite}
-use Rattle.cut_frames.specs.Guarding.{HasPut}
+use Rattle.cut_frames.specs.GuardedSearch.{HasPut}
 use Rattle.cut_frames.proofs.GuardedLaws.{again_none, again_from}
 use Rattle.cut_frames.proofs.guarded.Guarded.begin_again.Goals as goal
 

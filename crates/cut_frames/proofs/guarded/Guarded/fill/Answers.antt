@@ -3,7 +3,7 @@ use Rattle.std.proofs.lemmas.List.{take_more}
 use Rattle.sat_clauses.specs.Literal.{Literal, opposite}
 use Rattle.cut_frames.specs.Roles.{renamed_clause, under_list}
 use Rattle.std.proofs.lemmas.List.Elements.{All-get_or}
-use Rattle.cut_frames.specs.Guarding.{HasPut, HasRoomFor}
+use Rattle.cut_frames.specs.GuardedSearch.{HasPut, HasRoomFor}
 use Rattle.cut_frames.proofs.GuardedLaws.{fill_more, fill_up_to}
 use Rattle.cut_frames.proofs.guarded.Guarded.fill.Goals as goal
 

@@ -1,6 +1,6 @@
 use Rattle.std.proofs.Common.{take}
 use Rattle.cut_frames.specs.Roles.{under_list}
-use Rattle.cut_frames.specs.Guarding.{HasPut}
+use Rattle.cut_frames.specs.GuardedSearch.{HasPut}
 use Rattle.cut_frames.proofs.guarded.Guarded.fill.Given as goal
 
 abbrev pub invariant-loop-clause : goal.invariant-loop-clause

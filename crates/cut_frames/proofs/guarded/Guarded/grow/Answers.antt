@@ -1,7 +1,7 @@
 use Rattle.std.proofs.Common.{◌≡◌, ◌<◌, ◌-◌, ◌∷◌, [], List, length, refl, subst, arith, slice_index_or}
 use Rattle.std.proofs.lemmas.Grind.{common_steps}
 use Rattle.sat_clauses.specs.Literal.{Literal, plain, opposite}
-use Rattle.cut_frames.specs.Guarding.{HasPut}
+use Rattle.cut_frames.specs.GuardedSearch.{HasPut}
 use Rattle.cut_frames.proofs.GuardedLaws.{grows_first, grows_next}
 use Rattle.cut_frames.proofs.guarded.Guarded.grow.Goals as goal
 

@@ -1,7 +1,7 @@
 use Rattle.std.proofs.Common.{◌≡◌, ◌≤◌, ◌+◌, ◌-◌, ◌∙◌, List, ℕ, All, refl, sym, subst, ap, arith}
 use Rattle.sat_clauses.specs.declared.system.System.{System}
-use Rattle.cut_frames.specs.Apart.{apart_list, apart_system}
-use Rattle.cut_frames.specs.Guarding.{places_of, MeetAlike, HasRoomFor}
+use Rattle.cut_frames.specs.OwnVariables.{apart_list, apart_system}
+use Rattle.cut_frames.specs.GuardedSearch.{places_of, MeetAlike, HasRoomFor}
 use Rattle.sat_clauses.specs.Literal.{Literal}
 use Rattle.cut_frames.proofs.AnswerLemmas.{lists_raised}
 use Rattle.cut_frames.proofs.GuardedLaws.{made_from, all_room}

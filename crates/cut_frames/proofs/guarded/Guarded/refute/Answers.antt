@@ -3,10 +3,10 @@ use Rattle.std.proofs.lemmas.Grind.{common_steps}
 use Rattle.sat_clauses.specs.Derivation.{IsUpTo}
 use Rattle.sat_clauses.specs.Hints.{HasNoOpposites}
 use Rattle.sat_clauses.specs.Literal.{Literal}
-use Rattle.sat_solver.specs.Kept.{IsAnswer, IsRefuted}
+use Rattle.sat_solver.specs.LearnedClauses.{IsAnswer, IsRefuted}
 use Rattle.sat_solver.specs.declared.solve.Verdict.TheVariants.{Unsat}
 use Rattle.cut_frames.specs.declared.guarded.Guarded.{Guarded}
-use Rattle.cut_frames.specs.Guarding.{added_in, asked_guards, Tells}
+use Rattle.cut_frames.specs.GuardedSearch.{added_in, asked_guards, Tells}
 use Rattle.cut_frames.proofs.GuardedSteps.{asked_well}
 use Rattle.cut_frames.proofs.GuardedLaws.{asks}
 use Rattle.cut_frames.proofs.PartLemmas.{some_of}

@@ -1,7 +1,7 @@
 use Rattle.std.proofs.Common.{◌≡◌, ◌∷◌, [], List, refl, subst, arith}
 use Rattle.std.proofs.lemmas.Grind.{common_steps}
 use Rattle.sat_clauses.specs.Literal.{Literal, opposite}
-use Rattle.cut_frames.specs.Guarding.{HasPut}
+use Rattle.cut_frames.specs.GuardedSearch.{HasPut}
 use Rattle.cut_frames.proofs.GuardedSteps.{bad_renewed}
 use Rattle.cut_frames.proofs.guarded.Guarded.renew_bad.Goals as goal
 

@@ -1,7 +1,7 @@
 use Rattle.std.proofs.Common.{◌≡◌, ◌≤◌, ◌+◌, ◌-◌, ℕ, List, refl, subst, arith}
-use Rattle.cut_frames.specs.Apart.{apart_list}
+use Rattle.cut_frames.specs.OwnVariables.{apart_list}
 use Rattle.sat_clauses.specs.Literal.{Literal}
-use Rattle.cut_frames.specs.Guarding.{MeetAlike}
+use Rattle.cut_frames.specs.GuardedSearch.{MeetAlike}
 use Rattle.cut_frames.proofs.AnswerLemmas.{lists_raised}
 use Rattle.cut_frames.proofs.GuardedLaws.{takes_from}
 use Rattle.cut_frames.proofs.guarded.Guarded.take_bad.Goals as goal

@@ -1,4 +1,4 @@
-use Rattle.cut_frames.specs.Guarding.{HasWidened}
+use Rattle.cut_frames.specs.GuardedSearch.{HasWidened}
 use Rattle.cut_frames.proofs.guarded.Guarded.widen.Given as goal
 
 abbrev pub invariant-loop : goal.invariant-loop

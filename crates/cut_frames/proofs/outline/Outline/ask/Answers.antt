@@ -3,8 +3,8 @@ use Rattle.std.proofs.lemmas.Grind.{common_steps}
 use Rattle.sat_clauses.specs.Literal.{opposite}
 use Rattle.sat_clauses.specs.Derivation.{IsUpTo}
 use Rattle.sat_clauses.specs.Hints.{HasNoOpposites}
-use Rattle.cut_frames.specs.Guarding.{places_of}
-use Rattle.cut_frames.specs.Apart.{apart_system, apart_list}
+use Rattle.cut_frames.specs.GuardedSearch.{places_of}
+use Rattle.cut_frames.specs.OwnVariables.{apart_system, apart_list}
 use Rattle.cut_frames.specs.declared.guarded.Beside.TheVariants.{Nothing}
 use Rattle.cut_frames.proofs.ApartLaws.{unsat_told}
 use Rattle.cut_frames.proofs.PartLemmas.{part_all, turned_part, first_core, turned_up_to, turned_apart}

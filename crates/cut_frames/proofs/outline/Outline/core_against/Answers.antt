@@ -6,8 +6,8 @@ use Rattle.sat_clauses.specs.Literal.{Literal, opposite}
 use Rattle.sat_clauses.specs.Derivation.{IsUpTo}
 use Rattle.sat_clauses.specs.Hints.{HasNoOpposites}
 use Rattle.cut_frames.specs.Bits.{literals_from}
-use Rattle.cut_frames.specs.Guarding.{places_of}
-use Rattle.cut_frames.specs.Apart.{apart_system, apart_list}
+use Rattle.cut_frames.specs.GuardedSearch.{places_of}
+use Rattle.cut_frames.specs.OwnVariables.{apart_system, apart_list}
 use Rattle.cut_frames.specs.Parts.{IsPart, IsOfFirst}
 use Rattle.cut_frames.specs.declared.guarded.Beside.TheVariants.{Nothing}
 use Rattle.cut_frames.proofs.ApartLaws.{sat_told, unsat_told}

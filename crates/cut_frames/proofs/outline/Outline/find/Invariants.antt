@@ -1,6 +1,6 @@
 -- What is told of the bits so far holds of each first state.
 use Rattle.std.proofs.Common.{◌≡◌, length}
-use Rattle.cut_frames.specs.Guarding.{HasAsked}
+use Rattle.cut_frames.specs.GuardedSearch.{HasAsked}
 use Rattle.cut_frames.specs.Parts.{AreAgreed, IsAskable}
 use Rattle.cut_frames.proofs.outline.Outline.find.Given as goal
 

@@ -1,7 +1,7 @@
 use Rattle.std.proofs.Common.{sym, ◌∙◌, subst}
 use Rattle.smv_language.specs.ModelTree.{model_tree, flat_tree}
 use Rattle.cut_search_laws.specs.Problem.{problem_of}
-use Rattle.cut_search_laws.specs.Searched.{AreHistory}
+use Rattle.cut_search_laws.specs.FlatSearch.{AreHistory}
 use Rattle.cut_search_laws.proofs.HistoryTells.{history_serves}
 use Rattle.cut_model_search.specs.Wholes.{modes_of}
 use Rattle.cut_model_search.proofs.faulty.FaultyEncoded.history.Goals as goal

@@ -1,5 +1,5 @@
 use Rattle.std.proofs.Common.{sym, ◌∙◌, ap}
-use Rattle.smv_types.specs.Numbering.{number_from}
+use Rattle.smv_types.specs.SymbolNumbering.{number_from}
 use Rattle.cut_report.proofs.LookupLaws.{place_found, place_within, no_place}
 use Rattle.cut_report.proofs.lookup.Lookup.place.Goals as goal
 

@@ -1,6 +1,6 @@
 use Rattle.std.proofs.Common.{map, ◌∙◌, ap}
 use Rattle.smv_language.specs.ProgramTree.{Text}
-use Rattle.fault_rules.specs.Keyed.{with_pair}
+use Rattle.fault_rules.specs.KeyedLists.{with_pair}
 use Rattle.fault_rules.proofs.KeyedLaws.{put_pair}
 use Rattle.fault_rules.proofs.targets.Targets.add.Goals as goal
 

@@ -1,5 +1,5 @@
 use Rattle.std.proofs.Common.{◌∙◌, ap}
-use Rattle.fault_rules.specs.Keyed.{is_pair_among}
+use Rattle.fault_rules.specs.KeyedLists.{is_pair_among}
 use Rattle.fault_rules.proofs.KeyedLaws.{any_pair}
 use Rattle.fault_rules.proofs.targets.Targets.has.Goals as goal
 

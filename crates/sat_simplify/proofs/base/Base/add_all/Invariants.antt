@@ -1,5 +1,5 @@
 use Rattle.std.proofs.Common.{take}
-use Rattle.sat_simplify.specs.Based.{AddsAll}
+use Rattle.sat_simplify.specs.ClauseBase.{AddsAll}
 use Rattle.sat_simplify.proofs.base.Base.add_all.Given as goal
 
 abbrev pub invariant-loop-clause : goal.invariant-loop-clause

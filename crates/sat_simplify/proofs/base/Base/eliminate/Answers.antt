@@ -1,5 +1,5 @@
 use Rattle.std.proofs.Common.{◌≡◌, true, subst, arith}
-use Rattle.sat_simplify.specs.Meeting.{IsOwn}
+use Rattle.sat_simplify.specs.SamePlaces.{IsOwn}
 use Rattle.sat_simplify.proofs.BaseLaws.{becomes_eliminated}
 use Rattle.sat_simplify.proofs.base.Base.eliminate.Goals as goal
 

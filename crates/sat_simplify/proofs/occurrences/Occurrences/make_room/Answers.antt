@@ -1,5 +1,5 @@
 use Rattle.std.proofs.Common.{◌≡◌, ℕ, List, [], ◌∷◌, ◌++◌, subst, sym, ap, ◌∙◌}
-use Rattle.sat_simplify.specs.Occurring.{KeepsNotes}
+use Rattle.sat_simplify.specs.OccurrenceLists.{KeepsNotes}
 use Rattle.sat_simplify.proofs.OccurringLaws.{keeps_grown, keeps_all}
 use Rattle.sat_simplify.proofs.occurrences.Occurrences.make_room.Goals as goal
 

@@ -1,5 +1,5 @@
 use Rattle.std.proofs.Common.{◌+◌, ◌-◌, length}
-use Rattle.sat_simplify.specs.Occurring.{KeepsNotes}
+use Rattle.sat_simplify.specs.OccurrenceLists.{KeepsNotes}
 use Rattle.sat_simplify.proofs.occurrences.Occurrences.make_room.Given as goal
 
 abbrev pub invariant-loop-self : goal.invariant-loop-self

@@ -1,5 +1,5 @@
 use Rattle.std.proofs.Common.{take}
-use Rattle.sat_simplify.specs.Occurring.{HasNoted}
+use Rattle.sat_simplify.specs.OccurrenceLists.{HasNoted}
 use Rattle.sat_simplify.proofs.occurrences.Occurrences.note_clause.Given as goal
 
 abbrev pub invariant-loop-lit : goal.invariant-loop-lit

@@ -2,7 +2,7 @@ use Rattle.std.proofs.Common.{◌≡◌, ℕ, ◌+◌, ◌-◌, Bool, false, Lis
 use Rattle.std.specs.Prelude.{slice_get}
 use Rattle.sat_clauses.specs.Literal.{Literal}
 use Rattle.sat_clauses.specs.StoreRecord.{StoreValue}
-use Rattle.sat_solver.specs.Alive.{IsAlive}
+use Rattle.sat_solver.specs.LivingClauses.{IsAlive}
 use Rattle.sat_solver.proofs.AliveLemmas.{below, alive_less, alive_more}
 use Rattle.sat_solver.proofs.alive.Alive.look_at.Goals as goal
 

@@ -3,7 +3,7 @@ use Rattle.sat_clauses.specs.StoreRecord.{StoreValue}
 use Rattle.sat_clauses.specs.Derivation.{IsUpTo}
 use Rattle.sat_solver.specs.KeptRecord.{KeptValue}
 use Rattle.sat_solver.specs.Trail.{IsIdle}
-use Rattle.sat_solver.specs.Kept.{IsKept}
+use Rattle.sat_solver.specs.LearnedClauses.{IsKept}
 use Rattle.sat_solver.proofs.KeptLemmas.{kept_from_search, kept_added}
 use Rattle.sat_solver.proofs.kept.Kept.add.Goals as goal
 

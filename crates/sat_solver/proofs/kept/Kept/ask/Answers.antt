@@ -2,9 +2,9 @@ use Rattle.std.proofs.Common.{◌≡◌, ℕ, ◌-◌, ◌++◌, true, List, Boo
 use Rattle.sat_clauses.specs.Derivation.{IsUpTo}
 use Rattle.sat_solver.specs.KeptRecord.{KeptValue}
 use Rattle.sat_solver.specs.Trail.{IsIdle}
-use Rattle.sat_solver.specs.Kept.{HasLearned, IsAnswer, added_of}
+use Rattle.sat_solver.specs.LearnedClauses.{HasLearned, IsAnswer, added_of}
 use Rattle.sat_solver.proofs.KeptLemmas.{kept_from_search, kept_learned, length_with_steps}
-use Rattle.sat_solver.specs.Proposed.{IsRight}
+use Rattle.sat_solver.specs.Proposals.{IsRight}
 use Rattle.sat_solver.proofs.ProposedLemmas.{answer_from_right}
 use Rattle.sat_solver.proofs.kept.Kept.ask.Goals as goal
 

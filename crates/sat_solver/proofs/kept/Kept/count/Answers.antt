@@ -1,7 +1,7 @@
 use Rattle.std.proofs.Common.{ap, ◌∙◌, subst, All}
 use Rattle.sat_clauses.specs.Models.{FollowsFrom}
 use Rattle.sat_solver.specs.KeptRecord.{KeptValue}
-use Rattle.sat_solver.specs.Kept.{added_of}
+use Rattle.sat_solver.specs.LearnedClauses.{added_of}
 use Rattle.sat_solver.proofs.KeptLemmas.{kept_from_search}
 use Rattle.sat_solver.proofs.kept.Kept.count.Goals as goal
 

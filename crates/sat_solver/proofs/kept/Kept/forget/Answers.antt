@@ -2,8 +2,8 @@ use Rattle.std.proofs.Common.{ℕ, List, Bool, All, length, ap, ◌∙◌, subst
 use Rattle.std.specs.Prelude.{Contains}
 use Rattle.sat_solver.specs.KeptRecord.{KeptValue}
 use Rattle.sat_solver.specs.Trail.{IsIdle}
-use Rattle.sat_solver.specs.Kept.{added_of}
-use Rattle.sat_solver.specs.Alive.{IsAlive}
+use Rattle.sat_solver.specs.LearnedClauses.{added_of}
+use Rattle.sat_solver.specs.LivingClauses.{IsAlive}
 use Rattle.sat_solver.proofs.KeptLemmas.{kept_from_search}
 use Rattle.sat_solver.proofs.AliveLemmas.{all_contained, alive_all, kept_alive}
 use Rattle.sat_solver.proofs.kept.Kept.forget.Goals as goal

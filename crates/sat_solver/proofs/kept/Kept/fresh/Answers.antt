@@ -1,7 +1,7 @@
 use Rattle.std.proofs.Common.{◌+◌, ◌<◌, ◌^◌, sym, ap, subst, arith}
 use Rattle.sat_clauses.specs.StoreRecord.{StoreValue}
 use Rattle.sat_solver.specs.Trail.{IsIdle}
-use Rattle.sat_solver.specs.Kept.{IsKept}
+use Rattle.sat_solver.specs.LearnedClauses.{IsKept}
 use Rattle.sat_solver.proofs.FollowLemmas.{idle_more}
 use Rattle.sat_solver.proofs.KeptLemmas.{kept_from_search, kept_more}
 use Rattle.sat_solver.proofs.kept.Kept.fresh.Goals as goal

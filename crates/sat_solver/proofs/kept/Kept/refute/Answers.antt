@@ -2,7 +2,7 @@ use Rattle.std.proofs.Common.{◌≡◌, ℕ, ◌-◌, ◌++◌, true, All, IfSo
 use Rattle.sat_clauses.specs.Derivation.{IsUpTo}
 use Rattle.sat_solver.specs.KeptRecord.{KeptValue}
 use Rattle.sat_solver.specs.Trail.{IsIdle}
-use Rattle.sat_solver.specs.Kept.{HasLearned, IsAnswer, added_of}
+use Rattle.sat_solver.specs.LearnedClauses.{HasLearned, IsAnswer, added_of}
 use Rattle.sat_solver.proofs.KeptLemmas.{kept_from_search, kept_learned, length_with_steps}
 use Rattle.sat_solver.proofs.ProposedLemmas.{refuted_from_right}
 use Rattle.sat_solver.specs.declared.solve.Verdict.TheVariants.{Unsat}

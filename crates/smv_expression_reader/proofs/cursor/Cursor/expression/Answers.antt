@@ -1,9 +1,9 @@
 use Rattle.std.proofs.Common.{◌≡◌, true, sym, ap, ◌∙◌}
 use Rattle.std.specs.Prelude.{Err}
 use Rattle.std.proofs.lemmas.Bool.{not-false}
-use Rattle.smv_expression_reader.specs.Recognise.{start}
+use Rattle.smv_expression_reader.specs.Recogniser.{start}
 use Rattle.smv_expression_reader.specs.Extents.{ends_whole}
-use Rattle.smv_expression_reader.specs.Reads.{deep, expr_at}
+use Rattle.smv_expression_reader.specs.SecondPass.{deep, expr_at}
 use Rattle.smv_expression_reader.proofs.ReadLaws.{expr_high}
 use Rattle.smv_expression_reader.proofs.cursor.Cursor.expression.Goals as goal
 

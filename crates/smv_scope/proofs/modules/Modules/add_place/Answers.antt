@@ -3,7 +3,7 @@ use Rattle.std.proofs.Common.{rules, ◌≡◌, true, false, ◌&&◌, ◌++◌,
 use Rattle.smv_language.specs.ProgramTree.{Text, ModuleTree, module_tree}
 use Rattle.smv_language.specs.Texts.{same_text, is_among}
 use Rattle.smv_flat_laws.specs.Rules.{has_formals, is_module_among}
-use Rattle.smv_scope.specs.Reading.{trees_read, texts_of}
+use Rattle.smv_scope.specs.ModuleFaults.{trees_read, texts_of}
 use Rattle.smv_scope.specs.SceneTree.{named}
 use Rattle.smv_scope.proofs.HeaderLaws.{module_seen, header_by}
 use Rattle.smv_scope.proofs.MapLaws.{seen, stands_last}

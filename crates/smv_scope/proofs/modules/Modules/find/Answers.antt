@@ -4,21 +4,21 @@ use Rattle.std.specs.Prelude.{slice_get}
 use Rattle.std.proofs.lemmas.Option.{slice_get-get_or, slice_get_within as get_less}
 use Rattle.smv_language.specs.ProgramTree.{Text, program_tree}
 use Rattle.smv_language.specs.Scope.{find_module}
-use Rattle.smv_scope.specs.declared.modules.Names.{Names}
-use Rattle.smv_scope.specs.Reading.{IsModuleAt}
+use Rattle.smv_scope.specs.declared.modules.ModuleNames.{ModuleNames}
+use Rattle.smv_scope.specs.ModuleFaults.{IsModuleAt}
 use Rattle.smv_scope.proofs.FoundModule.{not_found, listed, found}
 use Rattle.smv_scope.proofs.modules.Modules.find.Goals as goal
 
 pub index-requires : goal.index-requires
 index-requires c =
-    let there : (names : Names) × (slice_get c.args.self.now.list.items c.in-Some.place.now ≡ Some names) =
+    let there : (names : ModuleNames) × (slice_get c.args.self.now.list.items c.in-Some.place.now ≡ Some names) =
     listed c.args.self.now c.requires c.text.result (Some c.in-Some.place.now) c.in-Some.place.now c.in-Some.ensures.value (search rules) in
     let less : c.in-Some.place.now < length c.args.self.now.list.items = get_less c.args.self.now.list.items c.in-Some.place.now there.0 there.1 in
     search rules
 
 pub returns-in-Some : goal.returns-in-Some
 returns-in-Some c =
-    let there : (names : Names) × (slice_get c.args.self.now.list.items c.in-Some.place.now ≡ Some names) =
+    let there : (names : ModuleNames) × (slice_get c.args.self.now.list.items c.in-Some.place.now ≡ Some names) =
     listed c.args.self.now c.requires c.text.result (Some c.in-Some.place.now) c.in-Some.place.now c.in-Some.ensures.value (search rules) in
     let less : c.in-Some.place.now < length c.args.self.now.list.items = get_less c.args.self.now.list.items c.in-Some.place.now there.0 there.1 in
     let here : slice_get c.args.self.now.list.items c.in-Some.place.now ≡ Some c.index.result.now =

@@ -6,7 +6,7 @@ use Rattle.smv_language.specs.declared.program.Module.{Module}
 use Rattle.smv_language.specs.declared.program.Program.{Program}
 use Rattle.std.specs.Borrow.{Bor}
 use Rattle.smv_scope.specs.Faults.{IsFaultOf}
-use Rattle.smv_scope.specs.Reading.{IsTold, IsReadAfter, module_told, modules_told, trees_read}
+use Rattle.smv_scope.specs.ModuleFaults.{IsTold, IsReadAfter, module_told, modules_told, trees_read}
 use Rattle.smv_scope.proofs.PassedOn.{passed_on}
 use Rattle.smv_scope.proofs.ModuleFaults.{main_kept, modules_fault}
 use Rattle.smv_scope.proofs.ReadLaws.{told_fault, told_next, trees_next, all_read}

@@ -1,7 +1,7 @@
 -- The modules so far are read, and what is told of those that are left is told of all.
 use Rattle.std.proofs.Common.{◌≡◌, suc, ◌++◌, [], drop, map}
 use Rattle.smv_language.specs.ProgramTree.{module_tree, program_tree}
-use Rattle.smv_scope.specs.Reading.{AreRead, modules_told, trees_read}
+use Rattle.smv_scope.specs.ModuleFaults.{AreRead, modules_told, trees_read}
 use Rattle.smv_scope.proofs.modules.Modules.read.Given as goal
 
 abbrev pub invariant-loop-module : goal.invariant-loop-module

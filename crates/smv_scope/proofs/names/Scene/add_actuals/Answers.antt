@@ -1,7 +1,7 @@
 -- One actual more.
 use Rattle.std.proofs.Common.{◌<◌, ◌≤◌, length, map, rules, sym, subst}
 use Rattle.std.proofs.lemmas.List.{length-map}
-use Rattle.smv_language.specs.Written.{tree_of}
+use Rattle.smv_language.specs.ExpressionTree.{tree_of}
 use Rattle.smv_scope.proofs.Naming.{program_same, same_then}
 use Rattle.smv_scope.proofs.NamingItems.{one_actual, all_actuals, tree_there}
 use Rattle.smv_scope.proofs.names.Scene.add_actuals.Goals as goal

@@ -1,7 +1,7 @@
 -- The actuals so far have their numbers.
 use Rattle.std.proofs.Common.{map}
-use Rattle.smv_language.specs.Written.{tree_of}
-use Rattle.smv_scope.specs.Laid.{IsSameProgram}
+use Rattle.smv_language.specs.ExpressionTree.{tree_of}
+use Rattle.smv_scope.specs.NumberedScenes.{IsSameProgram}
 use Rattle.smv_scope.proofs.NamingItems.{NamedActuals}
 use Rattle.smv_scope.proofs.names.Scene.add_actuals.Given as goal
 

@@ -1,6 +1,6 @@
 -- One instance more.
 use Rattle.std.proofs.Common.{◌+◌, ◌<◌, length, rules, ◌∙◌}
-use Rattle.smv_scope.specs.Laid.{IsNamedTo}
+use Rattle.smv_scope.specs.NumberedScenes.{IsNamedTo}
 use Rattle.smv_scope.proofs.NamingItems.{one_named, same_many}
 use Rattle.smv_scope.proofs.names.Scene.add_definitions.Goals as goal
 

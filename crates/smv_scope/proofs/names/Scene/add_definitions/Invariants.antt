@@ -1,6 +1,6 @@
 -- The instances so far have their numbers.
 use Rattle.std.proofs.Common.{◌≡◌, length}
-use Rattle.smv_scope.specs.Laid.{IsNamedTo}
+use Rattle.smv_scope.specs.NumberedScenes.{IsNamedTo}
 use Rattle.smv_scope.proofs.names.Scene.add_definitions.Given as goal
 
 abbrev pub invariant-loop-spot : goal.invariant-loop-spot

@@ -1,7 +1,7 @@
 -- The formals of one instance more.
 use Rattle.std.proofs.Common.{◌≡◌, length, rules, sym, subst}
 use Rattle.smv_scope.specs.SceneTree.{program_of}
-use Rattle.smv_scope.specs.Known.{AreTold}
+use Rattle.smv_scope.specs.KnownFormals.{AreTold}
 use Rattle.smv_scope.proofs.Unknowns.{unknown_more, unknown_told}
 use Rattle.smv_scope.proofs.names.Scene.add_formals.Goals as goal
 

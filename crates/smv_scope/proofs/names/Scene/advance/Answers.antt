@@ -3,8 +3,8 @@ use Rattle.std.proofs.Common.{◌≡◌, ◌∷◌, sym, ◌∙◌, ap, subst}
 use Rattle.smv_language.specs.ProgramTree.{Text, Path}
 use Rattle.smv_scope.specs.SceneTree.{program_of}
 use Rattle.smv_scope.specs.Steps.{known_at}
-use Rattle.smv_scope.specs.Known.{rows}
-use Rattle.smv_scope.specs.Waiting.{IsProgress}
+use Rattle.smv_scope.specs.KnownFormals.{rows}
+use Rattle.smv_scope.specs.WaitingLookUps.{IsProgress}
 use Rattle.smv_scope.proofs.Frames.{advance_waits, advance_last, advance_more, first_is, tail_taken, last_empty, some_more}
 use Rattle.smv_scope.proofs.names.Scene.advance.Goals as goal
 

@@ -1,7 +1,7 @@
 -- Each look-up on the stack waits for the next one, and each turn leaves less to do.
 use Rattle.std.proofs.Common.{◌≡◌, true}
-use Rattle.smv_scope.specs.Known.{rows, formal_of, IsOpen, IsSameButFormals}
-use Rattle.smv_scope.specs.Waiting.{has_frame, IsWaiting, AreSettled, work}
+use Rattle.smv_scope.specs.KnownFormals.{rows, formal_of, IsOpen, IsSameButFormals}
+use Rattle.smv_scope.specs.WaitingLookUps.{has_frame, IsWaiting, AreSettled, work}
 use Rattle.smv_scope.proofs.names.Scene.answer_formal.Given as goal
 
 abbrev pub decreases-loop-frame : goal.decreases-loop-frame

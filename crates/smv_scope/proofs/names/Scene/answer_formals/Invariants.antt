@@ -1,7 +1,7 @@
 -- The formals of the instances so far are answered.
 use Rattle.std.proofs.Common.{ℕ, ◌<◌}
-use Rattle.smv_scope.specs.Known.{rows, IsSameButFormals}
-use Rattle.smv_scope.specs.Waiting.{IsReady, IsRowAnswered}
+use Rattle.smv_scope.specs.KnownFormals.{rows, IsSameButFormals}
+use Rattle.smv_scope.specs.WaitingLookUps.{IsReady, IsRowAnswered}
 use Rattle.smv_scope.proofs.names.Scene.answer_formals.Given as goal
 
 abbrev pub invariant-loop-spot : goal.invariant-loop-spot

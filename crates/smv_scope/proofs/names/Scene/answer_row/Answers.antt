@@ -1,8 +1,8 @@
 -- A formal of the instance.
 use Rattle.std.proofs.Common.{◌≡◌, false, ◌+◌, ◌<◌, ◌≤◌, rules, sym, subst}
-use Rattle.smv_scope.specs.FoundAt.{formal_at}
+use Rattle.smv_scope.specs.TableLookUps.{formal_at}
 use Rattle.smv_scope.specs.Steps.{is_open, row_count}
-use Rattle.smv_scope.specs.Waiting.{IsFormal}
+use Rattle.smv_scope.specs.WaitingLookUps.{IsFormal}
 use Rattle.smv_scope.proofs.Naming.{program_same}
 use Rattle.smv_scope.proofs.Turns.{formal_there}
 use Rattle.smv_scope.proofs.Answered.{RowTo, row_more, row_kept, row_done}

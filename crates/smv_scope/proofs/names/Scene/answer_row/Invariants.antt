@@ -1,7 +1,7 @@
 -- The formals so far are answered.
 use Rattle.std.proofs.Common.{ℕ, ◌<◌}
-use Rattle.smv_scope.specs.Known.{rows, formal_of, IsOpen, IsSameButFormals}
-use Rattle.smv_scope.specs.Waiting.{IsReady, AreSettled}
+use Rattle.smv_scope.specs.KnownFormals.{rows, formal_of, IsOpen, IsSameButFormals}
+use Rattle.smv_scope.specs.WaitingLookUps.{IsReady, AreSettled}
 use Rattle.smv_scope.proofs.names.Scene.answer_row.Given as goal
 
 abbrev pub invariant-loop-formal : goal.invariant-loop-formal

@@ -1,7 +1,7 @@
 -- The look-ups that are taken off so far are answered, and that of the formal stands below.
 use Rattle.std.proofs.Common.{◌≡◌, true, length}
-use Rattle.smv_scope.specs.Known.{rows, IsSameButFormals}
-use Rattle.smv_scope.specs.Waiting.{has_frame, IsClosing}
+use Rattle.smv_scope.specs.KnownFormals.{rows, IsSameButFormals}
+use Rattle.smv_scope.specs.WaitingLookUps.{has_frame, IsClosing}
 use Rattle.smv_scope.proofs.names.Scene.close_circle.Given as goal
 
 abbrev pub decreases-loop-left : goal.decreases-loop-left

@@ -1,5 +1,5 @@
 -- The items so far have their numbers.
-use Rattle.smv_scope.specs.Laid.{IsSameProgram}
+use Rattle.smv_scope.specs.NumberedScenes.{IsSameProgram}
 use Rattle.smv_scope.proofs.NamingItems.{NamedItems}
 use Rattle.smv_scope.proofs.names.Scene.define_items.Given as goal
 

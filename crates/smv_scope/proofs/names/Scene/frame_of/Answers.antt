@@ -1,7 +1,7 @@
 -- The look-up of a formal begins at its actual.
 use Rattle.std.proofs.Common.{◌≡◌, ◌<◌, ◌≤◌, arith, Some, None, length, get_or, rules, refl, sym, ◌∙◌, ap, subst}
 use Rattle.smv_language.specs.ProgramTree.{Path}
-use Rattle.smv_language.specs.Written.{tree_of}
+use Rattle.smv_language.specs.ExpressionTree.{tree_of}
 use Rattle.smv_language.specs.Scope.{plain_name}
 use Rattle.smv_scope.proofs.Frames.{frame_made}
 use Rattle.smv_scope.proofs.Actuals.{spot_within, own_within, own_plain}

@@ -3,7 +3,7 @@ use lib.Pointwise.{pointwise}
 use Rattle.std.proofs.Common.{ap, ◌∙◌, Bor, List, ℕ}
 use Rattle.std.specs.Prelude.{nat_eq}
 use Rattle.std.specs.Map.{lookup}
-use Rattle.smv_scope.specs.FoundAt.{local_in}
+use Rattle.smv_scope.specs.TableLookUps.{local_in}
 use Rattle.smv_scope.proofs.Tables.{looked_up}
 use Rattle.smv_scope.proofs.names.Scene.local.Goals as goal
 

@@ -1,6 +1,6 @@
 -- What the parts that are left mean at the instance reached is what all mean.
 use Rattle.std.proofs.Common.{◌≡◌, length}
-use Rattle.smv_scope.specs.FoundAt.{found_at}
+use Rattle.smv_scope.specs.TableLookUps.{found_at}
 use Rattle.smv_scope.proofs.names.Scene.look_up.Given as goal
 
 abbrev pub decreases-loop-rest : goal.decreases-loop-rest

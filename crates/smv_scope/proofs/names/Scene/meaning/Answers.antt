@@ -1,7 +1,7 @@
 -- What the tables tell is what is found.
 use Rattle.std.proofs.Common.{◌∙◌, ap, sym, subst}
 use Rattle.smv_scope.specs.SceneTree.{IsFound, program_of}
-use Rattle.smv_scope.specs.FoundAt.{found_at}
+use Rattle.smv_scope.specs.TableLookUps.{found_at}
 use Rattle.smv_scope.proofs.SceneFound.{scene_found}
 use Rattle.smv_scope.proofs.names.Scene.meaning.Goals as goal
 

@@ -2,7 +2,7 @@
 use lib.Pointwise.{pointwise}
 use Rattle.std.proofs.Common.{ℕ, List, ap, ◌∙◌, Bor}
 use Rattle.std.specs.Prelude.{nat_eq, position}
-use Rattle.smv_scope.specs.FoundAt.{symbol_or}
+use Rattle.smv_scope.specs.TableLookUps.{symbol_or}
 use Rattle.smv_scope.proofs.Tables.{placed}
 use Rattle.smv_scope.proofs.names.Scene.symbol.Goals as goal
 

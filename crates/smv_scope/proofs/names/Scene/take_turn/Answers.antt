@@ -1,7 +1,7 @@
 -- One turn of the topmost look-up.
 use Rattle.std.proofs.Common.{◌≡◌, [], ◌∷◌, ◌++◌, true, false, rules}
 use Rattle.std.proofs.lemmas.Result.{on_ok_weaker}
-use Rattle.smv_scope.specs.FoundAt.{formal_at}
+use Rattle.smv_scope.specs.TableLookUps.{formal_at}
 use Rattle.smv_scope.specs.Steps.{is_open}
 use Rattle.smv_scope.proofs.Turns.{taken, taken_turn, gone_on, on_turned, waits_last, waits_open, ended_turn, ended_turned, open_from, not_open}
 use Rattle.smv_scope.proofs.names.Scene.take_turn.Goals as goal

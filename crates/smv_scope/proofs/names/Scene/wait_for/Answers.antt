@@ -1,9 +1,9 @@
 -- A circle closes.
 use Rattle.std.proofs.Common.{◌≡◌, true, ◌&&◌, rules, subst}
-use Rattle.smv_scope.specs.FoundAt.{formal_at}
+use Rattle.smv_scope.specs.TableLookUps.{formal_at}
 use Rattle.smv_scope.specs.Steps.{is_begun}
-use Rattle.smv_scope.specs.Known.{rows}
-use Rattle.smv_scope.specs.Waiting.{has_frame, IsCircled}
+use Rattle.smv_scope.specs.KnownFormals.{rows}
+use Rattle.smv_scope.specs.WaitingLookUps.{has_frame, IsCircled}
 use Rattle.smv_scope.proofs.Turns.{circle_closed, circle_turned}
 use Rattle.smv_scope.proofs.names.Scene.wait_for.Goals as goal
 use Rattle.smv_language.proofs.BoolLaws.{right_true}

@@ -2,7 +2,7 @@
 use Rattle.std.proofs.Common.{◌≡◌, ◌++◌, map, drop}
 use Rattle.smv_language.specs.Trace.{Each}
 use Rattle.smv_scope.specs.Links.{rows}
-use Rattle.smv_scope.specs.Naming.{needs_of, inputs_from, AreFoundIn}
+use Rattle.smv_scope.specs.DefinitionNeeds.{needs_of, inputs_from, AreFoundIn}
 use Rattle.smv_scope.proofs.needs.Named.of_scene.Given as goal
 
 abbrev pub invariant-loop-definition : goal.invariant-loop-definition

@@ -1,7 +1,7 @@
 -- All names are read.
 use Rattle.std.proofs.Common.{rules, ◌≡◌, false, ◌≤◌, length}
-use Rattle.smv_language.specs.Written.{tree_of}
-use Rattle.smv_scope.specs.Flagged.{flagged}
+use Rattle.smv_language.specs.ExpressionTree.{tree_of}
+use Rattle.smv_scope.specs.NextFlags.{flagged}
 use Rattle.smv_scope.proofs.NamingLaws.{all_needed, all_read, all_found}
 use Rattle.smv_scope.proofs.needs.NamedBy.of_defined.Goals as goal
 

@@ -1,7 +1,7 @@
 -- What is named so far, with what is left, is all.
 use Rattle.std.proofs.Common.{◌≡◌, ◌||◌, ◌++◌, drop}
 use Rattle.smv_language.specs.Trace.{Each}
-use Rattle.smv_scope.specs.Naming.{needs_in, reads_in, IsFoundAt, first_names}
+use Rattle.smv_scope.specs.DefinitionNeeds.{needs_in, reads_in, IsFoundAt, first_names}
 use Rattle.smv_scope.proofs.needs.NamedBy.of_defined.Given as goal
 
 abbrev pub invariant-loop-each : goal.invariant-loop-each

@@ -1,7 +1,7 @@
 -- What is found by numbers is what the program asks for by keys.
 use Rattle.std.proofs.Common.{rules, ◌≡◌, ℕ, List, length, replicate, ap, ◌∙◌, subst}
 use Rattle.smv_scope.specs.Links.{graph_of, AreReached}
-use Rattle.smv_scope.specs.Laying.{placed_from}
+use Rattle.smv_scope.specs.DefinitionOrder.{placed_from}
 use Rattle.smv_scope.proofs.SceneNeeds.{links_into, are_needs}
 use Rattle.smv_scope.proofs.needs.Needs.of_scene.Goals as goal
 

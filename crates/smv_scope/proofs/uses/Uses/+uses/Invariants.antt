@@ -1,7 +1,7 @@
 -- What is seen so far, with what is left, is what all of it gives.
 use Rattle.std.proofs.Common.{◌≡◌, drop}
-use Rattle.smv_language.specs.Written.{trees_of, branches_of}
-use Rattle.smv_scope.specs.Seen.{seen_in, seen_after_trees, seen_after_branches}
+use Rattle.smv_language.specs.ExpressionTree.{trees_of, branches_of}
+use Rattle.smv_scope.specs.SeenNames.{seen_in, seen_after_trees, seen_after_branches}
 use Rattle.smv_scope.proofs.uses.Uses.+uses.Given as goal
 
 abbrev pub invariant-add_members-loop-member : goal.invariant-add_members-loop-member

@@ -5,17 +5,17 @@ use Rattle.std.proofs.lemmas.List.{length-append, length-map}
 use Rattle.std.proofs.lemmas.Option.{slice_get-get_or, slice_get_within as get_less}
 use Rattle.smv_language.specs.ProgramTree.{Text, Path, instance, declared_tree}
 use Rattle.smv_language.specs.declared.expr.Expr.{Expr}
-use Rattle.smv_language.specs.Written.{tree_of}
+use Rattle.smv_language.specs.ExpressionTree.{tree_of}
 use Rattle.smv_scope.specs.declared.items.Numbered.{Numbered}
 use Rattle.smv_scope.specs.declared.modules.Modules.{Modules}
-use Rattle.smv_scope.specs.declared.modules.Names.{Names}
+use Rattle.smv_scope.specs.declared.modules.ModuleNames.{ModuleNames}
 use Rattle.smv_scope.specs.declared.walk.Spot.{Spot}
 use Rattle.smv_scope.specs.declared.walk.Walk.{Walk}
 use Rattle.smv_scope.specs.declared.walk.Meaning.{Meaning as Found}
 use Rattle.smv_scope.specs.ItemTree.{numbered_tree}
 use Rattle.smv_language.specs.ModelTree.{role_of}
-use Rattle.smv_scope.specs.Reading.{IsTold}
-use Rattle.smv_scope.specs.Walking.{program_in, on_path_of, visits_at, visits_here, visits_within, visits_told, told_from, instance_told, declared_item, HasMet, IsEntry, IsStanding}
+use Rattle.smv_scope.specs.ModuleFaults.{IsTold}
+use Rattle.smv_scope.specs.InstanceWalk.{program_in, on_path_of, visits_at, visits_here, visits_within, visits_told, told_from, instance_told, declared_item, HasMet, IsEntry, IsStanding}
 use Rattle.smv_scope.proofs.PassedOn.{passed_on}
 use Rattle.smv_scope.proofs.ReadingLaws.{told_as, told_later, none_first}
 use Rattle.smv_scope.proofs.GoneLaws.{GoneSoFar, gone_none, gone_fault, gone_more}
@@ -82,7 +82,7 @@ add_instance-returns-clause-kept t c =
 pub enter-go_through-requires : goal.enter-go_through-requires
 enter-go_through-requires t c =
     let ms : Modules = c.args.modules.now in
-    let names : Names = c.index-names.result.now in
+    let names : ModuleNames = c.index-names.result.now in
     let w1 : Walk = record { spots = c.push.new.self; variables = c.args.self.now.variables; inside = c.push-2.new.self } in
     let less : c.args.spot.«module» < length ms.list.items = get_less ms.list.items c.args.spot.«module» c.requires.entry.names c.requires.entry.is.listed in
     let listed : slice_get ms.list.items c.args.spot.«module» ≡ Some names = slice_get-get_or ms.list.items c.args.spot.«module» names less ∙ ap Some (sym c.index-names.ensures) in
@@ -98,7 +98,7 @@ enter-go_through-requires t c =
 pub enter-returns-in_err-own-clause-fault : goal.enter-returns-in_err-own-clause-fault
 enter-returns-in_err-own-clause-fault t c =
     let ms : Modules = c.args.modules.now in
-    let names : Names = c.index-names.result.now in
+    let names : ModuleNames = c.index-names.result.now in
     let w1 : Walk = record { spots = c.push.new.self; variables = c.args.self.now.variables; inside = c.push-2.new.self } in
     let less : c.args.spot.«module» < length ms.list.items = get_less ms.list.items c.args.spot.«module» c.requires.entry.names c.requires.entry.is.listed in
     let listed : slice_get ms.list.items c.args.spot.«module» ≡ Some names = slice_get-get_or ms.list.items c.args.spot.«module» names less ∙ ap Some (sym c.index-names.ensures) in
@@ -114,7 +114,7 @@ enter-returns-in_err-own-clause-fault t c =
 pub enter-returns-clause-entered : goal.enter-returns-clause-entered
 enter-returns-clause-entered t c =
     let ms : Modules = c.args.modules.now in
-    let names : Names = c.index-names.result.now in
+    let names : ModuleNames = c.index-names.result.now in
     let w1 : Walk = record { spots = c.push.new.self; variables = c.args.self.now.variables; inside = c.push-2.new.self } in
     let less : c.args.spot.«module» < length ms.list.items = get_less ms.list.items c.args.spot.«module» c.requires.entry.names c.requires.entry.is.listed in
     let listed : slice_get ms.list.items c.args.spot.«module» ≡ Some names = slice_get-get_or ms.list.items c.args.spot.«module» names less ∙ ap Some (sym c.index-names.ensures) in
@@ -126,7 +126,7 @@ enter-returns-clause-entered t c =
 pub enter-returns-clause-kept : goal.enter-returns-clause-kept
 enter-returns-clause-kept t c =
     let ms : Modules = c.args.modules.now in
-    let names : Names = c.index-names.result.now in
+    let names : ModuleNames = c.index-names.result.now in
     let w1 : Walk = record { spots = c.push.new.self; variables = c.args.self.now.variables; inside = c.push-2.new.self } in
     let less : c.args.spot.«module» < length ms.list.items = get_less ms.list.items c.args.spot.«module» c.requires.entry.names c.requires.entry.is.listed in
     let listed : slice_get ms.list.items c.args.spot.«module» ≡ Some names = slice_get-get_or ms.list.items c.args.spot.«module» names less ∙ ap Some (sym c.index-names.ensures) in

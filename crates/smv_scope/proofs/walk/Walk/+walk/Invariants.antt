@@ -1,6 +1,6 @@
 -- The modules that the walk isn't in yet go down from an instance to those inside it.
 use Rattle.std.proofs.Common.{◌+◌, ◌-◌, ◌*◌, length}
-use Rattle.smv_scope.specs.Closed.{AreVariables}
+use Rattle.smv_scope.specs.ClosedModels.{AreVariables}
 use Rattle.smv_scope.proofs.GoneLaws.{GoneSoFar}
 use Rattle.smv_scope.proofs.walk.Walk.+walk.Given as goal
 

@@ -1,6 +1,6 @@
 -- The walk from `main` on.
 use Rattle.smv_scope.specs.Faults.{IsFaultOf}
-use Rattle.smv_scope.specs.Walking.{program_in}
+use Rattle.smv_scope.specs.InstanceWalk.{program_in}
 use Rattle.smv_scope.proofs.PassedOn.{passed_on}
 use Rattle.smv_scope.proofs.WholeLaws.{main_enters, whole_fault, whole_met}
 use Rattle.smv_scope.proofs.walk.Walk.whole.Goals as goal

@@ -2,7 +2,7 @@ use Rattle.std.proofs.Common.{◌-ℤ◌, arith, rules}
 use Rattle.std.proofs.lemmas.Int.{ints, to_z-of_z}
 use mir.Syntax.{w64}
 use mir.Val.{SFits}
-use Rattle.smv_types.specs.Told.{IsSmall}
+use Rattle.smv_types.specs.NumberAnswers.{IsSmall}
 use Rattle.smv_types.proofs.IntervalLaws.{difference_fits}
 use Rattle.smv_types.proofs.interval.Interval.minus.Goals as goal
 

@@ -2,7 +2,7 @@ use Rattle.std.proofs.Common.{◌≡◌, ◌∙◌, ◌*ℤ◌, rules}
 use Rattle.std.proofs.lemmas.Int.{to_z-of_z}
 use mir.Syntax.{w64}
 use mir.Val.{SFits}
-use Rattle.smv_types.specs.Told.{fitting}
+use Rattle.smv_types.specs.NumberAnswers.{fitting}
 use Rattle.smv_type_laws.specs.Intervals.{hull, just}
 use Rattle.smv_types.proofs.IntervalLaws.{by_corners}
 use Rattle.smv_types.proofs.interval.Interval.times.Goals as goal

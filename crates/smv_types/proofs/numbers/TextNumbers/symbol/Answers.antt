@@ -1,5 +1,5 @@
 use Rattle.std.proofs.Common.{◌≡◌, ◌∙◌, ap, sym, Some, arith}
-use Rattle.smv_types.specs.Numbering.{number_from}
+use Rattle.smv_types.specs.SymbolNumbering.{number_from}
 use Rattle.smv_types.proofs.NumberingLaws.{number_told, number_after}
 use Rattle.smv_types.proofs.numbers.TextNumbers.symbol.Goals as goal
 

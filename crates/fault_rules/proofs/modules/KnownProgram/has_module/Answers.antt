@@ -1,0 +1,14 @@
+use Rattle.std.proofs.Common.{◌∙◌, sym, ap, is_some}
+use Rattle.smv_language.specs.ProgramTree.{program_tree}
+use Rattle.fault_rules.specs.Locals.{locals_in, scopes_in}
+use Rattle.fault_rules.proofs.KeyedLaws.{has_key}
+use Rattle.fault_rules.proofs.LocalLaws.{missing_is}
+use Rattle.fault_rules.proofs.modules.KnownProgram.has_module.Goals as goal
+use Rattle.smv_language.specs.Texts.{first_with}
+use Rattle.smv_language.specs.Values.{opposite}
+
+pub returns : goal.returns
+returns c =
+    missing_is (program_tree c.args.self.now.program.now) c.args.name.now ∙ ap (λ s. opposite (is_some (first_with s c.args.name.now))) (sym c.requires.scopes)
+    ∙ ap (λ x. opposite (is_some (first_with (scopes_in c.args.self.now) x))) (sym c.text.ensures)
+    ∙ ap opposite (sym (has_key (λ k. k.now) locals_in c.args.self.now.scopes.entries c.text.result.now)) ∙ ap opposite (sym c.contains_key.ensures)

@@ -1,8 +1,0 @@
-use Rattle.std.proofs.Common.{◌≡◌, map, drop}
-use Rattle.smv_language.specs.ProgramTree.{decl_tree}
-use Rattle.fault_rules.specs.Keyed.{with_entries}
-use Rattle.fault_rules.specs.Locals.{variable_entry, locals_in}
-use Rattle.fault_rules.proofs.modules.Scope.add_variables.Given as goal
-
-abbrev pub invariant-loop-decl : goal.invariant-loop-decl
-invariant-loop-decl l = with_entries (locals_in l.self) (map variable_entry (map decl_tree (drop l.decl-index l.decls))) ≡ with_entries (locals_in l.initial.self) (map variable_entry (map decl_tree l.decls))

@@ -1,0 +1,28 @@
+-- The limits of faults and of modes.
+use Rattle.std.specs.Prelude.{ℕ, suc, ◌+◌, ◌*◌, nat_lt, Bool, false, ◌||◌, List, [], ◌∷◌, Option, Some, None, length, if◌then◌else◌}
+use Rattle.smv_language.specs.ProgramTree.{Text}
+use Rattle.smv_language.specs.Texts.{same_text}
+use Rattle.fault_rules.specs.Sites.{OwnedSlice, Site, an_extension, a_slice, a_mode}
+use Rattle.fault_rules.specs.declared.fault.InstructionRule.{InstructionRule}
+use Rattle.fault_rules.specs.declared.fault.InstructionRule.TheVariants.{TooManyFaults}
+
+-- the number of instances of a module, where the modules of all instances are listed
+abbrev pub instances_of : List Text → Text → ℕ
+instances_of [] m = 0
+instances_of (o ∷ os) m = if same_text o m then suc (instances_of os m) else instances_of os m
+
+-- the number of faults of slices
+abbrev pub faults_of : List Text → List OwnedSlice → ℕ
+faults_of instances [] = 0
+faults_of instances (o ∷ os) = length o.slice.modes * instances_of instances o.owner + faults_of instances os
+
+-- with this mode there are more than 256 faults, or its slice has more than 256 modes
+abbrev pub is_one_too_many : List Text → Site → Bool
+is_one_too_many instances (an_extension m) = false
+is_one_too_many instances (a_slice before o) = false
+is_one_too_many instances (a_mode before o earlier m) =
+    nat_lt 255 (length earlier) || nat_lt 256 (faults_of instances before + (suc (length earlier) * instances_of instances o.owner))
+
+-- the limit as a rule of the item
+abbrev pub count_broken_at : List Text → Site → Option InstructionRule
+count_broken_at instances site = if is_one_too_many instances site then Some TooManyFaults else None
