@@ -35,7 +35,6 @@ tiny_system = record {
       (yes' 1 ∷ []) ∷ (no 4 ∷ yes' 2 ∷ no 1 ∷ []) ∷ (no 4 ∷ no 2 ∷ yes' 1 ∷ []) ∷ (yes' 4 ∷ no 2 ∷ no 1 ∷ []) ∷ (yes' 4 ∷ yes' 2 ∷ yes' 1 ∷ []) ∷ (no 4 ∷ []) ∷ [];
   step =
       (yes' 1 ∷ []) ∷ (no 4 ∷ yes' 3 ∷ yes' 2 ∷ []) ∷ (no 4 ∷ no 3 ∷ no 2 ∷ []) ∷ (yes' 4 ∷ no 3 ∷ yes' 2 ∷ []) ∷ (yes' 4 ∷ yes' 3 ∷ no 2 ∷ []) ∷ (no 4 ∷ []) ∷ [];
-  state = (yes' 1 ∷ []) ∷ [];
 }
 
 abbrev tiny_subject : Subject
