@@ -11,6 +11,7 @@ pub mod BitLemmas
 pub mod LookLemmas
 pub mod PushLemmas
 pub mod OwedLemmas
+pub mod RaiseLaws
 pub mod PartLemmas
 pub mod ShrinkLemmas
 pub mod AdvanceLemmas

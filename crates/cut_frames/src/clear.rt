@@ -1,8 +1,8 @@
 //! Clearing the last frame of bad states. A state that is bad, or from which a step leads to an obligation, is an obligation
 //! of its own in the frame one lower; one of the frame of number 0 is a first state and ends a path. Where no
 //! state leads to an obligation, a clause blocks it in the frames up to its own: of the literals of two cores, one of
-//! the first states and one of the steps, as few as are needed. A bad state is shrunk before it is an obligation. `clear_frames` is the
-//! main function.
+//! the first states and one of the steps, as few as are needed. A bad state is shrunk before it is an obligation. Once it is blocked,
+//! what was blocked on the way is tried in higher frames ([`crate::raise`]). `clear_frames` is the main function.
 ghost use Rattle.std.specs.Prelude.{◌≡◌, ◌≤◌, ◌<◌, ◌+◌, ◌-◌, map, All, IfOk, OnOk, OnErr};
 ghost use Rattle.sat_clauses.specs.Literal.{opposite};
 ghost use Rattle.cut_frames.specs.Bits.{literals_from, moved_back};
@@ -22,6 +22,7 @@ use crate::fresh::freshen;
 use crate::guarded::{Beside, Guarded};
 use crate::levels::Levels;
 use crate::outline::Outline;
+use crate::raise::raise_all;
 use crate::shrink::shrink;
 use crate::smaller::{chosen, smaller};
 use crate::steps::StepList;
@@ -159,6 +160,36 @@ fn look_for_step(
     }
 }
 
+/// Looks from a state for one before it in the frame below that of a number.
+pub fn look_against(
+    outline: &mut Outline,
+    system: &System,
+    frames: &Levels,
+    level: usize,
+    state: &State,
+    kept: &mut Guarded,
+    panel: &mut Panel,
+) -> Result<Look, OutOfMemory>
+    requires fit { IsFit system.now }
+    requires framed { IsLevelled system.now frames.now }
+    requires agreed { AreAgreed system.now outline.old.agreed.items }
+    requires some { 0 < level }
+    requires level { level ≤ frames.now.last }
+    requires state { IsState system.now state.now }
+    requires kept { HoldsFrames system.now (frames_of frames.now) kept.old }
+    ensures same { outline.new.agreed.items ≡ outline.old.agreed.items }
+    ensures look { IfOk result (λ look. IsStepLook system.now (frames_of frames.now) level state.now look) }
+    ensures asked { IfOk result (λ _. HasAsked kept.old kept.new) }
+{
+    match outline.core_against(system, state, kept, panel)? {
+        None => Ok(Look::IsFirst),
+        Some(first) => {
+            let look = look_for_step(outline, system, frames, level, state, &first, kept, panel)?;
+            Ok(look)
+        }
+    }
+}
+
 /// Looks from a state of the frame of a number for one before it.
 fn look_before(
     outline: &mut Outline,
@@ -183,13 +214,8 @@ fn look_before(
     if level == 0 {
         return Ok(Look::IsFirst);
     }
-    match outline.core_against(system, state, kept, panel)? {
-        None => Ok(Look::IsFirst),
-        Some(first) => {
-            let look = look_for_step(outline, system, frames, level, state, &first, kept, panel)?;
-            Ok(look)
-        }
-    }
+    let look = look_against(outline, system, frames, level, state, kept, panel)?;
+    Ok(look)
 }
 
 /// The number of the newest of so many obligations' frame.
@@ -301,8 +327,12 @@ pub fn clear_frames(
             Look::Deeper(moment) => owed.push(moment)?,
             Look::Blocked(clause) => {
                 let level = level_of(frames, owed.len());
+                outline.note_blocked(system, level, owed.as_slice(), frames.last)?;
                 block(system, frames, bad, level, clause, kept)?;
                 owed.pop();
+                if owed.is_empty() {
+                    raise_all(outline, system, frames, bad, kept, panel)?;
+                }
             }
         }
     }

@@ -5,10 +5,10 @@
 //! later ones, which every first state makes true. Each frame implies the next, alone and with a step,
 //! from `new` on and whatever `clear` and `advance` answer (`specs/FramesByNumber.antt`). `clear` blocks the bad
 //! states of the last frame, the frontier's, by cores, or finds a path into them, one assignment for each
-//! moment (`specs/Path.antt`); `advance` adds a frame and pushes each clause that every step keeps. Clauses
-//! are compared as sets of literals. What a step, a chain and an inductive list are stands in
-//! `specs/Chain.antt` and `specs/FrameLists.antt`; which systems frames are made of, and which lists they
-//! clear, in `specs/Condition.antt`.
+//! moment (`specs/Path.antt`), and tries what it blocked in higher frames too (`src/raise.rt`); `advance` adds a frame
+//! and pushes each clause that every step keeps. Clauses are compared as sets of literals. What a step, a chain and an
+//! inductive list are stands in `specs/Chain.antt` and `specs/FrameLists.antt`; which systems frames are made of, and
+//! which lists they clear, in `specs/Condition.antt`.
 //!
 //! A clause is kept once, with the number of the highest frame in which it holds, until a clause that says more takes its place
 //! (`src/levels.rt`, `specs/Levels.antt`).
@@ -44,10 +44,12 @@ mod highest;
 mod lasting;
 mod levels;
 mod outline;
+mod raise;
 mod shown;
 mod shrink;
 mod smaller;
 mod steps;
+mod waiting;
 mod weights;
 
 pub use advance::Advanced;

@@ -1,7 +1,8 @@
 //! What is known of the first states: the value that all of them give a bit, where they agree, and some of them. A clause that says such a
 //! value is true in every first state, and one that a known first state breaks is not, so nearly all questions about first states are
 //! answered without the search. [`Outline::find`] asks once, one easy question for each state bit at most; [`Outline::core`] answers
-//! which literals of a clause every first state makes true. Beside that, how often literals stood in clauses that block.
+//! which literals of a clause every first state makes true. Beside that, how often literals stood in clauses that block, and the
+//! states that wait to be raised.
 ghost use Rattle.std.specs.Prelude.{◌≡◌, ◌≤◌, ◌<◌, ◌-◌, ◌^◌, [], IfOk, OnOk, IfSome, Some, None, All, Contains, not, slice_index_or, map};
 ghost use Rattle.sat_clauses.specs.Hints.{HasNoOpposites};
 ghost use Rattle.sat_clauses.specs.Literal.{opposite};
@@ -13,6 +14,7 @@ ghost use Rattle.cut_frames.specs.Parts.{IsPart, IsOfFirst, IsAgreed, AreAgreed,
 
 use crate::bits::{State, broken_by, literals, read, turned};
 use crate::guarded::{Beside, Guarded};
+use crate::waiting::Raised;
 use crate::weights::Weights;
 use base_values::OutOfMemory;
 use sat_adviser::Panel;
@@ -33,6 +35,8 @@ pub struct Outline {
     pub agreed: Vec<Option<bool>>,
     /// How often literals stood in clauses that block.
     pub weights: Weights,
+    /// The states that wait to be blocked in higher frames.
+    pub raised: Raised,
     /// First states that answers have shown, the newest last.
     starts: Vec<State>,
     /// Whether [`Outline::find`] has asked.
@@ -59,6 +63,7 @@ impl Outline {
         Outline {
             agreed: Vec::new(alloc),
             weights: Weights::new(alloc),
+            raised: Raised::new(alloc),
             starts: Vec::new(alloc),
             is_found: false,
         }
@@ -75,6 +80,34 @@ impl Outline {
         }
         self.starts.push(state)?;
         Ok(())
+    }
+
+    /// Has the newest of obligations wait to be blocked in the frame above that of a number, in which a clause blocks it now.
+    pub fn note_blocked(
+        &mut self,
+        system: &System,
+        level: usize,
+        owed: &[Assign],
+        last: usize,
+    ) -> Result<(), OutOfMemory>
+        requires { IsFit system.now }
+        ensures { self.new.agreed.items ≡ self.old.agreed.items }
+    {
+        if level >= last {
+            return Ok(());
+        }
+        match owed.last() {
+            Some(values) => {
+                let state = read(
+                    *self.starts.allocator(),
+                    2,
+                    u64::from(system.state_bits),
+                    values,
+                )?;
+                self.raised.put(level + 1, state, last)
+            }
+            None => Ok(()),
+        }
     }
 
     /// The value that the known first states give a bit, where they agree.

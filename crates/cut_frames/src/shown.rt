@@ -78,7 +78,7 @@ fn breaks_some(frames: &Levels, i: usize, state: &State) -> bool
 }
 
 /// Whether the clauses of the frame of a number are true in a state.
-fn is_inside(frames: &Levels, i: usize, state: &State) -> bool
+pub fn is_inside(frames: &Levels, i: usize, state: &State) -> bool
     ensures { result ≡ list_all (is_true_at state.now i) frames.now.held.items }
 {
     frames.held.iter().all(|held| is_true_at(state, i, held))

@@ -1,4 +1,4 @@
-use Rattle.std.proofs.Common.{◌≡◌, ◌++◌, ◌∷◌, [], sym, ◌∙◌, ap, subst, arith, length, ◌<◌, ◌≤◌, ◌-◌, ◌+◌, List, ℕ}
+use Rattle.std.proofs.Common.{◌≡◌, ◌++◌, ◌∷◌, [], sym, ◌∙◌, ap, subst, arith, length, ◌<◌, ◌≤◌, ◌-◌, ◌+◌, List, ℕ, suc}
 use Rattle.std.proofs.lemmas.Grind.{common_steps}
 use Rattle.sat_clauses.specs.Assignment.{Assignment}
 use Rattle.cut_frames.specs.Levels.{frames_of, HasGained}
@@ -7,7 +7,9 @@ use Rattle.cut_frames.specs.Path.{AreOwed, IsPath}
 use Rattle.cut_frames.specs.ClearLooks.{IsLook}
 use Rattle.cut_frames.specs.StatesLeft.{work_left}
 use Rattle.cut_frames.specs.declared.clear.Look.TheVariants.{IsFirst, Deeper, Blocked}
-use Rattle.cut_frames.proofs.LevelLaws.{level_is, level_low, owed_fits}
+use Rattle.cut_frames.specs.FrameLists.{AreStronger}
+use Rattle.cut_frames.proofs.LevelLaws.{level_is, level_low, owed_fits, length_frames}
+use Rattle.cut_frames.proofs.RaiseLaws.{work_raised, stronger_twice, owed_none}
 use Rattle.cut_frames.proofs.PutLaws.{gained_put}
 use Rattle.cut_frames.proofs.OwedLemmas.{look_nothing, look_first, look_deeper, look_blocked, owed_less, work_deeper, work_blocked, BlocksNewest, levelled_blocked, stronger_blocked, levelled_stays, stronger_stays, level_some}
 use Rattle.cut_frames.proofs.clear.clear_frames.Goals as goal
@@ -143,9 +145,86 @@ looks-preserved g c =
       last = c.block.ensures.last ∙ c.looks.invariant.last;
       stronger = stronger_blocked c.args.system.now c.args.bad.now (frames_of c.args.frames.now) (frames_of c.looks.frames) (frames_of c.block.new.frames) c.level_of-level.result c.in-Blocked.clause now c.looks.invariant.stronger;
       owed = owed_less c.args.system.now c.args.bad.now (frames_of c.looks.frames) (frames_of c.block.new.frames) c.pop.new.self c.pop.ensures.0 c.level_of-level.result c.in-Blocked.clause now at owed;
-      same = c.look_once.ensures.same ∙ c.looks.invariant.same;
+      same = c.note_blocked.ensures ∙ c.look_once.ensures.same ∙ c.looks.invariant.same;
       kept = c.in_ok-block-in-Blocked.ensures.kept;
     }
 
 pub look_once-requires-clause-agreed : goal.look_once-requires-clause-agreed
 look_once-requires-clause-agreed g c = subst (AreAgreed c.args.system.now) (sym c.looks.invariant.same) c.requires.agreed
+
+pub raise_all-requires-clause-framed : goal.raise_all-requires-clause-framed
+raise_all-requires-clause-framed g c =
+    let seen : IsLook c.args.system.now c.args.bad.now (frames_of c.looks.frames) c.looks.owed c.in_ok-look_once.field-0 =
+    subst (λ (o : List Assignment). IsLook c.args.system.now c.args.bad.now (frames_of c.looks.frames) o c.in_ok-look_once.field-0) c.as_slice.ensures c.in_ok-look_once.ensures.look in
+    let look : IsLook c.args.system.now c.args.bad.now (frames_of c.looks.frames) c.looks.owed (Blocked c.in-Blocked.clause) = subst (IsLook c.args.system.now c.args.bad.now (frames_of c.looks.frames) c.looks.owed) c.in-Blocked.is seen in
+    let b : BlocksNewest c.args.system.now c.args.bad.now (frames_of c.looks.frames) c.looks.owed c.in-Blocked.clause = look_blocked c.args.system.now c.args.bad.now (frames_of c.looks.frames) c.looks.owed c.in-Blocked.clause look in
+    let level : c.level_of-level.result ≡ c.looks.frames.last + 1 - length c.looks.owed = grind (arith, common_steps) in
+    let popped : c.looks.owed ≡ c.pop.new.self ++ c.pop.ensures.0 ∷ [] = c.pop.ensures.1 in
+    let now : HasGained c.level_of-level.result c.in-Blocked.clause (frames_of c.looks.frames) (frames_of c.block.new.frames) =
+    gained_put c.looks.frames c.block.new.frames c.level_of-level.result c.in-Blocked.clause c.block.ensures.last (subst (λ (n : ℕ). n ≤ c.looks.frames.last) (sym level) (level_low c.looks.frames.last (length c.looks.owed) b.some)) c.in_ok-block-in-Blocked.ensures.ok in
+    let is : c.level_of-level.result ≡ length (frames_of c.looks.frames) - length c.looks.owed = level ∙ sym (level_is c.looks.frames (length c.looks.owed)) in
+    let at : c.level_of-level.result ≡ length (frames_of c.looks.frames) - length (c.pop.new.self ++ c.pop.ensures.0 ∷ []) = is ∙ ap (λ (o : List Assignment). length (frames_of c.looks.frames) - length o) popped in
+    let owed : AreOwed c.args.system.now c.args.bad.now (frames_of c.looks.frames) (c.pop.new.self ++ c.pop.ensures.0 ∷ []) = subst (λ (o : List Assignment). AreOwed c.args.system.now c.args.bad.now (frames_of c.looks.frames) o) popped c.looks.invariant.owed in
+    levelled_blocked c.args.system.now c.args.bad.now c.looks.frames c.block.new.frames c.level_of-level.result c.looks.owed c.in-Blocked.clause c.looks.invariant.framed now is
+    (subst (λ (n : ℕ). n ≤ c.looks.frames.last) (sym level) (level_low c.looks.frames.last (length c.looks.owed) b.some)) c.block.ensures.last c.in_ok-block-in-Blocked.ensures.ok b
+
+pub looks-smaller-in-Continue-branch-7 : goal.looks-smaller-in-Continue-branch-7
+looks-smaller-in-Continue-branch-7 g c =
+    let seen : IsLook c.args.system.now c.args.bad.now (frames_of c.looks.frames) c.looks.owed c.in_ok-look_once.field-0 =
+    subst (λ (o : List Assignment). IsLook c.args.system.now c.args.bad.now (frames_of c.looks.frames) o c.in_ok-look_once.field-0) c.as_slice.ensures c.in_ok-look_once.ensures.look in
+    let look : IsLook c.args.system.now c.args.bad.now (frames_of c.looks.frames) c.looks.owed (Blocked c.in-Blocked.clause) = subst (IsLook c.args.system.now c.args.bad.now (frames_of c.looks.frames) c.looks.owed) c.in-Blocked.is seen in
+    let b : BlocksNewest c.args.system.now c.args.bad.now (frames_of c.looks.frames) c.looks.owed c.in-Blocked.clause = look_blocked c.args.system.now c.args.bad.now (frames_of c.looks.frames) c.looks.owed c.in-Blocked.clause look in
+    let level : c.level_of-level.result ≡ c.looks.frames.last + 1 - length c.looks.owed = grind (arith, common_steps) in
+    let popped : c.looks.owed ≡ c.pop.new.self ++ c.pop.ensures.0 ∷ [] = c.pop.ensures.1 in
+    let now : HasGained c.level_of-level.result c.in-Blocked.clause (frames_of c.looks.frames) (frames_of c.block.new.frames) =
+    gained_put c.looks.frames c.block.new.frames c.level_of-level.result c.in-Blocked.clause c.block.ensures.last (subst (λ (n : ℕ). n ≤ c.looks.frames.last) (sym level) (level_low c.looks.frames.last (length c.looks.owed) b.some)) c.in_ok-block-in-Blocked.ensures.ok in
+    let is : c.level_of-level.result ≡ length (frames_of c.looks.frames) - length c.looks.owed = level ∙ sym (level_is c.looks.frames (length c.looks.owed)) in
+    let at : c.level_of-level.result ≡ length (frames_of c.looks.frames) - length (c.pop.new.self ++ c.pop.ensures.0 ∷ []) = is ∙ ap (λ (o : List Assignment). length (frames_of c.looks.frames) - length o) popped in
+    let owed : AreOwed c.args.system.now c.args.bad.now (frames_of c.looks.frames) (c.pop.new.self ++ c.pop.ensures.0 ∷ []) = subst (λ (o : List Assignment). AreOwed c.args.system.now c.args.bad.now (frames_of c.looks.frames) o) popped c.looks.invariant.owed in
+    let lengths : length (frames_of c.raise_all.new.frames) ≡ length (frames_of c.block.new.frames) = length_frames c.raise_all.new.frames ∙ ap suc c.raise_all.ensures.last ∙ sym (length_frames c.block.new.frames) in
+    work_raised c.args.system.now (frames_of c.block.new.frames) (frames_of c.raise_all.new.frames) c.pop.new.self (work_left c.args.system.now.state_bits (frames_of c.looks.frames) c.looks.owed) lengths c.raise_all.ensures.stronger
+    (subst (λ (o : List Assignment). work_left c.args.system.now.state_bits (frames_of c.block.new.frames) c.pop.new.self < work_left c.args.system.now.state_bits (frames_of c.looks.frames) o) (sym popped)
+    (work_blocked c.args.system.now c.args.bad.now (frames_of c.looks.frames) (frames_of c.block.new.frames) c.pop.new.self c.pop.ensures.0 c.level_of-level.result c.in-Blocked.clause c.looks.invariant.framed.framed now at owed
+    (subst (λ (o : List Assignment). BlocksNewest c.args.system.now c.args.bad.now (frames_of c.looks.frames) o c.in-Blocked.clause) popped b)))
+
+pub looks-preserved-in-Continue-branch-7 : goal.looks-preserved-in-Continue-branch-7
+looks-preserved-in-Continue-branch-7 g c =
+    let seen : IsLook c.args.system.now c.args.bad.now (frames_of c.looks.frames) c.looks.owed c.in_ok-look_once.field-0 =
+    subst (λ (o : List Assignment). IsLook c.args.system.now c.args.bad.now (frames_of c.looks.frames) o c.in_ok-look_once.field-0) c.as_slice.ensures c.in_ok-look_once.ensures.look in
+    let look : IsLook c.args.system.now c.args.bad.now (frames_of c.looks.frames) c.looks.owed (Blocked c.in-Blocked.clause) = subst (IsLook c.args.system.now c.args.bad.now (frames_of c.looks.frames) c.looks.owed) c.in-Blocked.is seen in
+    let b : BlocksNewest c.args.system.now c.args.bad.now (frames_of c.looks.frames) c.looks.owed c.in-Blocked.clause = look_blocked c.args.system.now c.args.bad.now (frames_of c.looks.frames) c.looks.owed c.in-Blocked.clause look in
+    let level : c.level_of-level.result ≡ c.looks.frames.last + 1 - length c.looks.owed = grind (arith, common_steps) in
+    let popped : c.looks.owed ≡ c.pop.new.self ++ c.pop.ensures.0 ∷ [] = c.pop.ensures.1 in
+    let now : HasGained c.level_of-level.result c.in-Blocked.clause (frames_of c.looks.frames) (frames_of c.block.new.frames) =
+    gained_put c.looks.frames c.block.new.frames c.level_of-level.result c.in-Blocked.clause c.block.ensures.last (subst (λ (n : ℕ). n ≤ c.looks.frames.last) (sym level) (level_low c.looks.frames.last (length c.looks.owed) b.some)) c.in_ok-block-in-Blocked.ensures.ok in
+    let is : c.level_of-level.result ≡ length (frames_of c.looks.frames) - length c.looks.owed = level ∙ sym (level_is c.looks.frames (length c.looks.owed)) in
+    let at : c.level_of-level.result ≡ length (frames_of c.looks.frames) - length (c.pop.new.self ++ c.pop.ensures.0 ∷ []) = is ∙ ap (λ (o : List Assignment). length (frames_of c.looks.frames) - length o) popped in
+    let owed : AreOwed c.args.system.now c.args.bad.now (frames_of c.looks.frames) (c.pop.new.self ++ c.pop.ensures.0 ∷ []) = subst (λ (o : List Assignment). AreOwed c.args.system.now c.args.bad.now (frames_of c.looks.frames) o) popped c.looks.invariant.owed in
+    let gained : AreStronger c.args.system.now (frames_of c.args.frames.now) (frames_of c.block.new.frames) = stronger_blocked c.args.system.now c.args.bad.now (frames_of c.args.frames.now) (frames_of c.looks.frames) (frames_of c.block.new.frames) c.level_of-level.result c.in-Blocked.clause now c.looks.invariant.stronger in
+    let first : length (frames_of c.args.frames.now) ≡ length (frames_of c.block.new.frames) = length_frames c.args.frames.now ∙ ap suc (sym (c.block.ensures.last ∙ c.looks.invariant.last)) ∙ sym (length_frames c.block.new.frames) in
+    let none : length c.pop.new.self ≡ 0 = grind (arith, common_steps) in
+    record {
+      framed = c.raise_all.ensures.framed;
+      last = c.raise_all.ensures.last ∙ c.block.ensures.last ∙ c.looks.invariant.last;
+      stronger = stronger_twice c.args.system.now (frames_of c.args.frames.now) (frames_of c.block.new.frames) (frames_of c.raise_all.new.frames) first gained c.raise_all.ensures.stronger;
+      owed = owed_none c.args.system.now c.args.bad.now (frames_of c.raise_all.new.frames) c.pop.new.self none;
+      same = c.raise_all.ensures.same ∙ c.note_blocked.ensures ∙ c.look_once.ensures.same ∙ c.looks.invariant.same;
+      kept = c.in_ok-raise_all-in-Blocked.ensures.kept;
+    }
+
+pub returns-in_err-raise_all-in-Blocked-clause-stronger : goal.returns-in_err-raise_all-in-Blocked-clause-stronger
+returns-in_err-raise_all-in-Blocked-clause-stronger g c =
+    let seen : IsLook c.args.system.now c.args.bad.now (frames_of c.looks.frames) c.looks.owed c.in_ok-look_once.field-0 =
+    subst (λ (o : List Assignment). IsLook c.args.system.now c.args.bad.now (frames_of c.looks.frames) o c.in_ok-look_once.field-0) c.as_slice.ensures c.in_ok-look_once.ensures.look in
+    let look : IsLook c.args.system.now c.args.bad.now (frames_of c.looks.frames) c.looks.owed (Blocked c.in-Blocked.clause) = subst (IsLook c.args.system.now c.args.bad.now (frames_of c.looks.frames) c.looks.owed) c.in-Blocked.is seen in
+    let b : BlocksNewest c.args.system.now c.args.bad.now (frames_of c.looks.frames) c.looks.owed c.in-Blocked.clause = look_blocked c.args.system.now c.args.bad.now (frames_of c.looks.frames) c.looks.owed c.in-Blocked.clause look in
+    let level : c.level_of-level.result ≡ c.looks.frames.last + 1 - length c.looks.owed = grind (arith, common_steps) in
+    let popped : c.looks.owed ≡ c.pop.new.self ++ c.pop.ensures.0 ∷ [] = c.pop.ensures.1 in
+    let now : HasGained c.level_of-level.result c.in-Blocked.clause (frames_of c.looks.frames) (frames_of c.block.new.frames) =
+    gained_put c.looks.frames c.block.new.frames c.level_of-level.result c.in-Blocked.clause c.block.ensures.last (subst (λ (n : ℕ). n ≤ c.looks.frames.last) (sym level) (level_low c.looks.frames.last (length c.looks.owed) b.some)) c.in_ok-block-in-Blocked.ensures.ok in
+    let is : c.level_of-level.result ≡ length (frames_of c.looks.frames) - length c.looks.owed = level ∙ sym (level_is c.looks.frames (length c.looks.owed)) in
+    let at : c.level_of-level.result ≡ length (frames_of c.looks.frames) - length (c.pop.new.self ++ c.pop.ensures.0 ∷ []) = is ∙ ap (λ (o : List Assignment). length (frames_of c.looks.frames) - length o) popped in
+    let owed : AreOwed c.args.system.now c.args.bad.now (frames_of c.looks.frames) (c.pop.new.self ++ c.pop.ensures.0 ∷ []) = subst (λ (o : List Assignment). AreOwed c.args.system.now c.args.bad.now (frames_of c.looks.frames) o) popped c.looks.invariant.owed in
+    let gained : AreStronger c.args.system.now (frames_of c.args.frames.now) (frames_of c.block.new.frames) = stronger_blocked c.args.system.now c.args.bad.now (frames_of c.args.frames.now) (frames_of c.looks.frames) (frames_of c.block.new.frames) c.level_of-level.result c.in-Blocked.clause now c.looks.invariant.stronger in
+    let first : length (frames_of c.args.frames.now) ≡ length (frames_of c.block.new.frames) = length_frames c.args.frames.now ∙ ap suc (sym (c.block.ensures.last ∙ c.looks.invariant.last)) ∙ sym (length_frames c.block.new.frames) in
+    stronger_twice c.args.system.now (frames_of c.args.frames.now) (frames_of c.block.new.frames) (frames_of c.raise_all.new.frames) first gained c.raise_all.ensures.stronger

@@ -1,9 +1,5 @@
-use Rattle.std.proofs.Common.{◌≡◌, ◌<◌, ℕ, suc, refl, subst, arith, map}
-use Rattle.sat_clauses.specs.Literal.{opposite}
-use Rattle.cut_frames.specs.Bits.{literals_from}
+use Rattle.std.proofs.Common.{◌≡◌, ◌<◌, ℕ, suc, refl, subst, arith}
 use Rattle.cut_frames.specs.Levels.{frames_of}
-use Rattle.cut_frames.specs.Parts.{IsPart, IsOfFirst}
-use Rattle.cut_frames.proofs.PartLemmas.{some_of, asked_more, holds_stays, holds_askable}
 use Rattle.std.proofs.Common.{zero}
 use Rattle.cut_frames.specs.FrameLists.{InNumber}
 use Rattle.cut_frames.proofs.clear.look_before.Goals as goal
@@ -21,26 +17,14 @@ returns-then-level-eq0-clause-look g c = subst (λ (n : ℕ). InNumber c.args.sy
 pub returns-then-level-eq0-clause-asked : goal.returns-then-level-eq0-clause-asked
 returns-then-level-eq0-clause-asked g c = λ system list frames h. h
 
-pub core_against-requires-clause-kept : goal.core_against-requires-clause-kept
-core_against-requires-clause-kept g c = holds_askable c.args.system.now (frames_of c.args.frames.now) c.args.kept.now c.requires.kept
+pub look_against-requires-clause-some : goal.look_against-requires-clause-some
+look_against-requires-clause-some g c = grind arith
 
-pub look_for_step-requires-clause-some : goal.look_for_step-requires-clause-some
-look_for_step-requires-clause-some g c = grind arith
+pub look_against-requires-clause-kept : goal.look_against-requires-clause-kept
+look_against-requires-clause-kept g c = c.requires.kept
 
-pub look_for_step-requires-clause-first : goal.look_for_step-requires-clause-first
-look_for_step-requires-clause-first g c = some_of c.in_ok-core_against.field-0 c.in-Some.first (λ core. IsPart core (map opposite (literals_from 2 c.args.state.now)) × IsOfFirst c.args.system.now core) c.in-Some.is c.in_ok-core_against.ensures.core
+pub returns-clause-look : goal.returns-clause-look
+returns-clause-look g c = c.in_ok-look.ensures.look
 
-pub look_for_step-requires-clause-kept : goal.look_for_step-requires-clause-kept
-look_for_step-requires-clause-kept g c = holds_stays c.args.system.now (frames_of c.args.frames.now) c.args.kept.now c.core_against.new.kept c.requires.kept c.in_ok-core_against.ensures.asked
-
-pub returns-in-None-clause-look : goal.returns-in-None-clause-look
-returns-in-None-clause-look g c = c.in_ok-core_against.ensures.first c.in-None.is
-
-pub returns-in-None-clause-asked : goal.returns-in-None-clause-asked
-returns-in-None-clause-asked g c = c.in_ok-core_against.ensures.asked
-
-pub returns-in_ok-look-in-Some-clause-look : goal.returns-in_ok-look-in-Some-clause-look
-returns-in_ok-look-in-Some-clause-look g c = c.in_ok-look-in-Some.ensures.look
-
-pub returns-in_ok-look-in-Some-clause-asked : goal.returns-in_ok-look-in-Some-clause-asked
-returns-in_ok-look-in-Some-clause-asked g c = asked_more c.args.kept.now c.core_against.new.kept c.look_for_step.new.kept c.in_ok-core_against.ensures.asked c.in_ok-look-in-Some.ensures.asked
+pub returns-clause-asked : goal.returns-clause-asked
+returns-clause-asked g c = c.in_ok-look.ensures.asked
