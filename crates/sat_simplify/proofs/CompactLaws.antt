@@ -6,7 +6,7 @@ use Rattle.sat_clauses.specs.Literal.{Literal}
 use Rattle.sat_clauses.specs.Derivation.{IsUpTo}
 use Rattle.sat_clauses.specs.Models.{TotalAssignment, clause_value, all_true}
 use Rattle.sat_simplify.specs.SamePlaces.{IsMet, AreMetAlike, HasNoHigherVariable}
-use Rattle.sat_simplify.specs.CompactNumbers.{IsMarked, gap_after, gaps, compacted, compacted_literal, compacted_clause, compacted_list}
+use Rattle.sat_simplify.specs.CompactNumbers.{IsMarked, gaps, compacted, compacted_literal, compacted_clause, compacted_list}
 
 -- a variable of the places stays, and one above them goes down by its gap
 compacted_place : (p : ℕ) (gs : List ℕ) (x : ℕ) → x ≤ p → compacted p gs x ≡ x

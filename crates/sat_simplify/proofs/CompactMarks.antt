@@ -1,7 +1,7 @@
 -- Steps of the loops that mark variables and count what is not marked.
 use Rattle.std.proofs.Common.{◌≡◌, ◌⊎◌, inl, inr, ℕ, ◌+◌, ◌-◌, ◌<◌, ◌≤◌, Bool, true, false, IsTrue, List, [], ◌∷◌, ◌++◌, length, get_or, set, take, drop, All, sym, ap, ◌∙◌, subst, arith}
 use Rattle.std.proofs.lemmas.Bool.{cases_eq, cases_lt}
-use Rattle.std.proofs.lemmas.List.{append-nil, append_assoc, drop_more, drop_all, get_or-set_same, get_or-set_other, get_or_append_left, get_or_past, set_past, take_all}
+use Rattle.std.proofs.lemmas.List.{append-nil, append_assoc, drop_more, drop_all, get_or-set_same, get_or-set_other, get_or_append_left, get_or_past, take_all}
 use Rattle.std.proofs.lemmas.List.Elements.{All-more, All-weaker, All-nil}
 use Rattle.sat_clauses.specs.Literal.{Literal}
 use Rattle.sat_simplify.specs.CompactNumbers.{KeepsMarks, IsMarked, HasMarked, gap_after, gaps}
@@ -31,7 +31,7 @@ marks_set a i lt = record { at = λ k has. by_place k has (cases_eq k i) } where
   by_place k has (inl e) = ap (λ n. get_or (set a i true) n false) e ∙ set_marked a i lt
   by_place k has (inr ne) = get_or-set_other a i k true false ne ∙ has
 
-kept_mark : (places : ℕ) (a b : List Bool) → KeepsMarks a b → (l : Literal) → IsMarked places a l → IsMarked places b l
+pub kept_mark : (places : ℕ) (a b : List Bool) → KeepsMarks a b → (l : Literal) → IsMarked places a l → IsMarked places b l
 kept_mark places a b keeps l m = record { at = λ lt. keeps.at (l.var - places - 1) (m.at lt) }
 
 -- a clause is marked literal by literal

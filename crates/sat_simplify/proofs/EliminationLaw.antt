@@ -11,7 +11,8 @@ use Rattle.sat_simplify.specs.Elimination.{resolvents, IsElimination}
 use Rattle.sat_simplify.proofs.ClauseLaws.{AreTrue, HasTurn, has_turn, turned, turned_other, lacking_stays, resolvents_follow}
 use Rattle.sat_simplify.proofs.SimplerLaws.{all_from_members}
 
-all_of : (w : TotalAssignment) (cs : List (List Literal)) → AreTrue w cs → Satisfies w cs
+-- each clause true makes the list true
+pub all_of : (w : TotalAssignment) (cs : List (List Literal)) → AreTrue w cs → Satisfies w cs
 all_of w cs each = Satisfies-from_All w cs (all_from_members (λ c. clause_value w c ≡ true) cs each)
 
 -- all resolvents on a variable that is no place stand for all its clauses

@@ -10,3 +10,4 @@ pub mod ListLaws
 pub mod EliminationLaw
 pub mod CompactMarks
 pub mod CompactLaws
+pub mod UnreadLaws

@@ -1,5 +1,5 @@
 -- A list of clauses and the base that it is entered into, and the list of what stands in a base.
-use Rattle.std.proofs.Common.{◌≡◌, ⊎_elim, ℕ, Bool, true, List, [], map, nat_le, Some, None, All, Contains, refl, ap, subst}
+use Rattle.std.proofs.Common.{◌≡◌, ⊎_elim, ℕ, Bool, true, List, [], map, nat_le, Some, None, All, Contains, ap, subst}
 use Rattle.std.specs.Option.{option_to_list}
 use Rattle.std.proofs.lemmas.Bool.{le-leb, leb-true}
 use Rattle.std.proofs.lemmas.List.Elements.{All-contains, All-map}

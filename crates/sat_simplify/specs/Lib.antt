@@ -6,3 +6,4 @@ pub mod Changes
 pub mod OccurrenceLists
 pub mod ClauseBase
 pub mod CompactNumbers
+pub mod Unread

@@ -48,9 +48,9 @@ fn mark_literal(marks: &mut Vec<bool>, places: u64, lit: Lit) -> Result<(), OutO
     mark(marks, (lit.var() - places - 1) as usize)
 }
 
-// Marks the variables of a clause.
+/// Marks the variables of a clause.
 #[tactic(auto, using(crate::proofs::CompactMarks::marked_none, crate::proofs::CompactMarks::marked_more, crate::proofs::CompactMarks::marked_all))]
-fn mark_clause(marks: &mut Vec<bool>, places: u64, lits: &[Lit]) -> Result<(), OutOfMemory>
+pub fn mark_clause(marks: &mut Vec<bool>, places: u64, lits: &[Lit]) -> Result<(), OutOfMemory>
     ensures { OnOk result (HasMarked places marks.old.items marks.new.items lits.now) }
 {
     for lit in lits {
@@ -79,8 +79,8 @@ fn after(gap: u64, is_marked: bool) -> u64
     if is_marked { gap } else { gap + 1 }
 }
 
-// For each number how many below it are not marked.
-fn gaps_of(alloc: Global, marks: &[bool]) -> Result<Vec<u64>, OutOfMemory>
+/// For each number how many below it are not marked.
+pub fn gaps_of(alloc: Global, marks: &[bool]) -> Result<Vec<u64>, OutOfMemory>
     ensures { IfOk result (λ all. all.items ≡ gaps 0 marks.now) }
 {
     let mut all = Vec::new(alloc);
@@ -108,8 +108,13 @@ fn literal_of(places: u64, gaps: &[u64], lit: Lit) -> Lit
     Lit::new(places + 1 + i.saturating_sub(gap), lit.is_negated())
 }
 
-// The clause of these literals, their variables brought down.
-fn clause_of(alloc: Global, places: u64, gaps: &[u64], lits: &[Lit]) -> Result<Clause, OutOfMemory>
+/// The clause of these literals, their variables brought down.
+pub fn clause_of(
+    alloc: Global,
+    places: u64,
+    gaps: &[u64],
+    lits: &[Lit],
+) -> Result<Clause, OutOfMemory>
     ensures { IfOk result (λ c. c ≡ compacted_clause places gaps.now lits.now) }
 {
     let mut all = Vec::new(alloc);

@@ -5,7 +5,10 @@
 //! the list true (`specs/SamePlaces.antt`). [`simplified`] is the one public call: its list is met exactly where the old
 //! one is, and has no higher variables. The frames search such lists.
 //!
-//! Clauses of one literal are propagated; a clause that another one subsumes is taken out; and a variable that is no
+//! A first pass over the list, from its end, leaves out the clauses of gates that nothing reads, [`unread`]: a model can have
+//! millions of them, and they cost a look each and a number of memory.
+//!
+//! Of the others, clauses of one literal are propagated; a clause that another one subsumes is taken out; and a variable that is no
 //! place is eliminated where its resolvents are no more than its clauses: all of them then stand in the place of the
 //! clauses that have it (`specs/Resolution.antt`, `specs/Elimination.antt`). Each of these is one change of a clause
 //! base, [`base`], with one law in `proofs/SimplerLaws.antt`; `proofs/EliminationLaw.antt` has the law of elimination on
@@ -31,6 +34,7 @@ mod passes;
 mod queue;
 mod resolving;
 mod slots;
+mod unread;
 
 use base_values::OutOfMemory;
 use sat_clauses::clause::{Clause, ClauseList};
@@ -39,12 +43,12 @@ use std::alloc::Global;
 /// A list of clauses that is met with the same values of the variables 2 to `places` as this one. Its variables above
 /// the places are numbered without gaps, and none is higher than in this list. Takes memory for each number up to the
 /// highest variable.
-#[tactic(auto, using(crate::proofs::BaseLaws::simplified_same, crate::proofs::BaseLaws::simplified_low))]
+#[tactic(auto, using(crate::proofs::UnreadLaws::read_same, crate::proofs::UnreadLaws::read_low))]
 pub fn simplified(alloc: Global, places: u64, list: &[Clause]) -> Result<ClauseList, OutOfMemory>
     ensures same { IfOk result (λ new. AreMetAlike places list.now new) }
     ensures low { IfOk result (λ new. HasNoHigherVariable list.now new) }
 {
-    let mut base = lists::base_of(alloc, places, list)?;
+    let mut base = unread::read_base(alloc, places, list)?;
     passes::simplify(&mut base)?;
     let left = lists::standing(alloc, base.slots.as_slice())?;
     compact::compact(alloc, places, left.as_slice())
