@@ -41,10 +41,12 @@ class Function:
         return re.findall(rf"(?m)^fn {crate}::{module}(?:[\w+]+::)*{self.name}(?:::[^\s:]+)*: (.*)$", said)
 
     def in_proofs(self, said):
-        """Returns the errors in the files of this function's proof."""
+        """Returns the errors in the files of this function's proof, and those in its cycle's files that name a goal of it."""
         folder = re.escape("/".join(self.module.split("::"))) if self.module else "proofs"
-        path = rf"proofs/(?:{folder}/)?(?:[\w+]+/)*\+?{self.name}/\w+\.antt"
-        return re.findall(rf"(?m)^(?:note: )?(?:\./)?{path}:\d+:\d+: (?:error: )?(.*)$", said)
+        at, error = rf"(?m)^(?:note: )?(?:\./)?proofs/(?:{folder}/)?(?:[\w+]+/)*", r"/\w+\.antt:\d+:\d+: (?:error: )?"
+        found = re.findall(rf"{at}{self.name}{error}(.*(?:\n  .*)?)$", said)
+        found += re.findall(rf"{at}\+\w+{error}(`(?:invariant-)?{self.name}-.*(?:\n  .*)?)$", said)
+        return [re.sub(r"\s+", " ", it) for it in found]
 
 
 def owner_of(line):
