@@ -1,7 +1,10 @@
 -- What is found of a step, as the rules ask it of a derivation.
-use Rattle.std.proofs.Common.{◌≡◌, ℕ, ◌+◌, ◌≤◌, List, [], ◌∷◌, ◌++◌, length, take, Option, Some, None, refl, sym, ap, subst, ◌∙◌, arith, append_assoc, append-nil}
-use Rattle.std.specs.Prelude.{map, All, slice_get}
-use Rattle.std.proofs.lemmas.List.{map_more}
+use Rattle.std.proofs.Common.{◌≡◌, ℕ, ◌+◌, ◌<◌, ◌≤◌, Bool, IsTrue, List, [], ◌∷◌, ◌++◌, length, take, Option, Some, None, Result, refl, sym, ap, subst, ◌∙◌, arith, append_assoc, append-nil}
+use Rattle.std.specs.Prelude.{◌↔◌, map, All, IfOk, slice_get}
+use Rattle.std.proofs.lemmas.List.{map_more, get_or-map, length-map}
+use Rattle.std.proofs.lemmas.List.Elements.{All-map}
+use Rattle.std.proofs.lemmas.Result.{IfOk-weaker}
+use Rattle.sat_clauses.specs.States.{moved_on}
 use Rattle.std.proofs.lemmas.Option.{slice_get_within, get_or_from_slice_get}
 use Rattle.sat_clauses.specs.Literal.{Literal}
 use Rattle.sat_clauses.specs.Derivation.{Derivation}
@@ -91,3 +94,16 @@ pub lines_within : (c : Certificate) (part : Part) → head_line c part + 1 + le
 lines_within c part_first = omega arith
 lines_within c part_next = omega arith
 lines_within c part_bad = omega arith
+
+-- What holds of all that a list is mapped to holds of what each of it is mapped to.
+all_unmapped : {X Y : Type 0} (P : X → Type 0) (f : Y → X) (ys : List Y) → All P (map f ys) → All (λ y. P (f y)) ys
+all_unmapped P f ys h = λ k y within. subst P (get_or-map f ys k y (f y) within) (h k (f y) (subst (λ n. k < n) (sym (length-map ys f)) within))
+
+-- Clauses that are covered over the state next, one by one or as a list.
+pub covers_moved : {E : Type 0} (known : List (List Literal)) (bits : ℕ) (clauses : List (List Literal)) (r : Result Bool E) →
+    IfOk r (λ covers. IsTrue covers ↔ All (λ (lits : List Literal). Covers known (map (moved_on bits) lits)) clauses) →
+    IfOk r (λ covers. IsTrue covers ↔ All (Covers known) (map (map (moved_on bits)) clauses))
+covers_moved known bits clauses r h =
+    let next : List Literal → List Literal = map (moved_on bits) in
+    IfOk-weaker r (λ covers. IsTrue covers ↔ All (λ (lits : List Literal). Covers known (next lits)) clauses) (λ covers. IsTrue covers ↔ All (Covers known) (map next clauses))
+    (λ covers p. ((λ is. All-map (Covers known) next clauses (p.0 is)), (λ all. p.1 (all_unmapped (Covers known) next clauses all)))) h

@@ -8,7 +8,7 @@ ghost use Rattle.sat_clauses.specs.States.{IsOverBits};
 ghost use Rattle.smv_language.specs.ModelTree.{model_tree};
 ghost use Rattle.cert_laws.specs.Certificate.{part_first, part_next, part_bad, head_line, steps_in, first_line, next_line, bad_line};
 ghost use Rattle.cert_laws.specs.Sites.{step_sites};
-ghost use Rattle.cert_laws.specs.Acceptance.{HasNumbers, goals};
+ghost use Rattle.cert_laws.specs.Acceptance.{HasNumbers};
 ghost use Rattle.cert_check.specs.QuestionMatter.{asked};
 ghost use Rattle.cert_check.specs.Fit.{CanBeProved};
 ghost use Rattle.cert_check.specs.SiteFindings.{Finds};
@@ -18,7 +18,7 @@ use crate::judged::Judged;
 use crate::question::{CertificateQuestion, CheckedPart};
 use crate::steps::judge_derivation;
 use base_values::OutOfMemory;
-use cert_derivations::{checker_of, moved, only_empty};
+use cert_derivations::checker_of;
 use sat_clauses::checker::Checker;
 use sat_clauses::clause::{Clause, ClauseList};
 use sat_encoding::{bad_clauses, first_gates, step_gates};
@@ -85,8 +85,7 @@ fn judge_part(
     ensures { IfOk result (Finds (asked q.now) (step_sites (part_of part) 0 (steps_in (asked q.now).certificate (part_of part)))) }
 {
     let checker = checker_for(alloc, q, part)?;
-    let goals = goals_of(alloc, q, part)?;
-    judge_derivation(q, part, checker, goals.as_slice(), line + 1)
+    judge_derivation(alloc, q, part, checker, line + 1)
 }
 
 /// The checker of a derivation, with the clauses that this starts from. The list of the model is made for it, and dropped before
@@ -158,21 +157,5 @@ fn also_given<'a>(q: &'a CertificateQuestion<'_>, part: CheckedPart) -> &'a [Cla
     match part {
         CheckedPart::First => &[],
         CheckedPart::Next | CheckedPart::Bad => q.certificate.invariant.as_slice(),
-    }
-}
-
-/// What a derivation is to show.
-fn goals_of(
-    alloc: Global,
-    q: &CertificateQuestion<'_>,
-    part: CheckedPart,
-) -> Result<ClauseList, OutOfMemory>
-    requires over_bits { All (IsOverBits (asked q.now).subject.system) q.now.certificate.now.invariant }
-    ensures { IfOk result (λ list. list ≡ goals (asked q.now).subject (asked q.now).certificate (part_of part)) }
-{
-    match part {
-        CheckedPart::First => q.certificate.invariant.copy(),
-        CheckedPart::Next => moved(alloc, q.certificate.invariant.as_slice(), q.full.bits()),
-        CheckedPart::Bad => only_empty(alloc),
     }
 }

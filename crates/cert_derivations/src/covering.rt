@@ -2,17 +2,22 @@
 //!
 //! [`covers_all`] looks for a clause that covers, for each needed one, from the place on where it found the one before: a
 //! derivation that comes to the needed clauses in their order, and one whose needed clauses are equal, is gone through once.
-//! Otherwise all clauses are looked through, each up to the first literal that is not needed.
-ghost use Rattle.std.specs.Prelude.{◌≡◌, ◌↔◌, ◌<◌, ◌≤◌, false, IsTrue, IfSome, Some, None, All, Contains, length, fold, replicate};
-ghost use Rattle.std.specs.Prelude.{slice_get};
+//! Otherwise all clauses are looked through, each up to the first literal that is not needed. [`covers_all_next`] looks for the needed
+//! clauses over the bits of the state next.
+ghost use Rattle.std.specs.Prelude.{◌≡◌, ◌↔◌, ◌+◌, ◌<◌, ◌≤◌, false, IsTrue, IfOk, IfSome, Some, None, All, Contains, length, fold};
+ghost use Rattle.std.specs.Prelude.{map, replicate, slice_get};
+ghost use Rattle.sat_clauses.specs.States.{moved_on};
 ghost use Rattle.cert_laws.specs.Acceptance.{Covers};
 ghost use Rattle.cert_derivations.specs.Marks.{marked};
 ghost use Rattle.cert_derivations.specs.Covering.{CoversNoneIn};
 
+use crate::goals::moved_clause;
 use crate::marks::{WINDOW, is_marked, mark_all};
+use base_values::OutOfMemory;
 use sat_clauses::checker::Checker;
 use sat_clauses::clause::Clause;
 use sat_clauses::lit::{Lit, contains};
+use std::alloc::Global;
 
 /// Whether the clauses of a derivation cover each of these.
 pub fn covers_all(checker: &Checker, needed: &[Clause]) -> bool
@@ -26,6 +31,28 @@ pub fn covers_all(checker: &Checker, needed: &[Clause]) -> bool
         from = place;
     }
     true
+}
+
+/// Whether the clauses of a derivation cover each of these over the bits of the state next, of which there are so many. One clause is
+/// written at a time.
+pub fn covers_all_next(
+    alloc: Global,
+    checker: &Checker,
+    needed: &[Clause],
+    bits: u32,
+) -> Result<bool, OutOfMemory>
+    requires { All (All (λ l. (2 ≤ l.var) × (l.var < bits + 2))) needed.now }
+    ensures { IfOk result (λ covers. IsTrue covers ↔ All (λ lits. Covers checker.now.clauses (map (moved_on bits) lits)) needed.now) }
+{
+    let mut from = 0;
+    for clause in needed {
+        let lits = moved_clause(alloc, clause.lits(), bits)?;
+        let Some(place) = covering(checker, lits.as_slice(), from) else {
+            return Ok(false);
+        };
+        from = place;
+    }
+    Ok(true)
 }
 
 /// The place of a clause that covers those needed: the first from a place on, or else the first before it.

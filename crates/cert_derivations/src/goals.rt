@@ -1,12 +1,12 @@
 //! Clauses that a derivation is to show.
 //!
-//! An invariant is to hold first as it stands, to be kept as [`moved`] writes it, over the bits of the state next,
-//! and to exclude the bad states by the empty clause, which is the list of [`only_empty`].
+//! An invariant is to hold first as it stands, to be kept over the bits of the state next, for which [`moved_clause`]
+//! writes one clause, and to exclude the bad states by the empty clause, which is the list of [`only_empty`].
 ghost use Rattle.std.specs.Prelude.{◌≡◌, ◌+◌, ◌<◌, ◌≤◌, IfOk, All, [], ◌∷◌, map};
 ghost use Rattle.sat_clauses.specs.States.{moved_on};
 
 use base_values::{Items, OutOfMemory};
-use sat_clauses::clause::{Clause, ClauseList};
+use sat_clauses::clause::ClauseList;
 use sat_clauses::lit::Lit;
 use std::alloc::Global;
 
@@ -19,21 +19,12 @@ pub fn only_empty(alloc: Global) -> Result<ClauseList, OutOfMemory>
     Ok(list)
 }
 
-/// Clauses over state bits now, each with the same bits of the state next.
-pub fn moved(alloc: Global, clauses: &[Clause], bits: u32) -> Result<ClauseList, OutOfMemory>
-    requires { All (All (λ l. (2 ≤ l.var) × (l.var < bits + 2))) clauses.now }
-    ensures { IfOk result (λ list. list ≡ map (map (moved_on bits)) clauses.now) }
-{
-    let mut list = ClauseList::new(alloc);
-    for clause in clauses {
-        let lits = moved_clause(alloc, clause.lits(), bits)?;
-        list.push_lits(lits.as_slice())?;
-    }
-    Ok(list)
-}
-
 /// The literals of a clause over state bits now, of the same bits of the state next.
-fn moved_clause(alloc: Global, lits: &[Lit], bits: u32) -> Result<Items<Lit>, OutOfMemory>
+pub(crate) fn moved_clause(
+    alloc: Global,
+    lits: &[Lit],
+    bits: u32,
+) -> Result<Items<Lit>, OutOfMemory>
     requires { All (λ l. (2 ≤ l.var) × (l.var < bits + 2)) lits.now }
     ensures { IfOk result (λ list. list ≡ map (moved_on bits) lits.now) }
 {
