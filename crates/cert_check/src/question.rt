@@ -6,8 +6,7 @@ ghost use Rattle.cert_laws.specs.Certificate.{steps_in};
 ghost use Rattle.cert_check.specs.QuestionMatter.{asked};
 ghost use Rattle.cert_check.specs.Parts.{part_of};
 
-use cert_text::Certificate;
-use sat_clauses::recorder::StepsList;
+use cert_text::{Certificate, PackedSteps};
 use smv_language::Expr;
 use smv_language::model::{FaultList, Flat};
 use smv_types::Typed;
@@ -32,7 +31,7 @@ pub(crate) enum CheckedPart {
 }
 
 /// The steps of a derivation.
-pub(crate) fn steps_of<'a>(q: &'a CertificateQuestion<'_>, part: CheckedPart) -> &'a StepsList
+pub(crate) fn steps_of<'a>(q: &'a CertificateQuestion<'_>, part: CheckedPart) -> &'a PackedSteps
     ensures { result.now ≡ steps_in (asked q.now).certificate (part_of part) }
 {
     match part {

@@ -109,7 +109,8 @@ fn judge_steps(
 {
     let steps = steps_of(q, part);
     for i in 0..steps.len() {
-        if let Some(rule) = take_step(checker, steps.at(i))? {
+        let step = steps.at(i)?;
+        if let Some(rule) = take_step(checker, &step)? {
             return Ok(Judged::No(line + i as u64, rule));
         }
     }

@@ -1,4 +1,5 @@
 pub mod LineTexts
+pub mod PackedLemmas
 pub mod PieceLaws
 pub mod Cutting
 pub mod LineLaws

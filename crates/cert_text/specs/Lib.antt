@@ -1,5 +1,6 @@
 pub mod CertificateView
 pub mod LinesIn
+pub mod PackedSteps
 pub mod Pieces
 pub mod LineWords
 pub mod Expectations

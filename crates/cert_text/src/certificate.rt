@@ -4,9 +4,9 @@
 ghost use Rattle.std.specs.Prelude.{◌≡◌, IfOk};
 
 use crate::line_list::LineList;
+use crate::packed::PackedSteps;
 use base_values::{Items, OutOfMemory, SetList};
 use sat_clauses::clause::ClauseList;
-use sat_clauses::recorder::StepsList;
 
 /// The texts of traces, each as its lines.
 pub type TextList = Items<LineList>;
@@ -22,9 +22,9 @@ pub struct Certificate {
     pub sets: SetList,
     pub traces: TextList,
     pub invariant: ClauseList,
-    pub first: StepsList,
-    pub next: StepsList,
-    pub bad: StepsList,
+    pub first: PackedSteps,
+    pub next: PackedSteps,
+    pub bad: PackedSteps,
 }
 
 impl Certificate {

@@ -4,7 +4,8 @@
 //! that is wrong first or missing ([`CertFault`]). Which bytes spell a certificate, and what is wrong first
 //! with bytes that spell none, stands in `cert_laws`; `specs/CertificateView.antt` says which certificate of those
 //! definitions a [`Certificate`] is. Both are linear in the text, and no room is reserved by a number that a
-//! text claims. The lines of a trace lie in one text, and are seen as a list ([`LineList`]).
+//! text claims. The lines of a trace lie in one text, and are seen as a list
+//! ([`LineList`]); so are the steps of a derivation, which lie in two lists ([`PackedSteps`]).
 //!
 //! ```text
 //! xsap-certificate 2
@@ -21,6 +22,7 @@ mod certificate;
 mod line_list;
 mod lines;
 mod numbers;
+mod packed;
 mod pieces;
 mod reading;
 mod whole;
@@ -29,5 +31,6 @@ mod writing;
 
 pub use certificate::{CertFault, Certificate, TextList, copy_texts};
 pub use line_list::LineList;
+pub use packed::PackedSteps;
 pub use whole::read;
 pub use writing::write;

@@ -19,9 +19,9 @@ use crate::line_list::LineList;
 use crate::lines::{
     HeadNumbers, Version, clause_in, count_in, numbers_in, set_in, step_in, version_in,
 };
+use crate::packed::PackedSteps;
 use base_values::{OutOfMemory, SetList};
 use sat_clauses::clause::ClauseList;
-use sat_clauses::recorder::StepsList;
 use sat_clauses::step::Step;
 use std::alloc::Global;
 
@@ -102,9 +102,9 @@ impl CertificateReading {
                 sets: SetList::new(alloc),
                 traces: TextList::new(alloc),
                 invariant: ClauseList::new(alloc),
-                first: StepsList::new(alloc),
-                next: StepsList::new(alloc),
-                bad: StepsList::new(alloc),
+                first: PackedSteps::new(alloc),
+                next: PackedSteps::new(alloc),
+                bad: PackedSteps::new(alloc),
             },
         }
     }
@@ -311,9 +311,9 @@ impl CertificateReading {
         ensures { OnOk result (with_step part left self.old step ≡ self.new) }
     {
         match part {
-            TextPart::First => self.certificate.first.push(step)?,
-            TextPart::Next => self.certificate.next.push(step)?,
-            TextPart::Bad => self.certificate.bad.push(step)?,
+            TextPart::First => self.certificate.first.push(&step)?,
+            TextPart::Next => self.certificate.next.push(&step)?,
+            TextPart::Bad => self.certificate.bad.push(&step)?,
         }
         self.expect = steps_left(part, left);
         Ok(())

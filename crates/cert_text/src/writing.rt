@@ -11,10 +11,10 @@ ghost use Rattle.cert_text.specs.CertificateView.{seen};
 
 use crate::certificate::Certificate;
 use crate::line_list::LineList;
+use crate::packed::PackedSteps;
 use crate::pieces::{append_clause, append_counted, append_set, append_step};
 use base_values::{ByteList, FaultSet, OutOfMemory};
 use sat_clauses::clause::{Clause, ClauseList};
-use sat_clauses::recorder::StepsList;
 use std::alloc::Global;
 
 /// The text of a certificate, in version 2.
@@ -166,7 +166,7 @@ fn append_part(
     alloc: Global,
     text: &mut ByteList,
     word: &[u8],
-    steps: &StepsList,
+    steps: &PackedSteps,
 ) -> Result<(), OutOfMemory>
     ensures { OnOk result (text.new ≡ text.old ++ fed (part_lines word.now steps.now)) }
 {
@@ -176,11 +176,12 @@ fn append_part(
 
 /// Appends the line of each step.
 #[tactic(auto, using(crate::proofs::PieceLaws::piece_rules))]
-fn append_steps(alloc: Global, text: &mut ByteList, steps: &StepsList) -> Result<(), OutOfMemory>
+fn append_steps(alloc: Global, text: &mut ByteList, steps: &PackedSteps) -> Result<(), OutOfMemory>
     ensures { OnOk result (text.new ≡ text.old ++ fed (map step_line steps.now)) }
 {
     for i in 0..steps.len() {
-        append_step(alloc, text, steps.at(i))?;
+        let step = steps.at(i)?;
+        append_step(alloc, text, &step)?;
     }
     Ok(())
 }

@@ -18,7 +18,7 @@ use crate::lists::parts_of;
 use crate::texts::texts_of;
 use base_values::{FaultSet, OutOfMemory, SetList};
 use cert_making::parts::PartDerivations;
-use cert_text::{Certificate, TextList};
+use cert_text::{Certificate, PackedSteps, TextList};
 use cut_search::answer::{Analysis, End};
 use sat_adviser::Panel;
 use sat_clauses::clause::ClauseList;
@@ -66,7 +66,9 @@ fn assembled(
 {
     let sets = copied(alloc, a.sets.as_slice())?;
     let clauses = copied_clauses(invariant)?;
-    let PartDerivations { first, next, bad } = parts;
+    let first = PackedSteps::of_list(alloc, &parts.first)?;
+    let next = PackedSteps::of_list(alloc, &parts.next)?;
+    let bad = PackedSteps::of_list(alloc, &parts.bad)?;
     Ok(Certificate {
         bits,
         faults,

@@ -21,10 +21,10 @@ returns-in-Some-clause-found c =
     let a = asked c.args.q.now in
     let part = part_of c.args.part in
     let steps = steps_in a.certificate part in
-    let there : slice_get steps c.loop-i.i ≡ Some c.at.result.now = sym (ap (λ xs. slice_get xs c.loop-i.i) c.steps_of-steps.ensures) ∙ c.at.ensures in
-    step_ends a part c.loop-i.i steps c.at.result.now (step_sites part 0 steps) (c.args.line + c.loop-i.i) c.in-Some.rule there c.loop-i.invariant.rest (ap (λ n. n + c.loop-i.i) (sym c.requires.line))
-    (step_is_broken a part c.loop-i.i c.at.result.now c.loop-i.checker.vars c.loop-i.checker.clauses c.loop-i.invariant.vars c.loop-i.invariant.clauses c.take_step.new.checker c.in-Some.rule
-    (subst (FindsStep c.loop-i.checker.vars c.loop-i.checker.clauses c.at.result.now c.take_step.new.checker) c.in-Some.is c.in_ok-rule.ensures))
+    let there : slice_get steps c.loop-i.i ≡ Some c.in_ok-step.step = sym (ap (λ xs. slice_get xs c.loop-i.i) c.steps_of-steps.ensures) ∙ c.in_ok-step.ensures in
+    step_ends a part c.loop-i.i steps c.in_ok-step.step (step_sites part 0 steps) (c.args.line + c.loop-i.i) c.in-Some.rule there c.loop-i.invariant.rest (ap (λ n. n + c.loop-i.i) (sym c.requires.line))
+    (step_is_broken a part c.loop-i.i c.in_ok-step.step c.loop-i.checker.vars c.loop-i.checker.clauses c.loop-i.invariant.vars c.loop-i.invariant.clauses c.take_step.new.checker c.in-Some.rule
+    (subst (FindsStep c.loop-i.checker.vars c.loop-i.checker.clauses c.in_ok-step.step c.take_step.new.checker) c.in-Some.is c.in_ok-rule.ensures))
 
 pub returns-in-Some-clause-known : goal.returns-in-Some-clause-known
 returns-in-Some-clause-known c e = cc
@@ -34,13 +34,13 @@ loop-i-preserved c =
     let a = asked c.args.q.now in
     let part = part_of c.args.part in
     let steps = steps_in a.certificate part in
-    let there : slice_get steps c.loop-i.i ≡ Some c.at.result.now = sym (ap (λ xs. slice_get xs c.loop-i.i) c.steps_of-steps.ensures) ∙ c.at.ensures in
-    let taken = subst (FindsStep c.loop-i.checker.vars c.loop-i.checker.clauses c.at.result.now c.take_step.new.checker) c.in_default.is c.in_ok-rule.ensures in
+    let there : slice_get steps c.loop-i.i ≡ Some c.in_ok-step.step = sym (ap (λ xs. slice_get xs c.loop-i.i) c.steps_of-steps.ensures) ∙ c.in_ok-step.ensures in
+    let taken = subst (FindsStep c.loop-i.checker.vars c.loop-i.checker.clauses c.in_ok-step.step c.take_step.new.checker) c.in_default.is c.in_ok-rule.ensures in
     record {
-      rest = step_goes_on a part c.loop-i.i steps c.at.result.now (step_sites part 0 steps) there c.loop-i.invariant.rest
-          (taken_is_kept a part c.loop-i.i c.at.result.now c.loop-i.checker.vars c.loop-i.checker.clauses c.loop-i.invariant.vars c.loop-i.invariant.clauses c.take_step.new.checker taken);
+      rest = step_goes_on a part c.loop-i.i steps c.in_ok-step.step (step_sites part 0 steps) there c.loop-i.invariant.rest
+          (taken_is_kept a part c.loop-i.i c.in_ok-step.step c.loop-i.checker.vars c.loop-i.checker.clauses c.loop-i.invariant.vars c.loop-i.invariant.clauses c.take_step.new.checker taken);
       vars = taken.vars ∙ c.loop-i.invariant.vars;
-      clauses = taken.clauses ∙ (ap (λ ks. ks ++ c.at.result.now.clause ∷ []) c.loop-i.invariant.clauses ∙ sym (known_more (givens a.subject a.certificate part) steps c.loop-i.i c.at.result.now there));
+      clauses = taken.clauses ∙ (ap (λ ks. ks ++ c.in_ok-step.step.clause ∷ []) c.loop-i.invariant.clauses ∙ sym (known_more (givens a.subject a.certificate part) steps c.loop-i.i c.in_ok-step.step there));
     }
 
 pub returns-clause-found : goal.returns-clause-found
