@@ -12,11 +12,11 @@
 //! The layer above uses `solve`, `solve_in`, `can_solve`, `Verdict`, `kept::Search`, `work::Work` and `choose` alone.
 //! A question to a [`kept::Search`] goes first to the kernel of `sat_kernel`, which is fast and of which nothing is proved but that it
 //! returns. What it proposes is answered where it is seen to be right (`proposed`), and else `solve_in`'s search answers.
-//! Within, `trail` has the literals made true with their reasons, `follow` makes the store's own trail the
-//! same, `clauses` has the clauses by their places, `propagate` unit propagation, `find` the look at all
-//! clauses, `complete` answers of a kept search before every variable has a value, `analysis` what a false clause
-//! teaches, `alive` which clauses stay where a kept search drops learned ones. That propagation misses nothing is promised nowhere:
-//! before `Sat` all clauses are looked at.
+//! Within, `trail` has the literals made true with their reasons, `follow` makes the store's own trail the same,
+//! `clauses` has the clauses by their places, `propagate` unit propagation, `find` the look at all clauses, `complete`
+//! answers of a kept search before every variable has a value, `analysis` what a false clause teaches, `lesson` what is
+//! kept and told of it, `alive` which clauses stay where a kept search drops learned ones. That propagation misses
+//! nothing is promised nowhere: before `Sat` all clauses are looked at.
 //!
 //! ```text
 //! let mut panel = Panel::new(Vec::new(alloc));
@@ -45,6 +45,7 @@ mod complete;
 mod find;
 mod follow;
 pub mod kept;
+mod lesson;
 mod pass;
 mod pick;
 mod propagate;

@@ -8,27 +8,25 @@
 //! these, `IsFurther` of two trails says that the second stands higher, and `IsCore` of a clause that it
 //! refutes the assumptions. Such a clause has a literal for each assumption that it needs and would be visited ever
 //! after, so it is one of the clauses only where `cores` holds.
-ghost use Rattle.std.specs.Prelude.{◌≡◌, ◌≢◌, ◌↔◌, IsTrue, ℕ, ◌+◌, ◌<◌, ◌≤◌, true, false, [], ◌∷◌, ◌++◌, length, reverse, All, Contains};
+ghost use Rattle.std.specs.Prelude.{◌≡◌, ◌≢◌, ◌↔◌, IsTrue, ℕ, ◌+◌, ◌<◌, ◌≤◌, true, false, [], ◌∷◌, ◌++◌, length, All, Contains};
 ghost use Rattle.std.specs.Prelude.{IfOk, OnOk, OnErr, Some, None, slice_index_or};
 ghost use Rattle.sat_clauses.specs.Assignment.{IsInRange, value_of};
 ghost use Rattle.sat_clauses.specs.Derivation.{IsUpTo};
 ghost use Rattle.sat_clauses.specs.Hints.{truth_at};
-ghost use Rattle.sat_clauses.specs.Models.{FollowsFrom};
 ghost use Rattle.sat_solver.specs.Trail.{IsLawful, IsIdle};
-ghost use Rattle.sat_solver.specs.Analysis.{analysed, begun};
 ghost use Rattle.sat_solver.specs.Search.{Extends, CanSolve, HasKept, IsReason, Grows};
 ghost use Rattle.sat_solver.specs.ClauseFindings.{IsUseful};
 ghost use Rattle.sat_solver.specs.LearnedClauses.{IsAnswer};
 ghost use Rattle.sat_solver.specs.SearchSteps.{IsRunning, Keeps, GoesOn};
 ghost use Rattle.sat_solver.specs.Verdict.{IsAmong, IsAt, IsCore, IsFurther, IsLesson, IsAdvance, IsVerdict};
 
-use crate::analysis::{Learned, analyse};
 use crate::arena::Arena;
 use crate::choose::choose_from;
-use crate::clauses::{append, fill, len, lits};
+use crate::clauses::{fill, len, lits};
 use crate::complete::complete;
 use crate::find::{FoundClause, Pick, find, next_pick};
 use crate::follow::follow;
+use crate::lesson::{take_core, take_lesson};
 use crate::propagate::propagate;
 use crate::trail::{Reason, Trail};
 use base_values::OutOfMemory;
@@ -461,82 +459,6 @@ fn refute<S: Store, R: Recorder>(
         recorder,
     )?;
     Ok(core)
-}
-
-// The clause of decisions alone that a false clause teaches: where cores are kept it is kept as a lesson, else
-// the panel alone hears of it.
-fn take_core<S: Store, R: Recorder>(
-    alloc: Global,
-    trail: &Trail,
-    store: &mut S,
-    assumptions: &[Lit],
-    cores: bool,
-    number: u64,
-    panel: &mut Panel,
-    recorder: &mut R,
-) -> Result<Clause, OutOfMemory>
-    requires running { IsRunning assumptions.now (S.held store.old) trail.now }
-    requires is_false { truth_at (S.held store.old).clauses trail.now.values number ≡ Some Truth.False }
-    ensures keeps { Keeps (S.held store.old) (S.held store.new) }
-    ensures goes_on { IfOk result
-        (λ _. GoesOn assumptions.now (S.held store.old) (S.held store.new) (R.kept recorder.old) (R.kept recorder.new) trail.now) }
-    ensures lits { IfOk result (λ c. c
-        ≡ (analysed (S.held store.old).clauses true (begun (length trail.now.values) (S.held store.old).clauses number)
-        (reverse trail.now.entries)).lits) }
-    ensures listed { IfOk result (λ c. cores ≡ true → Contains (S.held store.new).clauses c) }
-    ensures follows { IfOk result (λ c. FollowsFrom (S.held store.new).clauses c) }
-    ensures ready { panel.new.vars ≡ panel.old.vars }
-    ensures rotated { panel.new.rotated ≡ panel.old.rotated }
-{
-    if cores {
-        let learned = take_lesson(
-            alloc,
-            trail,
-            store,
-            assumptions,
-            number,
-            true,
-            panel,
-            recorder,
-        )?;
-        return Ok(learned.step.clause);
-    }
-    let learned = analyse(alloc, trail, store, number, true)?;
-    panel.learned(learned.step.clause.lits());
-    Ok(learned.step.clause)
-}
-
-// Keeps what a false clause teaches.
-fn take_lesson<S: Store, R: Recorder>(
-    alloc: Global,
-    trail: &Trail,
-    store: &mut S,
-    assumptions: &[Lit],
-    number: u64,
-    fully: bool,
-    panel: &mut Panel,
-    recorder: &mut R,
-) -> Result<Learned, OutOfMemory>
-    requires running { IsRunning assumptions.now (S.held store.old) trail.now }
-    requires is_false { truth_at (S.held store.old).clauses trail.now.values number ≡ Some Truth.False }
-    ensures keeps { Keeps (S.held store.old) (S.held store.new) }
-    ensures goes_on { IfOk result
-        (λ _. GoesOn assumptions.now (S.held store.old) (S.held store.new) (R.kept recorder.old) (R.kept recorder.new) trail.now) }
-    ensures clauses { IfOk result (λ learned. (S.held store.new).clauses ≡ (S.held store.old).clauses ++ learned.step.clause ∷ []) }
-    ensures lits { IfOk result (λ learned. learned.step.clause
-        ≡ (analysed (S.held store.old).clauses fully (begun (length trail.now.values) (S.held store.old).clauses number)
-        (reverse trail.now.entries)).lits) }
-    ensures target { IfOk result (λ learned. learned.target
-        ≡ (analysed (S.held store.old).clauses fully (begun (length trail.now.values) (S.held store.old).clauses number)
-        (reverse trail.now.entries)).target) }
-    ensures ready { panel.new.vars ≡ panel.old.vars }
-    ensures rotated { panel.new.rotated ≡ panel.old.rotated }
-{
-    let learned = analyse(alloc, trail, store, number, fully)?;
-    recorder.keep(&learned.step)?;
-    append(store, learned.step.clause.lits())?;
-    panel.learned(learned.step.clause.lits());
-    Ok(learned)
 }
 
 // The place of a true literal on the trail.

@@ -6,7 +6,7 @@ use Rattle.sat_clauses.proofs.DeriveModelLemmas.{FollowsFrom-EndsFalse}
 use Rattle.sat_solver.proofs.LessonLemmas.{listed_follows}
 use Rattle.sat_solver.proofs.SearchLemmas.{entries_in_range, reasons_within, names_one}
 use Rattle.sat_solver.proofs.RunningLemmas.{running_lesson}
-use Rattle.sat_solver.proofs.solve.take_core.Goals as goal
+use Rattle.sat_solver.proofs.lesson.take_core.Goals as goal
 
 pub returns-then-cores-clause-listed : goal.returns-then-cores-clause-listed
 returns-then-cores-clause-listed g c = λ _.

@@ -4,7 +4,7 @@ use Rattle.sat_clauses.specs.Models.{ClauseBelow}
 use Rattle.sat_clauses.specs.declared.clause.Truth.TheVariants.{False}
 use Rattle.sat_solver.proofs.SearchLemmas.{entries_in_range, reasons_within, names_one, grows_one, extends_one}
 use Rattle.sat_solver.proofs.RunningLemmas.{running_lesson, running_learned}
-use Rattle.sat_solver.proofs.solve.take_lesson.Goals as goal
+use Rattle.sat_solver.proofs.lesson.take_lesson.Goals as goal
 
 pub analyse-requires-clause-in_range : goal.analyse-requires-clause-in_range
 analyse-requires-clause-in_range g c = entries_in_range (length c.args.trail.now.values) c.args.trail.now.entries c.requires.running.sound.lawful.fresh
