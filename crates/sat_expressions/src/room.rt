@@ -1,8 +1,12 @@
 //! Room for more gates. A circuit that would pass the highest variable, and a word that is wider than the
 //! arithmetic of words takes, are told as want of memory, and only they are (`fits`). No list of an encodable model
 //! comes to the first, where its inputs have at most 2^30 bits and its top event, faults and size are within their
-//! limits: its circuit ends with room (`lists_use_states` of `sat_encoding_laws`), and circuits only grow. That no word
-//! of a typed expression comes to the second is open.
+//! limits: its circuit ends with room (`lists_use_states` of `sat_encoding_laws`), and circuits only grow.
+//!
+//! Two things are open. That the inputs of an accepted program have at most 2^30 bits: an input has at most 65, and
+//! `flatten` says of the model that it makes that it has at most 2,000 variables (`closed`), but no definition carries that
+//! number to what is encoded. And that no word comes to the second, as each word of an expression that breaks no rule
+//! of kinds would have at most 34 bits; the law says 66.
 ghost use Rattle.std.specs.Prelude.{◌≤◌, ◌-◌, ◌^◌, length, IsOk, OnOk};
 
 use base_values::OutOfMemory;
