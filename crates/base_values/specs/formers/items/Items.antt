@@ -49,21 +49,26 @@ the_items_listed A items = list-listed A items
 -- the one field, as a vector of items
 abbrev one_field : Former {0}
 one_field =
-    via (vector.the_former this Global) Inside (λ A inside. inside.items) (λ A items. record { items = items }) (λ A inside. refl) (λ A items. refl)
+    via (vector.the_former this Global) Inside (λ A inside. inside.items) (λ A items. record { items = items })
+      (λ A inside. refl) (λ A items. refl)
 
 -- the row of what is kept and the row of what is shown, for a type of items
 abbrev kept_row : (Item : RattleType) → Over (Inside Item.Denot)
 kept_row Item = over (kept.the_row Item)
 
 module _ (Here There : RattleType) (along : Here.Denot → There.Denot) where
-  pub the_places : Alike Here There along → Alike (shown.the_row Here) (shown.the_row There) ((the_former this).map Here.Denot There.Denot along)
+  pub the_places : Alike Here There along →
+      Alike (shown.the_row Here) (shown.the_row There) ((the_former this).map Here.Denot There.Denot along)
   the_places alike =
       let vectors = vector.the_places global.the_row ghosts Here There along alike in
-      let fields = struct_places (kept.the_type Here) (kept.the_type There) (vector.mapped along, tt) _ (λ place. refl) refl (laid _ _ _ vectors, tt) in
+      let fields =
+          struct_places (kept.the_type Here) (kept.the_type There) (vector.mapped along, tt) _ (λ place. refl) refl
+            (laid _ _ _ vectors, tt) in
       view_places one_field (the_former this) view (λ A B f inside. refl) (λ A inside. refl) Here.Denot There.Denot along
       (shown.the_row Here).coded (shown.the_row There).coded (invariant Here.Denot) (invariant There.Denot)
       (λ inside p q. refl) (λ inside p q. refl) (λ inside holds. tt) (λ inside holds. tt)
       (kept_row Here) (kept_row There) fields
 
-  pub the_codes_placed : Recodes Here There along → Recodes (shown.the_row Here) (shown.the_row There) ((the_former this).map Here.Denot There.Denot along)
+  pub the_codes_placed : Recodes Here There along →
+      Recodes (shown.the_row Here) (shown.the_row There) ((the_former this).map Here.Denot There.Denot along)
   the_codes_placed recodes items = sym (code_map Here.coded.code There.coded.code along (λ item. sym (recodes item)) items)
