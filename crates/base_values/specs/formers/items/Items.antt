@@ -50,7 +50,7 @@ the_items_listed A items = list-listed A items
 abbrev one_field : Former {0}
 one_field =
     via (vector.the_former this Global) Inside (λ A inside. inside.items) (λ A items. record { items = items })
-      (λ A inside. refl) (λ A items. refl)
+    (λ A inside. refl) (λ A items. refl)
 
 -- the row of what is kept and the row of what is shown, for a type of items
 abbrev kept_row : (Item : RattleType) → Over (Inside Item.Denot)
@@ -62,8 +62,8 @@ module _ (Here There : RattleType) (along : Here.Denot → There.Denot) where
   the_places alike =
       let vectors = vector.the_places global.the_row ghosts Here There along alike in
       let fields =
-          struct_places (kept.the_type Here) (kept.the_type There) (vector.mapped along, tt) _ (λ place. refl) refl
-            (laid _ _ _ vectors, tt) in
+      struct_places (kept.the_type Here) (kept.the_type There) (vector.mapped along, tt) _ (λ place. refl) refl
+      (laid _ _ _ vectors, tt) in
       view_places one_field (the_former this) view (λ A B f inside. refl) (λ A inside. refl) Here.Denot There.Denot along
       (shown.the_row Here).coded (shown.the_row There).coded (invariant Here.Denot) (invariant There.Denot)
       (λ inside p q. refl) (λ inside p q. refl) (λ inside holds. tt) (λ inside holds. tt)
