@@ -13,7 +13,7 @@ use sat_clauses::lit::Lit;
 pub(crate) fn small(word: &[u8]) -> Option<u32>
     ensures { result ≡ small_in word.now }
 {
-    match number(word) {
+    match decimal_value(word) {
         Some(value) => {
             if value < 1 << 31 {
                 Some(value as u32)
@@ -30,7 +30,7 @@ pub(crate) fn count(word: &[u8]) -> Option<u64>
     ensures value { result ≡ number_in (2 ^ 63) word.now }
     ensures range { IfSome result (λ n. n < 2 ^ 63) }
 {
-    match number(word) {
+    match decimal_value(word) {
         Some(value) => { if value < 1 << 63 { Some(value) } else { None } }
         None => None,
     }
@@ -69,7 +69,7 @@ fn signed(digits: &[u8], negated: bool) -> Option<Lit>
 }
 
 /// The number below 2^64 that the word is in decimal digits, without leading zeros.
-fn number(word: &[u8]) -> Option<u64>
+fn decimal_value(word: &[u8]) -> Option<u64>
     ensures { result ≡ number_in (2 ^ 64) word.now }
 {
     if word.is_empty() {

@@ -48,7 +48,7 @@ impl<'a> Lookup<'a> {
         ensures place { IsPlaceOf (model_tree self.now.typed.now.model) name.now result }
         ensures within { IfSome result (λ place. place < length self.now.typed.now.model.variables) }
     {
-        match self.names.number(name) {
+        match self.names.number_of(name) {
             Some(number) => Some(number as usize),
             None => None,
         }

@@ -64,7 +64,7 @@ fn truth_of(text: &[u8]) -> Option<Value>
 fn symbol_of(symbols: &TextNumbers<'_>, text: &[u8]) -> Option<Value>
     ensures { IsReadOf IsSymbol symbols.now.texts.now text.now result }
 {
-    match symbols.number(text) {
+    match symbols.number_of(text) {
         Some(number) => Some(Value::Sym(number)),
         None => None,
     }

@@ -1,5 +1,5 @@
 //! Small expressions, from which branches and rules are made: a function for each form.
-//! A negative number is the negation of a number ([`number`]).
+//! A negative number is the negation of a number ([`number_expr`]).
 ghost use Rattle.std.specs.Prelude.{◌≡◌, ◌≤ℤ◌, negsuc, IfOk};
 ghost use Rattle.smv_language.specs.Tree.{not_of, negate, next_of, binary as binary_of, choice as choice_of, set_of, tree_then, no_tree};
 ghost use Rattle.smv_language.specs.ExpressionTree.{tree_of};
@@ -89,7 +89,7 @@ pub fn set_of_two(
 
 /// A number, where a negative one is the negation of a number, so that every number in it is within
 /// 32 bits where it is so itself.
-pub fn number(alloc: Global, n: i64) -> Result<Expr<Dotted>, OutOfMemory>
+pub fn number_expr(alloc: Global, n: i64) -> Result<Expr<Dotted>, OutOfMemory>
     requires { negsuc 9223372036854775806 ≤ℤ n }
     ensures { IfOk result (λ made. tree_of made ≡ number_tree n) }
 {

@@ -45,7 +45,7 @@ mod parts;
 mod print;
 mod rules;
 
-pub use build::{binary, choice, named, negated, next, not, number, set_of_one, set_of_two};
+pub use build::{binary, choice, named, negated, next, not, number_expr, set_of_one, set_of_two};
 pub use copy::{copy_extensions, copy_modes, copy_slices};
 pub use fault::{EffectFault, allowed};
 pub use instructions::{

@@ -11,7 +11,7 @@ ghost use Rattle.fault_instructions.specs.Templates.{named as named_tree, number
 ghost use Rattle.fault_instructions.specs.Templates.{branch as branch_of};
 ghost use Rattle.smv_language.specs.Trace.{value_of_member};
 
-use crate::build::{binary, choice, named, not, number, set_of_two};
+use crate::build::{binary, choice, named, not, number_expr, set_of_two};
 use crate::names::own_name;
 use crate::{Constant, Effect};
 use base_values::{Dotted, Items, Name, OutOfMemory};
@@ -80,7 +80,7 @@ fn moved(
         (binary_of Op.Plus (named_tree (own_name_of target.now)) (number_tree distance))) }
 {
     let own = own_value(alloc, target)?;
-    let distance = number(alloc, distance)?;
+    let distance = number_expr(alloc, distance)?;
     let sum = binary(alloc, Op::Plus, own, distance)?;
     clipped(alloc, d, sum)
 }
@@ -92,7 +92,7 @@ fn constant(alloc: Global, c: &Constant) -> Result<Expr<Dotted>, OutOfMemory>
 {
     match c {
         Constant::Truth(b) => Ok(Expr::Truth(*b)),
-        Constant::Number(n) => number(alloc, *n),
+        Constant::Number(n) => number_expr(alloc, *n),
         Constant::Symbol(x) => name_of(alloc, x),
     }
 }
@@ -103,7 +103,7 @@ fn member(alloc: Global, member: &Member) -> Result<Expr<Dotted>, OutOfMemory>
     ensures { IfOk result (λ made. tree_of made ≡ value_tree (value_of_member member.now)) }
 {
     match member {
-        Member::Number(n) => number(alloc, *n),
+        Member::Number(n) => number_expr(alloc, *n),
         Member::Symbol(x) => name_of(alloc, x),
     }
 }
@@ -145,7 +145,7 @@ pub fn compared(
     ensures { IfOk result (λ made. tree_of made ≡ binary_of op (tree_of e.now) (number_tree n)) }
 {
     let copy = e.copy(alloc)?;
-    let n = number(alloc, n)?;
+    let n = number_expr(alloc, n)?;
     binary(alloc, op, copy, n)
 }
 
@@ -159,7 +159,7 @@ fn replaced(
     requires { HasNegation n }
     ensures { IfOk result (λ made. tree_of made ≡ choice_of (tree_of test) (number_tree n) (tree_of e)) }
 {
-    let n = number(alloc, n)?;
+    let n = number_expr(alloc, n)?;
     choice(alloc, test, n, e)
 }
 

@@ -13,7 +13,7 @@ ghost use Rattle.fault_instructions.specs.Templates.{frozen_first as frozen_firs
 ghost use Rattle.fault_instructions.specs.Templates.{rule_sections};
 
 use crate::Effect;
-use crate::build::{binary, choice, named, next, number};
+use crate::build::{binary, choice, named, next, number_expr};
 use crate::names::{mode_symbol, mode_variable};
 use crate::parts::{compared, name_of, own_value};
 use base_values::{Dotted, Name, OutOfMemory};
@@ -257,6 +257,6 @@ fn lowered(
 {
     let less = compared(alloc, Op::Minus, value, step)?;
     let above = compared(alloc, Op::Greater, &less, floor)?;
-    let floor = number(alloc, floor)?;
+    let floor = number_expr(alloc, floor)?;
     choice(alloc, above, less, floor)
 }

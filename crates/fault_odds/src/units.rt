@@ -124,7 +124,7 @@ fn fraction_units(digits: &[u8]) -> u64
     ensures units { result ≡ number_of digits.now * 10 ^ (18 - length digits.now) }
     ensures small { result < one_in_units }
 {
-    let mut units = number(digits);
+    let mut units = digits_value(digits);
     let mut place = digits.len();
     while place < 18 {
         units *= 10;
@@ -134,7 +134,7 @@ fn fraction_units(digits: &[u8]) -> u64
 }
 
 /// The number that at most eighteen digits stand for.
-fn number(digits: &[u8]) -> u64
+fn digits_value(digits: &[u8]) -> u64
     requires digits { is_fraction_text digits.now ≡ true }
     ensures number { result ≡ number_of digits.now }
     ensures small { result < 10 ^ length digits.now }

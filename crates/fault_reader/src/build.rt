@@ -36,7 +36,7 @@ fn constant(alloc: Global, cursor: &mut Cursor) -> Result<Constant, BuildFault>
     } else if cursor.is_next(Mark::Name) {
         Ok(Constant::Symbol(cursor.name(alloc)?))
     } else {
-        Ok(Constant::Number(cursor.number()?))
+        Ok(Constant::Number(cursor.read_number()?))
     }
 }
 
@@ -71,7 +71,7 @@ fn offset(cursor: &mut Cursor) -> Result<Effect, BuildFault>
     ensures none { result ≡ Err stop.NoTree → part.offset_from cursor.old ≡ none }
 {
     cursor.expect(Mark::Open)?;
-    let distance = cursor.number()?;
+    let distance = cursor.read_number()?;
     cursor.expect(Mark::Close)?;
     Ok(Effect::Offset(distance))
 }
@@ -83,9 +83,9 @@ fn ramp_down(cursor: &mut Cursor) -> Result<Effect, BuildFault>
     ensures none { result ≡ Err stop.NoTree → part.ramp_from cursor.old ≡ none }
 {
     cursor.expect(Mark::Open)?;
-    let step = cursor.number()?;
+    let step = cursor.read_number()?;
     cursor.expect(Mark::Comma)?;
-    let floor = cursor.number()?;
+    let floor = cursor.read_number()?;
     cursor.expect(Mark::Close)?;
     Ok(Effect::RampDown(step, floor))
 }

@@ -1,6 +1,6 @@
 //! Words of constants: the two's complement of a number, each bit the constant true or false.
 //!
-//! [`number`] is the main function. It takes the fewest literals that hold the number, and [`number_at`] the same
+//! [`number_word`] is the main function. It takes the fewest literals that hold the number, and [`number_at`] the same
 //! at a given width. No gate is made.
 ghost use Rattle.std.specs.Prelude.{◌≡◌, ◌≤◌, length, true, IfOk};
 ghost use Rattle.sat_clauses.specs.Models.{TotalAssignment};
@@ -13,7 +13,7 @@ use base_values::{Items, OutOfMemory};
 use std::alloc::Global;
 
 /// The word of a number, at the fewest literals that hold it, each of them a constant.
-pub fn number(alloc: Global, g: &Gates, n: i64) -> Result<Word, OutOfMemory>
+pub fn number_word(alloc: Global, g: &Gates, n: i64) -> Result<Word, OutOfMemory>
     ensures exact { IfOk result (λ w. w ≡ number_word n) }
     ensures value { IfOk result (λ w. (v : TotalAssignment) → v 1 ≡ true → word_value v w ≡ n) }
     ensures word { IfOk result (IsWordOf g.now) }
@@ -38,7 +38,7 @@ pub fn number_at(alloc: Global, g: &Gates, n: i64, width: u32) -> Result<Word, O
 {
     // The variable of the constants is below the next free one.
     let _ = g.constant(true);
-    let shortest = number(alloc, g, n)?;
+    let shortest = number_word(alloc, g, n)?;
     let word = fitted(alloc, &shortest, width)?;
     Ok(word)
 }

@@ -32,8 +32,8 @@
 //!
 //! ```text
 //! let mut g = Gates::new(alloc, 2)?;                        // [1]
-//! let seven = number(alloc, &g, 7)?;                        // 1 1 1 -1
-//! let two = number(alloc, &g, -2)?;                         // -1 1
+//! let seven = number_word(alloc, &g, 7)?;                   // 1 1 1 -1
+//! let two = number_word(alloc, &g, -2)?;                    // -1 1
 //! let quotient = divide(alloc, &mut g, &seven, &two, 4)?;   // is -3 in each model of g's clauses
 //! ```
 #![tactic(auto)]

@@ -21,7 +21,7 @@ ghost use Rattle.sat_encoding.specs.Domains.{asserted_literal, some_gates, symbo
 ghost use Rattle.sat_encoding.specs.Copies.{Builds};
 
 use base_values::{Domain, OutOfMemory};
-use sat_circuits::constants::{number, number_at};
+use sat_circuits::constants::{number_at, number_word};
 use sat_circuits::gates::Gates;
 use sat_circuits::word::Word;
 use sat_clauses::lit::Lit;
@@ -111,7 +111,7 @@ fn some_number(
 {
     let mut found = g.constant(false);
     for n in numbers {
-        let word = number(alloc, g, *n)?;
+        let word = number_word(alloc, g, *n)?;
         found = or_same(alloc, g, found, signal, word)?;
     }
     g.assert_true(found)?;

@@ -23,7 +23,7 @@ use crate::operator::{either, negated, operator};
 use crate::signal::{Signal, between, choice, same};
 use crate::width::sort_width;
 use base_values::OutOfMemory;
-use sat_circuits::constants::number;
+use sat_circuits::constants::number_word;
 use sat_circuits::gates::Gates;
 use sat_clauses::lit::Lit;
 use smv_language::Op;
@@ -158,7 +158,7 @@ pub fn number_part(
     requires { IsAskedIn g.old (asked_of asked) }
     ensures { IfOk result (Answers (asked_of asked.entry) g.old (g.old, word (number_word n)) (literal_sort n) g.new) }
 {
-    let word = number(alloc, g, n)?;
+    let word = number_word(alloc, g, n)?;
     let part = ExpressionSignal {
         signal: Signal::Word(word),
         sort: literal(n).sort,

@@ -18,7 +18,7 @@ ghost use Rattle.sat_expressions.specs.BuiltSignals.{signal_of, IsSigned, Builds
 use crate::room::{check_narrow, check_room, check_width};
 use base_values::{Items, OutOfMemory};
 use sat_circuits::compare::{equal, less};
-use sat_circuits::constants::number;
+use sat_circuits::constants::number_word;
 use sat_circuits::gates::Gates;
 use sat_circuits::quotients::choose;
 use sat_circuits::word::{Word, fitted};
@@ -238,7 +238,7 @@ fn is_under(alloc: Global, g: &mut Gates, w: &Word, lo: i64) -> Result<Lit, OutO
     requires { IsWordOf g.old w.now }
     ensures { IfOk result (BuildsLiteral g.old (less_gates w.now (number_word lo) g.old) g.new) }
 {
-    let least = number(alloc, g, lo)?;
+    let least = number_word(alloc, g, lo)?;
     let l = is_less(alloc, g, w, &least)?;
     Ok(l)
 }
@@ -248,7 +248,7 @@ fn is_over(alloc: Global, g: &mut Gates, w: &Word, hi: i64) -> Result<Lit, OutOf
     requires { IsWordOf g.old w.now }
     ensures { IfOk result (BuildsLiteral g.old (less_gates (number_word hi) w.now g.old) g.new) }
 {
-    let greatest = number(alloc, g, hi)?;
+    let greatest = number_word(alloc, g, hi)?;
     let l = is_less(alloc, g, &greatest, w)?;
     Ok(l)
 }

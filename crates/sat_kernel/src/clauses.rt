@@ -130,7 +130,7 @@ impl Clauses {
     }
 
     /// The number of the clause at a place, for who asks.
-    pub fn number(&self, place: u32) -> u32 {
+    pub fn number_at(&self, place: u32) -> u32 {
         match self.spans.get(place as usize) {
             Some(span) => span.number,
             None => 0,

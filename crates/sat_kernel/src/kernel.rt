@@ -121,7 +121,7 @@ impl Kernel {
 
     /// The number of the clause at a place, for who asks.
     pub fn number_of(&self, place: u32) -> u32 {
-        self.clauses.number(place)
+        self.clauses.number_at(place)
     }
 
     /// Makes room for one variable.
@@ -305,7 +305,7 @@ impl Kernel {
     fn copy_of(&mut self, old: &Clauses, place: u32, is_learned: bool) -> Result<u32, OutOfMemory> {
         let copy = self
             .clauses
-            .append(old.lits(place), old.number(place), is_learned)?;
+            .append(old.lits(place), old.number_at(place), is_learned)?;
         let _is_free = self.is_free(copy);
         self.clauses.attach(copy)?;
         Ok(copy)

@@ -47,7 +47,7 @@ impl Model for Arena {
 }
 
 // Sees to it that there is a number, in no list where it is new.
-fn number(threads: &mut Threads, number: usize) -> Result<(), OutOfMemory>
+fn make_known(threads: &mut Threads, number: usize) -> Result<(), OutOfMemory>
     requires { number ≤ length threads.old.homes }
     ensures lists { threads.new.lists ≡ threads.old.lists }
     ensures homes { (i : ℕ) → at threads.new.homes i ≡ at threads.old.homes i }
@@ -164,8 +164,8 @@ impl Store for Arena {
             .ok_or(OutOfMemory)?;
         let room = places.checked_add(2).ok_or(OutOfMemory)?;
         self.found.reserve(room)?;
-        number(&mut self.firsts, place)?;
-        number(&mut self.seconds, place)?;
+        make_known(&mut self.firsts, place)?;
+        make_known(&mut self.seconds, place)?;
         self.clauses.push(lits)?;
         file(&mut self.firsts, first, place);
         file(&mut self.seconds, second, place);

@@ -196,7 +196,7 @@ impl<'t, 'a> Cursor<'t, 'a> {
     }
 
     /// The number that stands next, with its sign.
-    pub fn number(&mut self) -> Result<i64, BuildFault>
+    pub fn read_number(&mut self) -> Result<i64, BuildFault>
         ensures ok { IfOk result (λ n. int_at self.old ≡ got n self.new) }
         ensures deep { result ≡ Err stop.TooDeep → int_at self.old ≡ deep }
         ensures none { result ≡ Err stop.NoTree → int_at self.old ≡ none }

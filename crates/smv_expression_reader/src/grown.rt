@@ -78,7 +78,7 @@ impl Grown {
     }
 
     /// A number, which is 1 high.
-    pub fn number(value: i64) -> Grown
+    pub fn constant(value: i64) -> Grown
         ensures { tree_of result.tree ≡ number value }
     {
         Grown {

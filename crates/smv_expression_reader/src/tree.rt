@@ -49,7 +49,7 @@ fn value(hand: Hand) -> Grown
     ensures { tree_of result.tree ≡ machine.value (hand_view hand) }
 {
     match hand {
-        Hand::Number(digits) => Grown::number(digits.plain()),
+        Hand::Number(digits) => Grown::constant(digits.plain()),
         Hand::Name(name) => Grown::name(name),
         Hand::Other(grown) => grown,
     }
@@ -224,7 +224,7 @@ fn after_number(
 {
     match role {
         TokenRole::Dots => Ok(span_from(parts, digits)?),
-        _ => go_on(alloc, parts, Grown::number(digits.plain()), role),
+        _ => go_on(alloc, parts, Grown::constant(digits.plain()), role),
     }
 }
 

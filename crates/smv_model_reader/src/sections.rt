@@ -67,7 +67,7 @@ fn member(alloc: Global, cursor: &mut Cursor) -> Result<Member, BuildFault>
     if cursor.is_next(Mark::Name) {
         Ok(Member::Symbol(cursor.name(alloc)?))
     } else {
-        Ok(Member::Number(cursor.number()?))
+        Ok(Member::Number(cursor.read_number()?))
     }
 }
 
@@ -107,9 +107,9 @@ fn range(cursor: &mut Cursor) -> Result<Declared, BuildFault>
     ensures deep { result ≡ Err stop.TooDeep → part.range_at cursor.old ≡ deep }
     ensures none { result ≡ Err stop.NoTree → part.range_at cursor.old ≡ none }
 {
-    let lo = cursor.number()?;
+    let lo = cursor.read_number()?;
     cursor.expect(Mark::Dots)?;
-    let hi = cursor.number()?;
+    let hi = cursor.read_number()?;
     Ok(Declared::Range(lo, hi))
 }
 

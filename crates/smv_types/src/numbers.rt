@@ -29,7 +29,7 @@ impl<'a> TextNumbers<'a> {
     }
 
     /// The first place of a text, where it is one of them. Takes no memory.
-    pub fn number(&self, text: &[u8]) -> Option<u32>
+    pub fn number_of(&self, text: &[u8]) -> Option<u32>
         ensures { result ≡ number_from 0 self.now.texts.now text.now }
     {
         match self.places.get(text) {

@@ -223,7 +223,7 @@ pub fn operation(sets: bool, op: Op, a: JudgedExpr, b: JudgedExpr) -> JudgedExpr
         Op::And | Op::Or | Op::Xor | Op::Xnor | Op::Iff | Op::Implies => connective(a, b),
         Op::Equal | Op::Differs | Op::Within => same(a, b),
         Op::Less | Op::Greater | Op::AtMost | Op::AtLeast => order(a, b),
-        Op::Times | Op::Over | Op::Mod | Op::Plus | Op::Minus => number(op, a, b),
+        Op::Times | Op::Over | Op::Mod | Op::Plus | Op::Minus => arithmetic(op, a, b),
         Op::Union => union(sets, a, b),
     }
 }
@@ -259,7 +259,7 @@ fn order(a: JudgedExpr, b: JudgedExpr) -> JudgedExpr
 }
 
 /// `+`, `-`, `*`, `/` and `mod`. A missing interval breaks no rule.
-fn number(op: Op, a: JudgedExpr, b: JudgedExpr) -> JudgedExpr
+fn arithmetic(op: Op, a: JudgedExpr, b: JudgedExpr) -> JudgedExpr
     ensures { result ≡ row_number op a b }
 {
     let (left, right) = (a.sort, b.sort);

@@ -62,7 +62,7 @@ pub fn ran(
     desk: &mut MemoryDesk,
     advisers: Vec<Box<dyn Adviser>>,
 ) -> i32 {
-    run(alloc, words, desk, advisers).number()
+    run(alloc, words, desk, advisers).exit_code()
 }
 
 /// Whether a run with these words over these files ends with this number and says this text.

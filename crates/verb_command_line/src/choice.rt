@@ -2,7 +2,7 @@
 ghost use Rattle.std.specs.Prelude.{◌≡◌};
 ghost use Rattle.verb_command_line.specs.WordReading.{fits, is_claim as is_claim_text, is_file_kind};
 
-use crate::number::number;
+use crate::number::read_number;
 use crate::set::is_set;
 
 /// What the value of an option is.
@@ -27,7 +27,7 @@ impl OptionKind {
     {
         match self {
             OptionKind::File | OptionKind::Event => true,
-            OptionKind::Number { least, most } => match number(word) {
+            OptionKind::Number { least, most } => match read_number(word) {
                 Some(number) => u64::from(least) <= number && number <= u64::from(most),
                 None => false,
             },

@@ -39,7 +39,7 @@ pub enum WordFault {
 
 impl WordFault {
     /// The number of the rule, from 1 to 9.
-    pub fn number(&self) -> u32
+    pub fn rule_number(&self) -> u32
         ensures { result ≡ rule_of self.now }
     {
         match self {

@@ -5,7 +5,7 @@ ghost use Rattle.std.specs.List.{list_all};
 ghost use Rattle.verb_command_line.specs.WordReading.{number_in, small_number_in, is_numeral};
 
 /// The number of a word of 1 to 10 decimal digits.
-pub(crate) fn number(word: &str) -> Option<u64>
+pub(crate) fn read_number(word: &str) -> Option<u64>
     ensures { result ≡ number_in word.now }
 {
     if !is_number(word) {
@@ -18,7 +18,7 @@ pub(crate) fn number(word: &str) -> Option<u64>
 pub(crate) fn small_number(word: &str) -> Option<u32>
     ensures { result ≡ small_number_in word.now }
 {
-    let number = number(word)?;
+    let number = read_number(word)?;
     u32::try_from(number).ok()
 }
 

@@ -5,7 +5,7 @@ ghost use Rattle.verb_command_line.specs.WordReading.{set_fault};
 ghost use Rattle.verb_command_line.specs.CommandView.{texts};
 
 use crate::fault::WordFault;
-use crate::number::number;
+use crate::number::read_number;
 use crate::pairs::{text, value_of};
 use crate::set::{has_number, is_same};
 
@@ -39,10 +39,10 @@ fn first_outside(words: &[&str], set: &str, first: &str) -> Option<WordFault>
 fn is_outside(option: &str, value: &str, set: &str, first: &str) -> bool
     ensures { result ≡ is_outside_by set.now first.now option.now value.now }
 {
-    if is_of_pair(option) && !has_number(set, number(value)) {
+    if is_of_pair(option) && !has_number(set, read_number(value)) {
         return true;
     }
-    option == "--second" && is_same(number(first), number(value))
+    option == "--second" && is_same(read_number(first), read_number(value))
 }
 
 /// Whether the option is one of the two faults.

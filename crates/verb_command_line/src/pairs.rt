@@ -36,7 +36,7 @@ pub(crate) fn optional_number(words: &[&str], option: &str) -> Option<u32>
 }
 
 /// The number that the words give an option, 0 where they give none.
-pub(crate) fn number(words: &[&str], option: &str) -> u32
+pub(crate) fn number_given(words: &[&str], option: &str) -> u32
     ensures { result ≡ number_at (pairs_of (texts words.now)) option.now }
 {
     optional_number(words, option).unwrap_or(0)

@@ -13,7 +13,7 @@ use crate::command::{
 use crate::fault::WordFault;
 use crate::faults::fault_in;
 use crate::pair::not_in_set;
-use crate::pairs::{number, optional_number, text};
+use crate::pairs::{number_given, optional_number, text};
 use crate::verb::Verb;
 
 /// The command that the words of a command line mean, without the program's own name, or the first rule that
@@ -102,7 +102,7 @@ fn analyse<'a>(words: &[&'a str]) -> Analyse<'a>
         model: text(words, "--model"),
         faults: text(words, "--faults"),
         top: text(words, "--top"),
-        depth: number(words, "--depth"),
+        depth: number_given(words, "--depth"),
         extended: text(words, "--extended"),
         cert: text(words, "--cert"),
         size: optional_number(words, "--size"),
@@ -127,8 +127,8 @@ fn fmea<'a>(words: &[&'a str]) -> Fmea<'a>
         model: text(words, "--model"),
         faults: text(words, "--faults"),
         tops: text(words, "--tops"),
-        size: number(words, "--size"),
-        depth: number(words, "--depth"),
+        size: number_given(words, "--size"),
+        depth: number_given(words, "--depth"),
     }
 }
 
@@ -136,9 +136,9 @@ fn make<'a>(words: &[&'a str]) -> Make<'a>
     ensures { seen (command.Make result) ≡ made Verb.Make (pairs_of (texts words.now)) }
 {
     Make {
-        number: number(words, "--number"),
-        stages: number(words, "--stages"),
-        depth: number(words, "--depth"),
+        number: number_given(words, "--number"),
+        stages: number_given(words, "--stages"),
+        depth: number_given(words, "--depth"),
         model: text(words, "--model"),
         faults: text(words, "--faults"),
     }
@@ -152,7 +152,7 @@ fn causes<'a>(words: &[&'a str]) -> FindCauses<'a>
         faults: text(words, "--faults"),
         causes: text(words, "--causes"),
         top: text(words, "--top"),
-        depth: number(words, "--depth"),
+        depth: number_given(words, "--depth"),
         cert: text(words, "--cert"),
     }
 }
@@ -177,9 +177,9 @@ fn orders<'a>(words: &[&'a str]) -> FindOrders<'a>
         faults: text(words, "--faults"),
         top: text(words, "--top"),
         set: text(words, "--set"),
-        first: number(words, "--first"),
-        second: number(words, "--second"),
-        depth: number(words, "--depth"),
+        first: number_given(words, "--first"),
+        second: number_given(words, "--second"),
+        depth: number_given(words, "--depth"),
         cert: text(words, "--cert"),
     }
 }
@@ -192,8 +192,8 @@ fn check_orders<'a>(words: &[&'a str]) -> CheckOrders<'a>
         faults: text(words, "--faults"),
         top: text(words, "--top"),
         set: text(words, "--set"),
-        first: number(words, "--first"),
-        second: number(words, "--second"),
+        first: number_given(words, "--first"),
+        second: number_given(words, "--second"),
         claim: text(words, "--claim"),
         cert: text(words, "--cert"),
     }
@@ -206,6 +206,6 @@ fn odds<'a>(words: &[&'a str]) -> FindOdds<'a>
         model: text(words, "--model"),
         faults: text(words, "--faults"),
         top: text(words, "--top"),
-        depth: number(words, "--depth"),
+        depth: number_given(words, "--depth"),
     }
 }

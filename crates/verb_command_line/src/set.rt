@@ -5,7 +5,7 @@ ghost use Rattle.verb_command_line.specs.Sets.{words_of, numbers_of, IsSet};
 ghost use Rattle.verb_command_line.specs.WordReading.{rises as rises_to, is_rising, is_set_text, same_number as are_same};
 ghost use Rattle.verb_command_line.specs.WordReading.{has_number as has_number_in, words_left, left_length, smalls};
 
-use crate::number::{number, small_number};
+use crate::number::{read_number, small_number};
 use base_values::OutOfMemory;
 use std::alloc::Global;
 
@@ -35,7 +35,7 @@ fn are_rising(text: &str) -> bool
     let mut rest = Some(text);
     while let Some(words) = rest {
         let (front, after) = first_of(words);
-        match number(front) {
+        match read_number(front) {
             Some(next) if rises(last, next) => last = next,
             _ => return false,
         }
@@ -58,7 +58,7 @@ pub(crate) fn has_number(set: &str, wanted: Option<u64>) -> bool
     let mut rest = Some(set);
     while let Some(words) = rest {
         let (front, after) = first_of(words);
-        if is_same(number(front), wanted) {
+        if is_same(read_number(front), wanted) {
             return true;
         }
         rest = after;

@@ -109,7 +109,7 @@ pub enum Status {
 
 impl Status {
     /// The number that the program ends with, from 0 to 10.
-    pub fn number(&self) -> i32
+    pub fn exit_code(&self) -> i32
         ensures number { result ≡ number_of self.now }
         ensures within { (pos 0 ≤ℤ result) × (result ≤ℤ pos 10) }
     {
@@ -184,7 +184,7 @@ pub fn words_line(alloc: Global, fault: WordFault) -> Result<ByteList, OutOfMemo
     ensures { IfOk result (λ line. line ≡ words_text fault) }
 {
     let place = u64::from(fault.place());
-    refusal_line(alloc, b"refused words ", b"", fault.number(), place)
+    refusal_line(alloc, b"refused words ", b"", fault.rule_number(), place)
 }
 
 /// The line of a refused input, after its beginning.

@@ -8,7 +8,9 @@ ghost use Rattle.xsap_reports.specs.Reports.{is_word, is_feed, IsListed, IsTrace
 use crate::fault::{Expected, ReportFault, ReportStop, WrongLine};
 use crate::report::{Report, ReportEnding};
 use crate::traces::read_traces;
-use crate::words::{first_word, is_word, number, number_behind, rising_numbers, stop, take_line};
+use crate::words::{
+    first_word, is_word, number_behind, number_in, rising_numbers, stop, take_line,
+};
 use std::alloc::Global;
 
 /// The report that this text is. The text is refused where any byte of it is not as a report has it.
@@ -101,7 +103,7 @@ fn name_in(line: &[u8], earlier: u32) -> Option<&[u8]>
     ensures { IfSome result (λ name. is_word name.now ≡ true) }
 {
     let (digits, name) = first_word(line.strip_prefix(b"fault ")?);
-    if number(digits)? == earlier + 1 && is_word(name) {
+    if number_in(digits)? == earlier + 1 && is_word(name) {
         Some(name)
     } else {
         None
@@ -163,7 +165,7 @@ fn ending_in(line: &[u8]) -> Option<ReportEnding> {
     }
     let (steps, rest) = first_word(line.strip_prefix(b"bounded ")?);
     Some(ReportEnding::Bounded {
-        steps: number(steps)?,
+        steps: number_in(steps)?,
         bits: number_behind(rest, b"bits ")?,
     })
 }

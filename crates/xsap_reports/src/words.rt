@@ -27,11 +27,11 @@ pub(crate) fn stop(bytes: &[u8], expected: Expected) -> ReportStop {
 
 /// The number behind this text, where the line begins with it.
 pub(crate) fn number_behind(line: &[u8], head: &[u8]) -> Option<u32> {
-    number(line.strip_prefix(head)?)
+    number_in(line.strip_prefix(head)?)
 }
 
 /// The number that these digits are, without a sign and without zeros before it.
-pub(crate) fn number(digits: &[u8]) -> Option<u32> {
+pub(crate) fn number_in(digits: &[u8]) -> Option<u32> {
     match digits {
         [] | [b'0', _, ..] => None,
         _ => value_of(digits),
@@ -121,5 +121,5 @@ fn next_number(text: &[u8]) -> Option<(u32, &[u8])>
         return None;
     };
     let (digits, more) = cut(after, b' ');
-    Some((number(digits)?, more))
+    Some((number_in(digits)?, more))
 }

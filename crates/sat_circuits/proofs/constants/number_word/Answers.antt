@@ -6,7 +6,7 @@ use Rattle.sat_circuits.specs.Gates.{constant_lit, differ}
 use Rattle.sat_circuits.specs.Words.{word_value, IsWordOf}
 use Rattle.sat_circuits.specs.Numbers.{number_word, digits_from}
 use Rattle.sat_circuits.proofs.DigitMeans.{digits_loop-step, digits_loop-end, not_same, number_word-value, number_word-word}
-use Rattle.sat_circuits.proofs.constants.number.Goals as goal
+use Rattle.sat_circuits.proofs.constants.number_word.Goals as goal
 
 pub loop-rest-preserved : goal.loop-rest-preserved
 loop-rest-preserved c = record {

@@ -1,6 +1,6 @@
 use Rattle.std.proofs.Common.{length, sym, ◌∙◌, arith, eqb-true}
 use Rattle.cert_text.proofs.NumeralLaws.{empty_none, sign_none, zero_some, zero_none, valued}
-use Rattle.cert_text.proofs.numbers.number.Goals as goal
+use Rattle.cert_text.proofs.numbers.decimal_value.Goals as goal
 
 pub returns-then-is_empty : goal.returns-then-is_empty
 returns-then-is_empty c = empty_none c.args.word.now (eqb-true (length c.args.word.now) 0 (sym c.is_empty.ensures ∙ c.if-is_empty.true))

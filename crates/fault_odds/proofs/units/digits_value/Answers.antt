@@ -1,6 +1,6 @@
 use Rattle.std.proofs.Common.{arith}
 use Rattle.fault_odds.proofs.UnitsLaws.{fraction_few, power_small}
-use Rattle.fault_odds.proofs.units.number.Goals as goal
+use Rattle.fault_odds.proofs.units.digits_value.Goals as goal
 
 pub overflow_mul-number : goal.overflow_mul-number
 overflow_mul-number c =

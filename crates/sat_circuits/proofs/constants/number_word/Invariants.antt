@@ -1,6 +1,6 @@
 use Rattle.std.proofs.Common.{◌≡◌, ◌<◌, ◌^◌, ◌++◌}
 use Rattle.sat_circuits.specs.Numbers.{digits_from, number_word}
-use Rattle.sat_circuits.proofs.constants.number.Given as goal
+use Rattle.sat_circuits.proofs.constants.number_word.Given as goal
 
 abbrev pub invariant-loop-rest : goal.invariant-loop-rest
 invariant-loop-rest l = record {
