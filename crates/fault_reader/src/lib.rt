@@ -13,7 +13,7 @@
 //! second pass reads of the tokens, part by part, and `specs/InstructionDepths.antt` which expressions instructions have, as they
 //! are spelled: the guards and the values that `Follows` names.
 //!
-//! A text is read twice, as programs are. The first pass (`place`) makes nothing: outside expressions one token decides
+//! A text is read twice, as programs are. The first pass (`extent`, over `place`) makes nothing: outside expressions one token decides
 //! what comes next, so a place in the grammar is all that it keeps, and in an expression the state of the recogniser
 //! of expressions. Only where the whole text spells instructions the second pass (`build`) makes them, and gives
 //! up at the first expression that is higher than `DEEPEST` or nested deeper. What is spelled is read back as it is
@@ -27,6 +27,7 @@
 #![tactic(auto)]
 
 mod build;
+mod extent;
 mod place;
 mod reader;
 

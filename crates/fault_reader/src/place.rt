@@ -16,16 +16,13 @@ ghost use Rattle.fault_reader.specs.InstructionGrammar.{Sym, where_so, live, is_
 ghost use Rattle.fault_reader.specs.InstructionGrammar.{is_single as is_single_mark};
 ghost use Rattle.fault_reader.specs.InstructionGrammar as g;
 ghost use Rattle.fault_reader.specs.InstructionPlaces.{single_view, head_view, mode_view, argument_view, place_view, word_view, after_word};
-ghost use Rattle.fault_reader.specs.InstructionPlaces.{begun_view, after_view, stepped, before_close, before_semicolon, Fits, word_ends};
-ghost use Rattle.fault_reader.specs.InstructionPlaces.{ends_at, ListReads};
+ghost use Rattle.fault_reader.specs.InstructionPlaces.{begun_view, after_view, stepped, before_close, before_semicolon, Fits};
 
 use base_values::OutOfMemory;
 use smv_expression_reader::frames::OpenFrames;
 use smv_expression_reader::machine::{Mode, is_stuck, is_whole, step};
 use smv_expression_reader::mark::Mark;
-use smv_expression_reader::reading::ReadExtent;
 use smv_expression_reader::token::TokenText;
-use std::alloc::Global;
 
 /// A token that stands alone between others.
 #[derive(Clone, Copy, Debug, PartialEq, Eq)]
@@ -553,7 +550,7 @@ fn word_step(
 }
 
 /// The place after one token more, and nothing where no text goes on with it.
-fn place_step(
+pub(crate) fn place_step(
     place: InstructionPlace,
     frames: &mut OpenFrames,
     token: &TokenText,
@@ -566,45 +563,5 @@ fn place_step(
         InstructionPlace::Word(place) => word_step(place, frames, token),
         InstructionPlace::InFollowed(mode) => followed_step(mode, frames, token),
         InstructionPlace::InCondition(mode) => condition_step(mode, frames, token),
-    }
-}
-
-/// Whether instructions may end here.
-fn word_may_end(place: WordPlace) -> bool
-    ensures { result ≡ word_ends place }
-{
-    match place {
-        WordPlace::Head(HeadPlace::File | HeadPlace::Extensions | HeadPlace::Slices) => true,
-        WordPlace::Mode(ModePlace::Modes) => true,
-        _ => false,
-    }
-}
-
-/// Whether instructions may end here, which no expression's inside does.
-fn may_end(place: InstructionPlace) -> bool
-    ensures { result ≡ ends_at place }
-{
-    match place {
-        InstructionPlace::Word(place) => word_may_end(place),
-        InstructionPlace::InFollowed(_) | InstructionPlace::InCondition(_) => false,
-    }
-}
-
-/// How far the tokens can be read as instructions.
-pub fn read_through(alloc: Global, tokens: &[TokenText]) -> Result<ReadExtent, OutOfMemory>
-    ensures { IfOk result (λ reading. ListReads tokens.now reading) }
-{
-    let mut frames = OpenFrames::new(alloc);
-    let mut place = InstructionPlace::Word(WordPlace::Head(HeadPlace::File));
-    for (i, token) in tokens.iter().enumerate() {
-        match place_step(place, &mut frames, token)? {
-            Some(next) => place = next,
-            None => return Ok(ReadExtent::Stopped(i)),
-        }
-    }
-    if may_end(place) {
-        Ok(ReadExtent::Whole)
-    } else {
-        Ok(ReadExtent::Unfinished)
     }
 }

@@ -10,7 +10,7 @@ ghost use Rattle.fault_instructions.specs.Instructions.{InstructionTree, instruc
 ghost use Rattle.fault_instructions.specs.SpellsInstructions.{BytesSpellInstructions};
 
 use crate::build::file;
-use crate::place::read_through;
+use crate::extent::read_through;
 use fault_instructions::Instructions;
 use smv_expression_reader::ParseFault;
 use smv_expression_reader::cursor::Cursor;

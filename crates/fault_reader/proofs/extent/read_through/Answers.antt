@@ -5,7 +5,7 @@ use Rattle.smv_expression_reader.proofs.StopLaws.{path_more}
 use Rattle.fault_reader.specs.InstructionGrammar.{Sym, file, instructions}
 use Rattle.fault_reader.specs.InstructionPlaces.{expected_after, place_view, after_view, Fits}
 use Rattle.fault_reader.proofs.PlaceLaws.{fits_goes, ends_law}
-use Rattle.fault_reader.proofs.place.read_through.Goals as goal
+use Rattle.fault_reader.proofs.extent.read_through.Goals as goal
 
 pub returns-in-None : goal.returns-in-None
 returns-in-None c =
