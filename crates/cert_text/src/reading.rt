@@ -166,7 +166,8 @@ impl CertificateReading {
     fn take_sets_count(&mut self, line: &[u8]) -> Result<(), LineRefusal>
         ensures ok { OnOk result (option_map (λ n. then_expecting self.old (sets_left n)) (count_in (codes "sets") line.now)
             ≡ Some self.new) }
-        ensures err { IfErr result (IsRefused (option_map (λ n. then_expecting self.old (sets_left n)) (count_in (codes "sets") line.now))) }
+        ensures err { IfErr result
+            (IsRefused (option_map (λ n. then_expecting self.old (sets_left n)) (count_in (codes "sets") line.now))) }
     {
         match count_in(line, b"sets") {
             Some(count) => {

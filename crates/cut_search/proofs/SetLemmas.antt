@@ -34,3 +34,5 @@ module _ {T : Type 0} where
       by_test : (b : Bool) → place_of set fs ≤ length fs → (if b then 0 else suc (place_of set fs)) ≤ length (f ∷ fs)
       by_test true h = omega arith
       by_test false h = omega (arith, h)
+
+pub ruleset place_steps = (place_here, place_later, place_end, place_within)

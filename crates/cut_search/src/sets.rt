@@ -59,7 +59,7 @@ impl WitnessedSet {
 }
 
 /// Where a new set stands in a list of sets.
-#[tactic(auto, using(crate::proofs::SetLemmas::place_here, crate::proofs::SetLemmas::place_later, crate::proofs::SetLemmas::place_end, crate::proofs::SetLemmas::place_within))]
+#[tactic(auto, using(crate::proofs::SetLemmas::place_steps))]
 fn place_in(found: &[WitnessedSet], set: &[u32]) -> usize
     ensures place { result ≡ place_of set.now found.now }
     ensures within { result ≤ length found.now }

@@ -73,3 +73,5 @@ pub rises_where : (s : List ℕ) → IsRising s → is_rising s ≡ true
 rises_where [] h = refl
 rises_where (i ∷ []) h = refl
 rises_where (i ∷ j ∷ s) h = ap (λ b. b && is_rising (j ∷ s)) (less_where i j h.0) ∙ rises_where (j ∷ s) h.1
+
+pub ruleset before_steps = (before_ended, before_shorter, before_differs, before_same)

@@ -50,7 +50,7 @@ fn rises(set: &[u32]) -> bool
 }
 
 // Whether the one set comes before the other by their numbers.
-#[tactic(auto, using(crate::proofs::SetLemmas::before_ended, crate::proofs::SetLemmas::before_shorter, crate::proofs::SetLemmas::before_differs, crate::proofs::SetLemmas::before_same))]
+#[tactic(auto, using(crate::proofs::SetLemmas::before_steps))]
 fn is_before(set: &[u32], other: &[u32]) -> bool
     ensures { result ≡ is_before_in_order set.now other.now }
 {

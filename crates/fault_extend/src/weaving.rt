@@ -101,7 +101,8 @@ fn judge(alloc: Global, p: &Program, typed: &Typed, i: &Instructions) -> Result<
 fn count(alloc: Global, typed: &Typed, i: &Instructions) -> Result<(), RuleFault>
     ensures kept { OnOk result (AllKept (count_broken_at (modules_in typed.now.model.instances)) (item_sites (instruction_tree i.now))) }
     ensures first { IfErr result (λ fault. fault.rule ≢ broken.OutOfMemory →
-        IsFirstBroken (count_broken_at (modules_in typed.now.model.instances)) (item_sites (instruction_tree i.now)) fault.rule fault.item) }
+        IsFirstBroken (count_broken_at (modules_in typed.now.model.instances)) (item_sites (instruction_tree i.now))
+        fault.rule fault.item) }
 {
     let owners = modules_of(alloc, typed.model().instances.as_slice())?;
     judge_counts(owners.as_slice(), i)

@@ -216,3 +216,13 @@ pub fits_goes : (place : InstructionPlace) (s : List Frame) → Fits place s →
 fits_goes (p.Word place) s h = (word_view place, refl)
 fits_goes (p.InFollowed m) s h = live_some (state_with m s) before_close h
 fits_goes (p.InCondition m) s h = live_some (state_with m s) before_semicolon h
+
+pub ruleset start_steps = (a_start_step, no_start_step, keyword_step)
+
+pub ruleset head_steps = (keyword_step, single_step, first_mode_step)
+
+pub ruleset effect_steps = (effect_stuck, effect_follows, effect_offset, effect_ramp, effect_plain)
+
+pub ruleset guard_steps = (a_guard_step, no_guard_step, single_step)
+
+pub ruleset mode_steps = (single_step, mode_rest_step, dynamics_step)

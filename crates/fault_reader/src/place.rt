@@ -214,7 +214,7 @@ fn file_step(token: &TokenText) -> Option<WordPlace>
 }
 
 /// After a token where the words on a slice's start or its modes may come.
-#[tactic(auto, using(crate::proofs::PlaceLaws::a_start_step, crate::proofs::PlaceLaws::no_start_step, crate::proofs::PlaceLaws::keyword_step))]
+#[tactic(auto, using(crate::proofs::PlaceLaws::start_steps))]
 fn start_step(token: &TokenText) -> Option<WordPlace>
     ensures { after_word result ≡ grammar_step Sym grammar (head_view head.Start) token.now }
 {
@@ -226,7 +226,7 @@ fn start_step(token: &TokenText) -> Option<WordPlace>
 }
 
 /// After a token up to the modes of a slice.
-#[tactic(auto, using(crate::proofs::PlaceLaws::keyword_step, crate::proofs::PlaceLaws::single_step, crate::proofs::PlaceLaws::first_mode_step))]
+#[tactic(auto, using(crate::proofs::PlaceLaws::head_steps))]
 fn head_step(place: HeadPlace, token: &TokenText) -> Option<WordPlace>
     ensures { after_word result ≡ grammar_step Sym grammar (head_view place) token.now }
 {
@@ -289,7 +289,7 @@ fn is_plain_effect(token: &TokenText) -> bool
 }
 
 /// After the word of an effect.
-#[tactic(auto, using(crate::proofs::PlaceLaws::effect_stuck, crate::proofs::PlaceLaws::effect_follows, crate::proofs::PlaceLaws::effect_offset, crate::proofs::PlaceLaws::effect_ramp, crate::proofs::PlaceLaws::effect_plain))]
+#[tactic(auto, using(crate::proofs::PlaceLaws::effect_steps))]
 fn effect_step(token: &TokenText) -> Option<WordPlace>
     ensures { after_word result ≡ grammar_step Sym grammar (mode_view mode.Effect) token.now }
 {
@@ -307,7 +307,7 @@ fn effect_step(token: &TokenText) -> Option<WordPlace>
 }
 
 /// After a token where a guard or the semicolon may come.
-#[tactic(auto, using(crate::proofs::PlaceLaws::a_guard_step, crate::proofs::PlaceLaws::no_guard_step, crate::proofs::PlaceLaws::single_step))]
+#[tactic(auto, using(crate::proofs::PlaceLaws::guard_steps))]
 fn guard_step(token: &TokenText) -> Option<WordPlace>
     ensures { after_word result ≡ grammar_step Sym grammar (mode_view mode.Guard) token.now }
 {
@@ -319,7 +319,7 @@ fn guard_step(token: &TokenText) -> Option<WordPlace>
 }
 
 /// After a token of a mode.
-#[tactic(auto, using(crate::proofs::PlaceLaws::single_step, crate::proofs::PlaceLaws::mode_rest_step, crate::proofs::PlaceLaws::dynamics_step))]
+#[tactic(auto, using(crate::proofs::PlaceLaws::mode_steps))]
 fn mode_step(place: ModePlace, token: &TokenText) -> Option<WordPlace>
     ensures { after_word result ≡ grammar_step Sym grammar (mode_view place) token.now }
 {

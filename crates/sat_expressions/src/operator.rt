@@ -73,7 +73,8 @@ fn multiplied(
     requires some { 1 ≤ width }
     requires left { IsSignal g.old (signal_of a) }
     requires right { IsSignal g.old (signal_of b) }
-    ensures { IfOk result (BuildsSignal g.old (as_word (multiply_gates (word_in (signal_of a)) (word_in (signal_of b)) width g.old)) g.new) }
+    ensures { IfOk result
+        (BuildsSignal g.old (as_word (multiply_gates (word_in (signal_of a)) (word_in (signal_of b)) width g.old)) g.new) }
 {
     check_room(g)?;
     check_width(width)?;
@@ -158,7 +159,8 @@ fn subtracted(
     requires some { 1 ≤ width }
     requires left { IsSignal g.old (signal_of a) }
     requires right { IsSignal g.old (signal_of b) }
-    ensures { IfOk result (BuildsSignal g.old (as_word (subtract_gates (word_in (signal_of a)) (word_in (signal_of b)) width g.old)) g.new) }
+    ensures { IfOk result
+        (BuildsSignal g.old (as_word (subtract_gates (word_in (signal_of a)) (word_in (signal_of b)) width g.old)) g.new) }
 {
     check_room(g)?;
     check_width(width)?;

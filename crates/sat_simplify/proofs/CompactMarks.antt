@@ -74,3 +74,11 @@ gap_few gap next i false e le = omega (arith, e, le)
 
 pub gaps_all : (marks : List Bool) (i gap : ℕ) (now all : List ℕ) → length marks ≤ i → now ++ gaps gap (drop i marks) ≡ all → now ≡ all
 gaps_all marks i gap now all over e = sym (append-nil now) ∙ (ap (λ s. now ++ gaps gap s) (sym (drop_all i marks over)) ∙ e)
+
+pub ruleset growing_rules = (marks_grown, marks_itself, marks_all)
+
+pub ruleset setting_rules = (marks_set, marks_all, set_marked)
+
+pub ruleset marked_steps = (marked_none, marked_more, marked_all)
+
+pub ruleset listed_steps = (listed_none, listed_more, listed_all)

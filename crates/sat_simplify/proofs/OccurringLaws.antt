@@ -45,3 +45,9 @@ noted_more a b c lits i l number lt is before here keeps = record {
 
 pub noted_all : (a b : List (List ℕ)) (lits : List Literal) (i number : ℕ) → length lits ≤ i → HasNoted a b (take i lits) number → HasNoted a b lits number
 noted_all a b lits i number over h = subst (λ r. HasNoted a b r number) (take_all i lits over) h
+
+pub ruleset growing_rules = (keeps_grown, keeps_itself, keeps_all)
+
+pub ruleset noting_rules = (keeps_noted, has_noted, keeps_all)
+
+pub ruleset noted_steps = (noted_none, noted_more, noted_all)

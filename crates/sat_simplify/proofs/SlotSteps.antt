@@ -72,3 +72,9 @@ entered_more c d list i now next lt is e once step =
 pub standing_more : (o : Slot) (slots : List Slot) (i : ℕ) (now next : List (List Literal)) → i < length slots → o ≡ get_or slots i o → now ≡ standing (take i slots) → next ≡ now ++ option_to_list o → next ≡ standing (take (i + 1) slots)
 standing_more o slots i now next lt is e step =
     step ∙ (ap (λ r. r ++ option_to_list o) e ∙ (flat_map_more option_to_list [] (take i slots) o ∙ ap standing (ap (λ x. take i slots ++ x ∷ []) is ∙ sym (take_more slots i o lt))))
+
+pub ruleset dropped_rules = (changed_past, changed_same, changed_to, dropped_has, dropped_lacks)
+
+pub ruleset covered_rules = (changed_past, changed_same, changed_to, covered_has, covered_lacks)
+
+pub ruleset resolved_steps = (resolved_none, resolved_more, resolved_all)

@@ -14,7 +14,7 @@ use sat_clauses::lit::Lit;
 use std::alloc::Global;
 
 // Makes a place for each number up to this one.
-#[tactic(auto, using(crate::proofs::CompactMarks::marks_grown, crate::proofs::CompactMarks::marks_itself, crate::proofs::CompactMarks::marks_all))]
+#[tactic(auto, using(crate::proofs::CompactMarks::growing_rules))]
 fn make_room(marks: &mut Vec<bool>, i: usize) -> Result<(), OutOfMemory>
     ensures room { OnOk result (i < length marks.new.items) }
     ensures keeps { OnOk result (KeepsMarks marks.old.items marks.new.items) }
@@ -26,7 +26,7 @@ fn make_room(marks: &mut Vec<bool>, i: usize) -> Result<(), OutOfMemory>
 }
 
 // Marks a number.
-#[tactic(auto, using(crate::proofs::CompactMarks::marks_set, crate::proofs::CompactMarks::marks_all, crate::proofs::CompactMarks::set_marked))]
+#[tactic(auto, using(crate::proofs::CompactMarks::setting_rules))]
 fn mark(marks: &mut Vec<bool>, i: usize) -> Result<(), OutOfMemory>
     ensures has { OnOk result (IsTrue (slice_index_or marks.new.items i false)) }
     ensures keeps { OnOk result (KeepsMarks marks.old.items marks.new.items) }
@@ -49,7 +49,7 @@ fn mark_literal(marks: &mut Vec<bool>, places: u64, lit: Lit) -> Result<(), OutO
 }
 
 /// Marks the variables of a clause.
-#[tactic(auto, using(crate::proofs::CompactMarks::marked_none, crate::proofs::CompactMarks::marked_more, crate::proofs::CompactMarks::marked_all))]
+#[tactic(auto, using(crate::proofs::CompactMarks::marked_steps))]
 pub fn mark_clause(marks: &mut Vec<bool>, places: u64, lits: &[Lit]) -> Result<(), OutOfMemory>
     ensures { OnOk result (HasMarked places marks.old.items marks.new.items lits.now) }
 {
@@ -60,7 +60,7 @@ pub fn mark_clause(marks: &mut Vec<bool>, places: u64, lits: &[Lit]) -> Result<(
 }
 
 // Which variables above the places stand in a list.
-#[tactic(auto, using(crate::proofs::CompactMarks::listed_none, crate::proofs::CompactMarks::listed_more, crate::proofs::CompactMarks::listed_all))]
+#[tactic(auto, using(crate::proofs::CompactMarks::listed_steps))]
 fn marks_of(alloc: Global, places: u64, list: &[Clause]) -> Result<Vec<bool>, OutOfMemory>
     ensures { IfOk result (λ marks. All (All (IsMarked places marks.items)) list.now) }
 {

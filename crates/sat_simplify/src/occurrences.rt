@@ -93,7 +93,7 @@ impl Occurrences {
         }
     }
 
-    #[tactic(auto, using(crate::proofs::OccurringLaws::keeps_grown, crate::proofs::OccurringLaws::keeps_itself, crate::proofs::OccurringLaws::keeps_all))]
+    #[tactic(auto, using(crate::proofs::OccurringLaws::growing_rules))]
     // Makes a list for each code up to this one.
     fn make_room(&mut self, code: usize) -> Result<(), OutOfMemory>
         ensures room { OnOk result (code < length self.new) }
@@ -113,7 +113,7 @@ impl Occurrences {
         self.lists[code].push(number)
     }
 
-    #[tactic(auto, using(crate::proofs::OccurringLaws::keeps_noted, crate::proofs::OccurringLaws::has_noted, crate::proofs::OccurringLaws::keeps_all))]
+    #[tactic(auto, using(crate::proofs::OccurringLaws::noting_rules))]
     /// Notes a number at a literal.
     pub fn note(&mut self, lit: Lit, number: usize) -> Result<(), OutOfMemory>
         ensures has { OnOk result (IsNotedAt self.new number lit) }
@@ -124,7 +124,7 @@ impl Occurrences {
         self.push(code, number)
     }
 
-    #[tactic(auto, using(crate::proofs::OccurringLaws::noted_none, crate::proofs::OccurringLaws::noted_more, crate::proofs::OccurringLaws::noted_all))]
+    #[tactic(auto, using(crate::proofs::OccurringLaws::noted_steps))]
     /// Notes a number at each literal of a clause.
     pub fn note_clause(&mut self, lits: &[Lit], number: usize) -> Result<(), OutOfMemory>
         ensures { OnOk result (HasNoted self.old self.new lits.now number) }

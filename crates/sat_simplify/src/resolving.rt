@@ -28,7 +28,7 @@ pub fn push_open(list: &mut ClauseList, clause: Clause, most: usize) -> Result<b
 }
 
 // Appends the resolvents of a clause with each of the others, unless they get too many or too long.
-#[tactic(auto, using(crate::proofs::SlotSteps::resolved_none, crate::proofs::SlotSteps::resolved_more, crate::proofs::SlotSteps::resolved_all))]
+#[tactic(auto, using(crate::proofs::SlotSteps::resolved_steps))]
 fn resolve_with(
     alloc: Global,
     list: &mut ClauseList,

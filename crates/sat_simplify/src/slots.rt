@@ -38,7 +38,7 @@ pub fn count_each(slots: &[Option<Clause>], at: &[usize], lit: Lit, limit: usize
 }
 
 // Takes the clause of a place out if it has the literal.
-#[tactic(auto, using(crate::proofs::SlotSteps::changed_past, crate::proofs::SlotSteps::changed_same, crate::proofs::SlotSteps::changed_to, crate::proofs::SlotSteps::dropped_has, crate::proofs::SlotSteps::dropped_lacks))]
+#[tactic(auto, using(crate::proofs::SlotSteps::dropped_rules))]
 fn drop_at(slots: &mut Vec<Option<Clause>>, i: usize, lit: Lit)
     ensures { slots.new.items ≡ changed_at (dropped lit) slots.old.items i }
 {
@@ -137,7 +137,7 @@ pub fn slot_covered(slot: &Option<Clause>, lits: &[Lit]) -> bool
 }
 
 // Takes the clause of a place out if the clause of these literals subsumes it.
-#[tactic(auto, using(crate::proofs::SlotSteps::changed_past, crate::proofs::SlotSteps::changed_same, crate::proofs::SlotSteps::changed_to, crate::proofs::SlotSteps::covered_has, crate::proofs::SlotSteps::covered_lacks))]
+#[tactic(auto, using(crate::proofs::SlotSteps::covered_rules))]
 fn cover_at(slots: &mut Vec<Option<Clause>>, i: usize, lits: &[Lit])
     ensures { slots.new.items ≡ changed_at (covered lits.now) slots.old.items i }
 {

@@ -312,7 +312,7 @@ fn answered<'a, R: Recorder>(
     requires idle { IsIdle store.old.vars trail.old }
     ensures right { IfOk result (IsRight question.entry.cores store.old.vars (added_of store.old.clauses marks.now)
         store.old.clauses store.new.clauses question.entry.assumptions.now) }
-    ensures grows { IfOk result (λ _. Grows store.old.vars store.old.clauses (R.kept recorder.old) store.new.clauses (R.kept recorder.new)) }
+    ensures grows { OnOk result (Grows store.old.vars store.old.clauses (R.kept recorder.old) store.new.clauses (R.kept recorder.new)) }
     ensures vars { IfOk result (λ _. store.new.vars ≡ store.old.vars) }
     ensures trail { IfOk result (λ _. store.new.trail ≡ []) }
     ensures idle { IfOk result (λ _. IsIdle store.old.vars trail.new) }

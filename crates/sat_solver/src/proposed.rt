@@ -3,7 +3,7 @@
 //! only where it has negated assumptions alone and follows. Where that is not so there is no answer, and the search of
 //! [`crate::solve`] gives it.
 ghost use Rattle.std.specs.Prelude.{◌≡◌, ◌^◌, ◌<◌, ◌≤◌, ◌+◌, List, All, Any, Contains, IsTrue, IfOk, IfSome, Some, true, false, [], length};
-ghost use Rattle.std.specs.Prelude.{slice_index_or};
+ghost use Rattle.std.specs.Prelude.{slice_index_or, OnOk};
 ghost use Rattle.sat_clauses.specs.Models.{FollowsFrom};
 ghost use Rattle.sat_clauses.specs.Literal.{Literal, opposite};
 ghost use Rattle.sat_clauses.specs.Assignment.{IsInRange, all_free, value_of};
@@ -56,7 +56,7 @@ fn keep_step<R: Recorder>(
     ensures free { judge.new ≡ all_free store.old.vars }
     ensures vars { store.new.vars ≡ store.old.vars }
     ensures trail { store.new.trail ≡ store.old.trail }
-    ensures grows { IfOk result (λ _. Grows store.old.vars store.old.clauses (R.kept recorder.old) store.new.clauses (R.kept recorder.new)) }
+    ensures grows { OnOk result (Grows store.old.vars store.old.clauses (R.kept recorder.old) store.new.clauses (R.kept recorder.new)) }
     ensures listed { IfOk result (λ is_kept. IsTrue is_kept → Contains store.new.clauses step.now.clause) }
     ensures follows { IfOk result (λ is_kept. IsTrue is_kept → FollowsFrom store.old.clauses step.now.clause) }
 {
@@ -79,7 +79,7 @@ fn keep_steps<R: Recorder>(
     requires in_range { All (All (IsUpTo store.old.vars)) store.old.clauses }
     ensures vars { store.new.vars ≡ store.old.vars }
     ensures trail { store.new.trail ≡ store.old.trail }
-    ensures grows { IfOk result (λ _. Grows store.old.vars store.old.clauses (R.kept recorder.old) store.new.clauses (R.kept recorder.new)) }
+    ensures grows { OnOk result (Grows store.old.vars store.old.clauses (R.kept recorder.old) store.new.clauses (R.kept recorder.new)) }
 {
     if steps.is_empty() {
         return Ok(true);
@@ -206,7 +206,8 @@ fn model<'a>(
     requires small { store.now.vars < 2 ^ 62 }
     requires in_range { All (All (IsUpTo store.now.vars)) store.now.clauses }
     requires asked { All (IsUpTo store.now.vars) question.assumptions.now }
-    ensures { IfOk result (λ r. IfSome r (IsSolution store.now.vars (added_of store.now.clauses marks.now) question.entry.assumptions.now)) }
+    ensures { IfOk result
+        (λ r. IfSome r (IsSolution store.now.vars (added_of store.now.clauses marks.now) question.entry.assumptions.now)) }
 {
     let Proposal::Model = proposal else {
         return Ok(None);
@@ -230,7 +231,7 @@ fn refutes<R: Recorder>(
     requires in_range { All (All (IsUpTo store.old.vars)) store.old.clauses }
     ensures vars { store.new.vars ≡ store.old.vars }
     ensures trail { store.new.trail ≡ store.old.trail }
-    ensures grows { IfOk result (λ _. Grows store.old.vars store.old.clauses (R.kept recorder.old) store.new.clauses (R.kept recorder.new)) }
+    ensures grows { OnOk result (Grows store.old.vars store.old.clauses (R.kept recorder.old) store.new.clauses (R.kept recorder.new)) }
     ensures listed { IfOk result (λ is_right. IsTrue is_right → cores ≡ true → Contains store.new.clauses step.now.clause) }
     ensures follows { IfOk result (λ is_right. IsTrue is_right → FollowsFrom store.old.clauses step.now.clause) }
 {
@@ -255,7 +256,7 @@ fn core<'a, R: Recorder>(
     requires in_range { All (All (IsUpTo store.old.vars)) store.old.clauses }
     ensures vars { store.new.vars ≡ store.old.vars }
     ensures trail { store.new.trail ≡ store.old.trail }
-    ensures grows { IfOk result (λ _. Grows store.old.vars store.old.clauses (R.kept recorder.old) store.new.clauses (R.kept recorder.new)) }
+    ensures grows { OnOk result (Grows store.old.vars store.old.clauses (R.kept recorder.old) store.new.clauses (R.kept recorder.new)) }
     ensures right { (added : List (List Literal)) → IfOk result (λ r. IfSome r (IsRight question.entry.cores store.old.vars added
         store.old.clauses store.new.clauses question.entry.assumptions.now)) }
 {
@@ -283,7 +284,7 @@ pub(crate) fn proposed<'a, R: Recorder>(
     requires asked { All (IsUpTo store.old.vars) question.assumptions.now }
     ensures vars { store.new.vars ≡ store.old.vars }
     ensures trail { store.new.trail ≡ store.old.trail }
-    ensures grows { IfOk result (λ _. Grows store.old.vars store.old.clauses (R.kept recorder.old) store.new.clauses (R.kept recorder.new)) }
+    ensures grows { OnOk result (Grows store.old.vars store.old.clauses (R.kept recorder.old) store.new.clauses (R.kept recorder.new)) }
     ensures right { IfOk result (λ r. IfSome r (IsRight question.entry.cores store.old.vars (added_of store.old.clauses marks.now)
         store.old.clauses store.new.clauses question.entry.assumptions.now)) }
     ensures ready { panel.new.vars ≡ panel.old.vars }
@@ -324,7 +325,7 @@ pub(crate) fn refuted<'a, R: Recorder>(
     requires asked { All (IsUpTo store.old.vars) question.assumptions.now }
     ensures vars { store.new.vars ≡ store.old.vars }
     ensures trail { store.new.trail ≡ store.old.trail }
-    ensures grows { IfOk result (λ _. Grows store.old.vars store.old.clauses (R.kept recorder.old) store.new.clauses (R.kept recorder.new)) }
+    ensures grows { OnOk result (Grows store.old.vars store.old.clauses (R.kept recorder.old) store.new.clauses (R.kept recorder.new)) }
     ensures right { (added : List (List Literal)) → IfOk result (λ r. IfSome r (IsRight question.entry.cores store.old.vars added
         store.old.clauses store.new.clauses question.entry.assumptions.now)) }
     ensures ready { panel.new.vars ≡ panel.old.vars }

@@ -40,3 +40,7 @@ finished_from t h e = ap machine.finished (sym e)
 
 pub unfinished_from : (t : Tree Path) (p : machine.Part) (ps : List machine.Part) (h : machine.Held) → held t (p ∷ ps) ≡ h → machine.finished h ≡ None
 unfinished_from t p ps h e = ap machine.finished (sym e)
+
+pub ruleset part_rules = (left_from, asked_from, shut_from)
+
+pub ruleset finished_rules = (finished_from, unfinished_from)

@@ -228,3 +228,5 @@ are_within (s ∷ ss) e = go (is_too_deep s) refl e (are_within ss)
 pub within_are : (ss : List Spelling) → AreWithin ss → are_too_deep ss ≡ false
 within_are [] w = refl
 within_are (s ∷ ss) w = rw (one_within s w.0, within_are ss w.1) refl
+
+pub ruleset expr_rules = (expr_got, expr_nested, expr_partial, expr_unmade)

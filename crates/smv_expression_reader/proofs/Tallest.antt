@@ -180,3 +180,5 @@ tree_high st ts i x r t h is role path high e =
     let here : TooHigh (build_step st x (role_of x)) = subst (λ z. TooHigh (build_step st x z)) role high in
     let split : drop i ts ≡ x ∷ drop (i + 1) ts = drop_more ts i x h ∙ ap (λ z. z ∷ drop (i + 1) ts) (sym is) in
     step_high st x (drop (i + 1) ts) t here (ap finish (ap (build st) (sym split) ∙ path) ∙ e)
+
+pub ruleset high_rules = (left_high, asked_high, shut_high)

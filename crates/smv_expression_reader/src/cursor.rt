@@ -236,7 +236,7 @@ impl<'t, 'a> Cursor<'t, 'a> {
     }
 
     /// The longest expression that stands next.
-    #[tactic(auto, using(crate::proofs::ReadLaws::expr_got, crate::proofs::ReadLaws::expr_nested, crate::proofs::ReadLaws::expr_partial, crate::proofs::ReadLaws::expr_unmade))]
+    #[tactic(auto, using(crate::proofs::ReadLaws::expr_rules))]
     pub fn expression(&mut self, alloc: Global) -> Result<Expr<Dotted>, BuildFault>
         ensures ok { IfOk result (λ e. expr_at self.old ≡ got (tree_of e) self.new) }
         ensures deep { result ≡ Err stop.TooDeep → expr_at self.old ≡ deep }

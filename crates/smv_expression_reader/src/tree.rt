@@ -164,7 +164,7 @@ fn shut(
 }
 
 /// What follows an operand.
-#[tactic(auto, using(crate::proofs::PartStacks::left_from, crate::proofs::PartStacks::asked_from, crate::proofs::PartStacks::shut_from, crate::proofs::Tallest::left_high, crate::proofs::Tallest::asked_high, crate::proofs::Tallest::shut_high))]
+#[tactic(auto, using(crate::proofs::PartStacks::part_rules, crate::proofs::Tallest::high_rules))]
 fn go_on(
     alloc: Global,
     parts: &mut Vec<Pending>,
@@ -397,7 +397,7 @@ fn step(
 }
 
 /// The tree, where the text ends here.
-#[tactic(auto, using(crate::proofs::Tallest::finish_high, crate::proofs::PartStacks::finished_from, crate::proofs::PartStacks::unfinished_from))]
+#[tactic(auto, using(crate::proofs::Tallest::finish_high, crate::proofs::PartStacks::finished_rules))]
 fn finish(alloc: Global, build: Build, parts: Vec<Pending>) -> Result<Expr<Dotted>, BuildFault>
     ensures ok { IfOk result (λ made. machine.finish (build_view build (parts_of parts.items)) ≡ Some (tree_of made)) }
     ensures within { IfOk result (λ made. height_of (tree_of made) ≤ deepest) }

@@ -14,6 +14,8 @@ use Rattle.smv_scope.specs.declared.bounds.Bounds.{Bounds}
 use Rattle.smv_language.specs.declared.model.Flat.{Flat}
 use Rattle.smv_language.specs.ModelTree.{leaf_of}
 use Rattle.smv_flat.specs.ResolverOf.{is_leaf_within, TreeAll, TreesAll, BranchesAll, told_tree, asked_tree, told_branch, asked_branch, IsKnown, IsBranchKnown}
+use Rattle.smv_scope.proofs.ClosedLaws.{closed_case, closed_set}
+use Rattle.smv_flat.proofs.ShapeLaws.{shape_of_case, shape_of_set}
 
 told_trees : (ts : List (Expr Flat)) → trees_map Some (trees_map leaf_of (trees_of ts)) ≡ trees_from (map told_tree ts)
 told_trees [] = refl
@@ -60,3 +62,5 @@ known_set q b e ts h is =
 pub known_case : (q : Path → Option FlatLeaf) (b : Bounds) (e : Expr Path) (bs : List (Expr Path × Expr Path)) → IsKnown q b e → e ≡ Case bs → All (IsBranchKnown q b) bs
 known_case q b e bs h is =
     branches_known q b bs (subst (TreeAll (λ name. is_leaf_within b (q name) ≡ true)) (tree_of_case bs) (subst (IsKnown q b) is h))
+
+pub ruleset resolved_rules = (shape_of_case, shape_of_set, closed_case, closed_set, told_case, told_set, asked_case, asked_set)

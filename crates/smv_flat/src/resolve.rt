@@ -33,7 +33,7 @@ pub(crate) struct ExpressionSource {
 
 /// An expression with each name replaced by what it stands for at an instance.
 #[cycle(resolve)]
-#[tactic(auto, using(crate::proofs::ShapeLaws::shape_of_case, crate::proofs::ShapeLaws::shape_of_set, smv_scope::proofs::ClosedLaws::closed_case, smv_scope::proofs::ClosedLaws::closed_set, crate::proofs::ResolvedLaws::told_case, crate::proofs::ResolvedLaws::told_set, crate::proofs::ResolvedLaws::asked_case, crate::proofs::ResolvedLaws::asked_set))]
+#[tactic(auto, using(crate::proofs::ResolvedLaws::resolved_rules))]
 pub(crate) fn resolve(
     alloc: Global,
     scene: &Scene<'_>,

@@ -168,7 +168,8 @@ fn judged(
     requires none { staged.now.none ≡ [] }
     requires searchable { IsSearchable (model_tree staged.now.typed.model) [] (flat_tree top.now) }
     requires checkable { IsCheckable (seen certificate.now) }
-    ensures { IfOk result (IsJudgedUnlisted (staged_matter (model_tree staged.now.typed.model) (flat_tree top.now) (seen certificate.now))) }
+    ensures { IfOk result
+        (IsJudgedUnlisted (staged_matter (model_tree staged.now.typed.model) (flat_tree top.now) (seen certificate.now))) }
 {
     check_unlisted(
         alloc,
