@@ -202,12 +202,18 @@ impl Kernel {
             self.unmark();
             return Ok(());
         }
+        // (so many marked variables are left, of those whose value is not known without assumptions)
+        let mut open = 1usize;
         for i in (0..self.trail.codes.len()).rev() {
+            if open == 0 {
+                break;
+            }
             let code = at(&self.trail.codes, i);
             let here = (code / 2) as usize;
             if !self.is_marked(here) || at(&self.trail.levels, here) == 0 {
                 continue;
             }
+            open = open.saturating_sub(1);
             let reason = at(&self.trail.reasons, here);
             if reason == 0 {
                 self.learned.push(code ^ 1)?;
@@ -219,6 +225,7 @@ impl Kernel {
             // (no variable has this level, so all are marked and none is learned but by its place on the trail)
             let learned = self.learned.len();
             let _count = self.mark_clause(by, u32::MAX)?;
+            open = open.saturating_add(self.learned.len().saturating_sub(learned));
             self.learned.truncate(learned);
         }
         self.unmark();

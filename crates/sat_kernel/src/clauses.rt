@@ -2,19 +2,6 @@
 use base_values::OutOfMemory;
 use std::alloc::Global;
 
-/// A clause.
-#[derive(Clone, Copy)]
-pub struct ClauseSpan {
-    /// Where its literals begin.
-    pub start: u32,
-    /// Where they end.
-    pub end: u32,
-    /// Its number for who asks, from 1.
-    pub number: u32,
-    /// Whether it was learned.
-    pub is_learned: bool,
-}
-
 /// A clause that watches a literal.
 #[derive(Clone, Copy)]
 pub struct Watch {
@@ -27,8 +14,10 @@ pub struct Watch {
 /// The clauses by place, and those that watch each literal by its code.
 #[derive(Drop)]
 pub struct Clauses {
+    /// For each clause its number for who asks, from 1, then its length, and at its place the first of its literals.
     pub codes: Vec<u32>,
-    pub spans: Vec<ClauseSpan>,
+    /// The places of all clauses.
+    pub places: Vec<u32>,
     pub watches: Vec<Vec<Watch>>,
 }
 
@@ -52,6 +41,13 @@ pub fn exchange(numbers: &mut [u32], one: usize, other: usize) {
     put(numbers, other, was);
 }
 
+/// Writes a watch at a place.
+pub fn put_watch(list: &mut [Watch], at: usize, place: u32, glance: u32) {
+    if let Some(old) = list.get_mut(at) {
+        *old = Watch { place, glance };
+    }
+}
+
 /// A length as a small number, where it is one.
 pub fn small(length: usize) -> Result<u32, OutOfMemory> {
     u32::try_from(length).or(Err(OutOfMemory))
@@ -62,7 +58,7 @@ impl Clauses {
     pub fn new(alloc: Global) -> Clauses {
         Clauses {
             codes: Vec::new(alloc),
-            spans: Vec::new(alloc),
+            places: Vec::new(alloc),
             watches: Vec::new(alloc),
         }
     }
@@ -77,32 +73,24 @@ impl Clauses {
 
     /// The codes of the clause at a place.
     pub fn lits(&self, place: u32) -> &[u32] {
-        match self.spans.get(place as usize) {
-            Some(span) => self
-                .codes
-                .get(span.start as usize..span.end as usize)
-                .unwrap_or(&[]),
-            None => &[],
-        }
+        let start = place as usize;
+        self.codes.get(start..self.end_of(start)).unwrap_or(&[])
+    }
+
+    /// Where the clause ends whose literals begin at a place.
+    pub fn end_of(&self, start: usize) -> usize {
+        let length = at(&self.codes, start.wrapping_sub(1));
+        start.saturating_add(length as usize)
     }
 
     /// Appends a clause that nobody watches for yet, and answers its place.
-    pub fn append(
-        &mut self,
-        codes: &[u32],
-        number: u32,
-        is_learned: bool,
-    ) -> Result<u32, OutOfMemory> {
-        let place = small(self.spans.len())?;
-        let start = small(self.codes.len())?;
+    pub fn append(&mut self, codes: &[u32], number: u32) -> Result<u32, OutOfMemory> {
+        let length = small(codes.len())?;
+        self.codes.push(number)?;
+        self.codes.push(length)?;
+        let place = small(self.codes.len())?;
         self.codes.extend_from_slice(codes)?;
-        let end = small(self.codes.len())?;
-        self.spans.push(ClauseSpan {
-            start,
-            end,
-            number,
-            is_learned,
-        })?;
+        self.places.push(place)?;
         Ok(place)
     }
 
@@ -131,9 +119,11 @@ impl Clauses {
 
     /// The number of the clause at a place, for who asks.
     pub fn number_at(&self, place: u32) -> u32 {
-        match self.spans.get(place as usize) {
-            Some(span) => span.number,
-            None => 0,
-        }
+        at(&self.codes, (place as usize).wrapping_sub(2))
+    }
+
+    /// Has the clause at a place take another number.
+    pub fn renumber(&mut self, place: u32, number: u32) {
+        put(&mut self.codes, (place as usize).wrapping_sub(2), number);
     }
 }

@@ -2,7 +2,7 @@
 ghost use Rattle.std.specs.Prelude.{◌≡◌, ◌<◌, ◌^◌};
 
 use crate::analysis::literal;
-use crate::clauses::{Clauses, at, exchange, put, small};
+use crate::clauses::{Clauses, Watch, at, exchange, put, small};
 use crate::trail::{FALSE, FREE, KernelTrail, TRUE};
 use base_values::OutOfMemory;
 use sat_adviser::Panel;
@@ -39,6 +39,8 @@ pub struct Kernel {
     pub trail: KernelTrail,
     /// The places of the given clauses.
     pub given: Vec<u32>,
+    /// Those of them that may not hold once each free variable is false, each with the literal by which it held when last looked at.
+    pub doubtful: Vec<Watch>,
     /// The places of those that were learned, and how many there may be.
     lessons: Vec<u32>,
     most: usize,
@@ -53,7 +55,7 @@ pub struct Kernel {
     /// How many more conflicts the present question may meet until its wishes are given up, and whether it has met none.
     pub patience: u32,
     pub is_calm: bool,
-    /// The given clause at which looking for one that does not hold ended.
+    /// The place among the doubtful clauses at which looking for one that does not hold ended.
     pub open: usize,
     /// Marked variables, and a list of them.
     pub marks: Vec<bool>,
@@ -86,6 +88,7 @@ impl Kernel {
             clauses: Clauses::new(alloc),
             trail: KernelTrail::new(alloc),
             given: Vec::new(alloc),
+            doubtful: Vec::new(alloc),
             lessons: Vec::new(alloc),
             most: MOST_LESSONS,
             fresh: Vec::new(alloc),
@@ -155,8 +158,9 @@ impl Kernel {
             }
         }
         let number = u32::try_from(number).or(Err(OutOfMemory))?;
-        let place = self.clauses.append(self.learned.as_slice(), number, false)?;
+        let place = self.clauses.append(self.learned.as_slice(), number)?;
         self.given.push(place)?;
+        self.doubt(place)?;
         self.fresh.push(place)?;
         Ok(())
     }
@@ -286,26 +290,26 @@ impl Kernel {
         for _ in 0..=self.vars {
             self.clauses.more()?;
         }
+        self.doubtful.clear();
         let given = std::mem::replace(&mut self.given, Vec::new(alloc));
         for place in &given {
-            let copy = self.copy_of(&old, *place, false)?;
+            let copy = self.copy_of(&old, *place)?;
             self.given.push(copy)?;
+            self.doubt(copy)?;
         }
         let lessons = std::mem::replace(&mut self.lessons, Vec::new(alloc));
         self.most = self.most.saturating_add(MORE_LESSONS);
         let half = lessons.len() / 2;
         for place in lessons.iter().skip(half) {
-            let copy = self.copy_of(&old, *place, true)?;
+            let copy = self.copy_of(&old, *place)?;
             self.lessons.push(copy)?;
         }
         Ok(())
     }
 
     /// Copies a clause, with two literals first that are not false, and answers its place.
-    fn copy_of(&mut self, old: &Clauses, place: u32, is_learned: bool) -> Result<u32, OutOfMemory> {
-        let copy = self
-            .clauses
-            .append(old.lits(place), old.number_at(place), is_learned)?;
+    fn copy_of(&mut self, old: &Clauses, place: u32) -> Result<u32, OutOfMemory> {
+        let copy = self.clauses.append(old.lits(place), old.number_at(place))?;
         let _is_free = self.is_free(copy);
         self.clauses.attach(copy)?;
         Ok(copy)
@@ -313,15 +317,12 @@ impl Kernel {
 
     /// Puts two literals of the clause at a place first that are not false, and answers whether there are two.
     fn is_free(&mut self, place: u32) -> bool {
-        let Some(span) = self.clauses.spans.get(place as usize).copied() else {
-            return false;
-        };
-        let mut front = span.start;
-        let enough = span.start.saturating_add(2);
-        for i in span.start..span.end {
-            let code = at(&self.clauses.codes, i as usize);
+        let mut front = place as usize;
+        let enough = front.saturating_add(2);
+        for i in front..self.clauses.end_of(front) {
+            let code = at(&self.clauses.codes, i);
             if front < enough && self.trail.value(code) != FALSE {
-                exchange(&mut self.clauses.codes, front as usize, i as usize);
+                exchange(&mut self.clauses.codes, front, i);
                 front = front.saturating_add(1);
             }
         }
@@ -477,7 +478,7 @@ impl Kernel {
         panel.learned(step.clause.lits());
         let number = self.next;
         self.take_step(step)?;
-        let learned = self.clauses.append(self.learned.as_slice(), number, true)?;
+        let learned = self.clauses.append(self.learned.as_slice(), number)?;
         self.clauses.attach(learned)?;
         self.lessons.push(learned)?;
         self.trail.undo(back);

@@ -21,8 +21,8 @@ impl Kernel {
     pub fn numbers(&self, count: u64) -> Result<Vec<bool>, OutOfMemory> {
         let count = u32::try_from(count).or(Err(OutOfMemory))?;
         let mut marks = vec![in self.alloc; false; count as usize]?;
-        for span in &self.clauses.spans {
-            mark(&mut marks, span.number);
+        for place in &self.clauses.places {
+            mark(&mut marks, self.number_of(*place));
         }
         for number in &self.trail.units {
             mark(&mut marks, *number);
@@ -32,8 +32,10 @@ impl Kernel {
 
     /// Has each clause take the number that stands at the place of its own.
     pub fn renumber(&mut self, numbers: &[u32]) {
-        for span in &mut self.clauses.spans {
-            span.number = new_number(numbers, span.number);
+        for i in 0..self.clauses.places.len() {
+            let place = at(&self.clauses.places, i);
+            let number = new_number(numbers, self.number_of(place));
+            self.clauses.renumber(place, number);
         }
         for number in &mut self.trail.units {
             *number = new_number(numbers, *number);

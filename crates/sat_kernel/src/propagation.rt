@@ -1,50 +1,29 @@
 //! Unit propagation: each literal that became false has the clauses that watch it watch another literal, or give a value.
-use crate::clauses::{Watch, at, exchange};
+use crate::clauses::{at, exchange, put, put_watch};
 use crate::kernel::Kernel;
 use crate::trail::{FALSE, TRUE, value_in};
 use base_values::OutOfMemory;
 
-/// What becomes of a clause one of whose watched literals is false.
-#[derive(Clone, Copy)]
-enum WatchLook {
-    /// It has a true literal: this one.
-    Stays(u32),
-    /// It watches the first literal from now on, and has the second one.
-    Goes(u32, u32),
-    /// This literal of it has to be true.
-    Unit(u32),
-    /// It is false.
-    Broken(u32),
+/// Puts the literal that became false second in the clause at a place, which watches it, and answers the other one that it watches.
+fn put_second(codes: &mut [u32], start: usize, falsified: u32) -> u32 {
+    let beside = start.saturating_add(1);
+    // (it is one of these two, so the other is left)
+    let other = at(codes, start) ^ at(codes, beside) ^ falsified;
+    put(codes, start, other);
+    put(codes, beside, falsified);
+    other
 }
 
-/// Looks at a clause that lies between two places, of which the first two literals are watched and one of these became false.
-fn outcome_of(
-    codes: &mut [u32],
-    start: usize,
-    end: usize,
-    values: &[u8],
-    falsified: u32,
-) -> WatchLook {
-    let beside = start.saturating_add(1);
-    if at(codes, start) == falsified {
-        exchange(codes, start, beside);
-    }
-    let first = at(codes, start);
-    let known = value_in(values, first);
-    if known == TRUE {
-        return WatchLook::Stays(first);
-    }
+/// Exchanges the second literal of a clause that lies between two places for the first behind it that is not false, and answers that.
+fn replace_second(codes: &mut [u32], start: usize, end: usize, values: &[u8]) -> Option<u32> {
     for place in start.saturating_add(2)..end {
-        let next = at(codes, place);
-        if value_in(values, next) != FALSE {
-            exchange(codes, beside, place);
-            return WatchLook::Goes(next, first);
+        let code = at(codes, place);
+        if value_in(values, code) != FALSE {
+            exchange(codes, start.saturating_add(1), place);
+            return Some(code);
         }
     }
-    if known == FALSE {
-        return WatchLook::Broken(first);
-    }
-    WatchLook::Unit(first)
+    None
 }
 
 impl Kernel {
@@ -56,7 +35,7 @@ impl Kernel {
             };
             self.trail.head = self.trail.head.saturating_add(1);
             self.set = self.set.saturating_add(1);
-            self.listed = self.listed.saturating_add(self.clauses.spans.len() as u64);
+            self.listed = self.listed.saturating_add(self.clauses.places.len() as u64);
             if let Some(place) = self.visit_all(code ^ 1)? {
                 return Ok(Some(place));
             }
@@ -103,37 +82,27 @@ impl Kernel {
         falsified: u32,
         broken: &mut Option<u32>,
     ) -> Result<Option<u32>, OutOfMemory> {
-        let Some(span) = self.clauses.spans.get(place as usize).copied() else {
-            return Ok(None);
-        };
-        let codes = &mut self.clauses.codes;
-        match outcome_of(
-            codes,
-            span.start as usize,
-            span.end as usize,
-            &self.trail.values,
-            falsified,
-        ) {
-            WatchLook::Stays(glance) => Ok(Some(glance)),
-            WatchLook::Goes(code, glance) => {
-                self.clauses.watch(code, place, glance)?;
-                Ok(None)
-            }
-            WatchLook::Unit(code) => {
-                self.trail.set(code, place.saturating_add(1))?;
-                Ok(Some(code))
-            }
-            WatchLook::Broken(glance) => {
-                *broken = Some(place);
-                Ok(Some(glance))
-            }
+        let start = place as usize;
+        let end = self.clauses.end_of(start);
+        let first = put_second(&mut self.clauses.codes, start, falsified);
+        let known = self.trail.value(first);
+        if known == TRUE {
+            return Ok(Some(first));
         }
-    }
-}
-
-/// Writes a watch at a place.
-fn put_watch(list: &mut [Watch], at: usize, place: u32, glance: u32) {
-    if let Some(old) = list.get_mut(at) {
-        *old = Watch { place, glance };
+        if let Some(code) = replace_second(
+            &mut self.clauses.codes,
+            start,
+            end,
+            &self.trail.values,
+        ) {
+            self.clauses.watch(code, place, first)?;
+            return Ok(None);
+        }
+        if known == FALSE {
+            *broken = Some(place);
+        } else {
+            self.trail.set(first, place.saturating_add(1))?;
+        }
+        Ok(Some(first))
     }
 }
