@@ -2,7 +2,7 @@
 //! of its own in the frame one lower; one of the frame of number 0 is a first state and ends a path. Where no
 //! state leads to an obligation, a clause blocks it in the frames up to its own: of the literals of two cores, one of
 //! the first states and one of the steps, as few as are needed. A bad state is shrunk before it is an obligation. Once it is blocked,
-//! what was blocked on the way is tried in higher frames ([`crate::raise`]). `clear_frames` is the main function.
+//! what was blocked on the way is tried in higher frames ([`crate::raise`]). `clear_noting` is the main function.
 ghost use Rattle.std.specs.Prelude.{◌≡◌, ◌≤◌, ◌<◌, ◌+◌, ◌-◌, map, All, IfOk, OnOk, OnErr};
 ghost use Rattle.sat_clauses.specs.Literal.{opposite};
 ghost use Rattle.cut_frames.specs.Bits.{literals_from, moved_back};
@@ -286,7 +286,7 @@ pub fn block(
 }
 
 /// Returns a path from a first state into bad, or that no state of the last frame is bad.
-pub fn clear_frames(
+fn clear_frames(
     outline: &mut Outline,
     system: &System,
     frames: &mut Levels,
@@ -336,4 +336,36 @@ pub fn clear_frames(
             }
         }
     }
+}
+
+/// Returns a path from a first state into bad, the states of which are known to be reached from then on, or that no state of the last
+/// frame is bad.
+pub fn clear_noting(
+    outline: &mut Outline,
+    system: &System,
+    frames: &mut Levels,
+    bad: &ClauseList,
+    history: &[Lit],
+    kept: &mut Guarded,
+    panel: &mut Panel,
+) -> Result<Cleared, OutOfMemory>
+    requires fit { IsFit system.now }
+    requires framed { IsLevelled system.now frames.old }
+    requires agreed { AreAgreed system.now outline.old.agreed.items }
+    requires history { IsOverBits system.now history.now }
+    requires positive { All IsPlain history.now }
+    requires bad { All (All (IsOverNow system.now)) bad.now }
+    requires kept { IsKept system.now bad.now (frames_of frames.old) kept.old }
+    ensures framed { IsLevelled system.now frames.new }
+    ensures last { frames.new.last ≡ frames.old.last }
+    ensures stronger { AreStronger system.now (frames_of frames.old) (frames_of frames.new) }
+    ensures same { outline.new.agreed.items ≡ outline.old.agreed.items }
+    ensures cleared { IfOk result (λ answer. IsCleared system.now bad.now (frames_of frames.new) answer) }
+    ensures kept { IfOk result (λ _. IsKept system.now bad.now (frames_of frames.new) kept.new) }
+{
+    let answer = clear_frames(outline, system, frames, bad, history, kept, panel)?;
+    if let Cleared::Path(path) = &answer {
+        outline.reached.note(system, path)?;
+    }
+    Ok(answer)
 }

@@ -17,7 +17,7 @@ ghost use Rattle.cut_frames.specs.FramesByNumber.{AreNumbered};
 
 use crate::advance::{Advanced, advance_frames};
 use crate::bad::{add_bad, take_bad};
-use crate::clear::{Cleared, clear_frames};
+use crate::clear::{Cleared, clear_noting};
 use crate::condition::are_over_now;
 use crate::guarded::Guarded;
 use crate::lasting::Lasting;
@@ -193,7 +193,7 @@ impl Frames {
             self.spent = true;
             return Err(OutOfMemory);
         }
-        let answer = clear_frames(
+        let answer = clear_noting(
             &mut self.outline,
             &self.system,
             &mut self.levels,

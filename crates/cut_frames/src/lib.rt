@@ -45,6 +45,7 @@ mod lasting;
 mod levels;
 mod outline;
 mod raise;
+mod reached;
 mod shown;
 mod shrink;
 mod smaller;

@@ -1,8 +1,8 @@
 //! What is known of the first states: the value that all of them give a bit, where they agree, and some of them. A clause that says such a
 //! value is true in every first state, and one that a known first state breaks is not, so nearly all questions about first states are
 //! answered without the search. [`Outline::find`] asks once, one easy question for each state bit at most; [`Outline::core`] answers
-//! which literals of a clause every first state makes true. Beside that, how often literals stood in clauses that block, and the
-//! states that wait to be raised.
+//! which literals of a clause every first state makes true. Beside that, how often literals stood in clauses that block, the
+//! states that wait to be raised, and those that paths have reached.
 ghost use Rattle.std.specs.Prelude.{◌≡◌, ◌≤◌, ◌<◌, ◌-◌, ◌^◌, [], IfOk, OnOk, IfSome, Some, None, All, Contains, not, slice_index_or, map};
 ghost use Rattle.sat_clauses.specs.Hints.{HasNoOpposites};
 ghost use Rattle.sat_clauses.specs.Literal.{opposite};
@@ -14,6 +14,7 @@ ghost use Rattle.cut_frames.specs.Parts.{IsPart, IsOfFirst, IsAgreed, AreAgreed,
 
 use crate::bits::{State, broken_by, literals, read, turned};
 use crate::guarded::{Beside, Guarded};
+use crate::reached::{Reached, is_outside};
 use crate::waiting::Raised;
 use crate::weights::Weights;
 use base_values::OutOfMemory;
@@ -37,22 +38,12 @@ pub struct Outline {
     pub weights: Weights,
     /// The states that wait to be blocked in higher frames.
     pub raised: Raised,
+    /// The states of the paths that were found.
+    pub reached: Reached,
     /// First states that answers have shown, the newest last.
     starts: Vec<State>,
     /// Whether [`Outline::find`] has asked.
     is_found: bool,
-}
-
-/// Whether a state makes a literal of a state bit false.
-fn breaks(start: &State, lit: Lit) -> bool {
-    let var = lit.var();
-    if var < 2 {
-        return false;
-    }
-    match start.as_slice().get((var - 2) as usize) {
-        Some(value) => *value == lit.is_negated(),
-        None => false,
-    }
 }
 
 impl Outline {
@@ -64,6 +55,7 @@ impl Outline {
             agreed: Vec::new(alloc),
             weights: Weights::new(alloc),
             raised: Raised::new(alloc),
+            reached: Reached::new(alloc),
             starts: Vec::new(alloc),
             is_found: false,
         }
@@ -196,7 +188,7 @@ impl Outline {
 
     /// Whether a known first state makes every literal of a clause false.
     fn has_start_outside(&self, clause: &Clause) -> bool {
-        self.starts.iter().any(|start| clause.lits().iter().all(|lit| breaks(start, *lit)))
+        self.starts.iter().any(|start| is_outside(start, clause))
     }
 
     /// Asks which literals of a clause every first state makes true.

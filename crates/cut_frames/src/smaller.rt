@@ -1,7 +1,7 @@
 //! Smaller clauses: what blocks a state holds more literals than it needs, and one with fewer blocks more states. [`smaller`] takes
 //! literals out of a blocking clause one by one, first those that stand in few other clauses. Each try is made by the questions that showed
-//! the clause, about the first states and about the steps from the frame before, and takes over what their answers need; after some tries
-//! in vain the clause stays as it is.
+//! the clause, about the first states and about the steps from the frame before, and takes over what their answers need; where a state
+//! that a path has reached breaks what is left, none is asked. After some tries in vain the clause stays as it is.
 ghost use Rattle.std.specs.Prelude.{◌≡◌, ◌≤◌, ◌<◌, ◌+◌, ◌^◌, ℕ, not, nat_eq, length, IfOk, IfSome, All, true, false, slice_index_or};
 ghost use Rattle.std.specs.Prelude.{filter};
 ghost use Rattle.sat_clauses.specs.Hints.{HasNoOpposites};
@@ -180,6 +180,9 @@ fn part_of(
     ensures stands { IfOk result (λ r. IfSome r (MayStand system.now (frames_of frames.now) level)) }
     ensures asked { IfOk result (λ _. HasAsked kept.old kept.new) }
 {
+    if outline.reached.has_outside(level, clause) {
+        return Ok(None);
+    }
     let Some(first) = outline.core(system, clause, kept, panel)? else {
         return Ok(None);
     };

@@ -15,10 +15,10 @@ returns-then-self-clause-numbered g c =
 
 pub returns-clause-frontier : goal.returns-clause-frontier
 returns-clause-frontier g c =
-    subst (λ (v : FramesValue). length (frames_of c.clear_frames-answer.new.frames) - 1 ≡ length v.frames - 1) c.self.view_is (last_less c.self.inside.levels c.clear_frames-answer.new.frames c.clear_frames-answer.ensures.last)
+    subst (λ (v : FramesValue). length (frames_of c.clear_noting-answer.new.frames) - 1 ≡ length v.frames - 1) c.self.view_is (last_less c.self.inside.levels c.clear_noting-answer.new.frames c.clear_noting-answer.ensures.last)
 
 pub returns-clause-numbered : goal.returns-clause-numbered
-returns-clause-numbered g c = numbered c.self.inside.system (frames_of c.clear_frames-answer.new.frames) c.clear_frames-answer.ensures.framed.framed
+returns-clause-numbered g c = numbered c.self.inside.system (frames_of c.clear_noting-answer.new.frames) c.clear_noting-answer.ensures.framed.framed
 
 pub returns-then-is_err-clause-numbered : goal.returns-then-is_err-clause-numbered
 returns-then-is_err-clause-numbered g c = numbered c.self.inside.system (frames_of c.self.inside.levels) c.self.invariant.levelled.framed
@@ -34,11 +34,11 @@ pub invariant_of-self-2 : goal.invariant_of-self-2
 invariant_of-self-2 g c =
     record {
       fit = c.self.invariant.fit;
-      agreed = subst (AreAgreed c.self.inside.system) (sym c.clear_frames-answer.ensures.same) c.find-found.ensures.agreed;
+      agreed = subst (AreAgreed c.self.inside.system) (sym c.clear_noting-answer.ensures.same) c.find-found.ensures.agreed;
       bad = λ ready. c.self.invariant.bad c.if-self.false;
       seen = λ ready. c.self.invariant.seen c.if-self.false;
-      levelled = c.clear_frames-answer.ensures.framed;
-      lasting = λ ready. lasting_stronger c.self.inside.system (frames_of c.self.inside.levels) (frames_of c.clear_frames-answer.new.frames) c.self.inside.lasting
-          (same_length c.self.inside.levels c.clear_frames-answer.new.frames c.clear_frames-answer.ensures.last) c.clear_frames-answer.ensures.stronger (c.self.invariant.lasting c.if-self.false);
-      kept = λ ready. when_ok c.clear_frames-answer.result (sym c.is_err-self-inside.ensures.value ∙ ready) c.clear_frames-answer.ensures.kept;
+      levelled = c.clear_noting-answer.ensures.framed;
+      lasting = λ ready. lasting_stronger c.self.inside.system (frames_of c.self.inside.levels) (frames_of c.clear_noting-answer.new.frames) c.self.inside.lasting
+          (same_length c.self.inside.levels c.clear_noting-answer.new.frames c.clear_noting-answer.ensures.last) c.clear_noting-answer.ensures.stronger (c.self.invariant.lasting c.if-self.false);
+      kept = λ ready. when_ok c.clear_noting-answer.result (sym c.is_err-self-inside.ensures.value ∙ ready) c.clear_noting-answer.ensures.kept;
     }
