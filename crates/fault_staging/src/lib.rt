@@ -2,7 +2,7 @@
 //!
 //! A [`Cause`] is known by its name, its window and the numbers of the faults that it strikes. [`with_causes`] adds to
 //! the flat model of an extension what tells of causes: the age, the event and the hits of each, and the events of faults
-//! that begin by themselves. What the model then is stands in `specs/Staged.antt` of `fault_cause_laws`, which has the theorems:
+//! that begin by themselves. What the model then is stands in `specs/StagedModel.antt` of `fault_cause_laws`, which has the theorems:
 //! its traces are the caused traces, one each, and its events those of caused traces.
 //!
 //! ```text
