@@ -11,8 +11,8 @@ use Rattle.sat_solver.specs.declared.solve.Verdict.{Verdict}
 use Rattle.sat_solver.specs.declared.solve.Verdict.TheVariants.{Sat, Unsat}
 use Rattle.sat_clauses.specs.Assignment.{Assignment}
 use Rattle.sat_simplify.specs.SamePlaces.{IsMet, AreMetAlike, HasNoHigherVariable}
-use Rattle.cut_frames.specs.OwnVariables.{apart, apart_literal, apart_clause, apart_list, apart_system, IsNear, IsMetFrame, IsMetBeside, IsFound, IsExcluded, IsPlace, IsKept}
-use Rattle.cut_frames.specs.Condition.{IsLow}
+use Rattle.cut_frames.specs.OwnVariables.{apart, apart_literal, apart_clause, apart_list, apart_system, IsMetFrame, IsMetBeside, IsFound, IsExcluded, IsPlace, IsKept}
+use Rattle.cut_frames.specs.Condition.{IsLow, IsNear}
 use Rattle.cut_frames.specs.GuardedSearch.{Meets, MeetAlike, MeetsFrame, MeetsBeside, IsModelOf, IsCoreOf, IsToldBy, places_of, IsHolding, AddsBad}
 use Rattle.cut_frames.specs.declared.guarded.Guarded.{Guarded}
 use Rattle.cut_frames.specs.declared.guarded.Beside.{Beside}

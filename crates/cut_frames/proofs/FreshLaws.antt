@@ -148,6 +148,7 @@ pub holding_same : (system : System) (list : List (List Literal)) (frames now : 
 holding_same system list frames now g h long same = record {
   well = h.well;
   places = h.places;
+  simple = h.simple;
   count = h.count ∙ sym long;
   lists = h.lists;
   alike = h.alike;

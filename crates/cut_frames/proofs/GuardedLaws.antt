@@ -6,11 +6,13 @@ use Rattle.std.proofs.lemmas.List.Elements.{All-cons, All-nil, All-head, All-tai
 use Rattle.sat_clauses.specs.Literal.{Literal, plain, opposite}
 use Rattle.sat_clauses.specs.Derivation.{IsUpTo}
 use Rattle.sat_solver.specs.LearnedClauses.{added_of}
+use Rattle.cut_frames.specs.Condition.{IsNear}
 use Rattle.sat_clauses.specs.declared.system.System.{System}
 use Rattle.cut_frames.specs.Roles.{Listed, first, step, bad, Role, renamed, renamed_literal, renamed_clause, under_guard, under_list}
 use Rattle.cut_frames.specs.Guards.{Layout, AreHeld, guards_next}
-use Rattle.cut_frames.specs.GuardedSearch.{places_of, added_in, IsGuardIn, IsWell, HasSameGuards, HasPut, HasWidened, HasNewBad, HasNewFrame, IsEmpty, HasRoomFor, guard_at, guard_of, lists_of, MeetAlike, IsHolding, HasAsked, TakesBad, Puts, Grows, BeginsAgain}
+use Rattle.cut_frames.specs.GuardedSearch.{places_of, AreSimple, added_in, IsGuardIn, IsWell, HasSameGuards, HasPut, HasWidened, HasNewBad, HasNewFrame, IsEmpty, HasRoomFor, guard_at, guard_of, lists_of, MeetAlike, IsSimple, IsHolding, HasAsked, TakesBad, Puts, Grows, BeginsAgain}
 use Rattle.cut_frames.specs.declared.guarded.Guarded.{Guarded}
+use Rattle.cut_frames.specs.declared.simple.SimpleLists.{SimpleLists}
 use Rattle.cut_frames.proofs.RoleLaws.{order, renamed_low, renamed_high}
 use Rattle.cut_frames.proofs.GuardedSteps.{equal_most, guard_raised, guards_raised, put_none, put_both}
 use Rattle.cut_frames.proofs.HeldSteps.{held_as, held_put, held_again, again_past, held_more, with_frame, retire_frames}
@@ -23,12 +25,13 @@ layout_of places lists frames guard top base at role =
 
 module _ (system : System) (list : List (List Literal)) (frames : List (List (List Literal))) where
   -- what is held of a layout is of a search whose guards stand there
-  pub holding : (g : Guarded) (lists : Listed → List (List Literal)) → ((which : Listed) → MeetAlike (places_of system) (lists_of system list which) (lists which)) → (places vars : ℕ) (added : List (List Literal)) (guard top base : Listed → ℕ) (at : ℕ → ℕ) (role : ℕ → Role) → IsWell g → places ≡ places_of system → g.places ≡ places →
+  pub holding : (g : Guarded) → AreSimple system list g.simple → (lists : Listed → List (List Literal)) → ((which : Listed) → MeetAlike (places_of system) (lists_of system list which) (lists which)) → (places vars : ℕ) (added : List (List Literal)) (guard top base : Listed → ℕ) (at : ℕ → ℕ) (role : ℕ → Role) → IsWell g → places ≡ places_of system → g.places ≡ places →
       length g.frames.items ≡ length frames → ((which : Listed) → guard_of g which ≡ guard which) → ((i : ℕ) → i < length frames → guard_at g i ≡ at i) → g.search.kept.vars ≡ vars → added_in g ≡ added →
       AreHeld (layout_of places lists frames guard top base at role) vars added → IsHolding system list frames g
-  holding g lists alike places vars added guard top base at role well is_places same_places count same_guard same_at same_vars same_added are = record {
+  holding g simple lists alike places vars added guard top base at role well is_places same_places count same_guard same_at same_vars same_added are = record {
     well = well;
     places = same_places ∙ is_places;
+    simple = simple;
     count = count;
     lists = lists;
     alike = alike;
@@ -51,6 +54,26 @@ guards_same old new first s = guard_same old new 0 s.step s.frames
 guards_same old new step s = ap (λ (l : Literal). l.var) s.step
 guards_same old new bad s = ap (λ (l : Literal). l.var) s.bad
 
+-- the search with other simple lists beside it
+abbrev pub with_simple : Guarded → SimpleLists → Guarded
+with_simple g s = record g { simple = s }
+
+pub well_simple : (g : Guarded) (s : SimpleLists) → IsWell g → IsWell (with_simple g s)
+well_simple g s w = record { low = w.low; vars = w.vars; small = w.small; room = w.room; some = w.some; frames = w.frames; step = w.step; bad = w.bad; marked = w.marked }
+
+pub guards_simple : (g : Guarded) (s : SimpleLists) (which : Listed) → guard_of (with_simple g s) which ≡ guard_of g which
+guards_simple g s first = refl
+guards_simple g s step = refl
+guards_simple g s bad = refl
+
+-- the simple lists, with another one of the bad states
+pub simple_bad : (system : System) (was list cs : List (List Literal)) (old new : SimpleLists) → new ≡ old → AreSimple system was old → IsSimple (places_of system) list cs → AreSimple system list (record new { bad = cs })
+simple_bad system was list cs old new e a b = record {
+  first = subst (λ (s : SimpleLists). IsSimple (places_of system) system.first s.first) (sym e) a.first;
+  step = subst (λ (s : SimpleLists). IsSimple (places_of system) system.step s.step) (sym e) a.step;
+  bad = b;
+}
+
 -- a guard is the plain literal of its variable
 pub plain_guard : (l : Literal) → l.negated ≡ false → l ≡ plain l.var
 plain_guard l e = ap (λ (b : Bool). record { var = l.var; negated = b }) e
@@ -58,10 +81,14 @@ plain_guard l e = ap (λ (b : Bool). record { var = l.var; negated = b }) e
 pub frame_plain : (g : Guarded) (i : ℕ) → IsWell g → i < length g.frames.items → slice_index_or g.frames.items i g.step ≡ plain (guard_at g i)
 frame_plain g i w lt = plain_guard (slice_index_or g.frames.items i g.step) (w.frames i g.step lt).positive
 
+-- the simple lists where they are the same
+pub simple_same : (system : System) (list : List (List Literal)) (old new : Guarded) → new.simple ≡ old.simple → AreSimple system list old.simple → AreSimple system list new.simple
+simple_same system list old new e s = subst (AreSimple system list) (sym e) s
+
 -- after a question
 pub asks : (old new : Guarded) → HasPut old new [] → HasAsked old new
 asks old new p system list frames h =
-    holding system list frames new h.lists h.alike old.places old.search.kept.vars (added_in old) (guard_of old) h.top h.base (guard_at old) h.role p.well h.places p.guards.places
+    holding system list frames new (simple_same system list old new p.guards.simple h.simple) h.lists h.alike old.places old.search.kept.vars (added_in old) (guard_of old) h.top h.base (guard_at old) h.role p.well h.places p.guards.places
     (ap (λ (ls : List Literal). length ls) p.guards.frames ∙ h.count) (λ which. guards_same old new which p.guards) (λ i lt. guard_same old new i p.guards.step p.guards.frames) p.vars
     (p.added ∙ append-nil (added_in old)) h.held
 
@@ -69,7 +96,7 @@ asks old new p system list frames h =
 pub puts : (old new : Guarded) (j : ℕ) (c : List Literal) → IsWell old → 0 < j → j < length old.frames.items → All (IsUpTo old.places) c →
     HasPut old new ((opposite (slice_index_or old.frames.items j old.step) ∷ c) ∷ []) → Puts old new j c
 puts old new j c w some lt low p system list frames now h put =
-    holding system list now new h.lists h.alike old.places old.search.kept.vars (added_in old ++ under_guard (guard_at old j) c ∷ []) (guard_of old) h.top h.base (guard_at old) h.role p.well h.places p.guards.places
+    holding system list now new (simple_same system list old new p.guards.simple h.simple) h.lists h.alike old.places old.search.kept.vars (added_in old ++ under_guard (guard_at old j) c ∷ []) (guard_of old) h.top h.base (guard_at old) h.role p.well h.places p.guards.places
     (ap (λ (ls : List Literal). length ls) p.guards.frames ∙ h.count ∙ sym put.same) (λ which. guards_same old new which p.guards) (λ i lt. guard_same old new i p.guards.step p.guards.frames) p.vars
     (p.added ∙ ap (λ (l : Literal). added_in old ++ (opposite l ∷ c) ∷ []) (frame_plain old j w lt))
     (held_put (layout_of old.places h.lists frames (guard_of old) h.top h.base (guard_at old) h.role) old.search.kept.vars (added_in old) j c now h.held some low put)
@@ -102,7 +129,7 @@ pub grows : (old a new : Guarded) (more : List (List Literal)) → IsWell old �
     ((d : List Literal) → Contains more d → (d ≡ guards_next (guard_at old (length old.frames.items - 1)) (old.search.kept.vars + 1)) × (0 < length old.frames.items - 1)) →
     (0 < length old.frames.items - 1 → Contains more (guards_next (guard_at old (length old.frames.items - 1)) (old.search.kept.vars + 1))) → Grows old new
 grows old a new more w n p only next system list frames h =
-    holding system list (frames ++ [] ∷ []) new h.lists h.alike old.places (old.search.kept.vars + 1) (added_in old ++ more) (guard_of old) h.top h.base (guard_at a) role p.well h.places (p.guards.places ∙ n.places)
+    holding system list (frames ++ [] ∷ []) new (simple_same system list old new (p.guards.simple ∙ n.simple) h.simple) h.lists h.alike old.places (old.search.kept.vars + 1) (added_in old ++ more) (guard_of old) h.top h.base (guard_at a) role p.well h.places (p.guards.places ∙ n.places)
     longer (λ which. guards_same a new which p.guards ∙ guards_before old a (plain (old.search.kept.vars + 1)) which w n.step n.bad n.frames) (λ i lt. guard_same a new i p.guards.step p.guards.frames)
     (p.vars ∙ n.vars) (p.added ∙ ap (λ (cs : List (List Literal)). cs ++ more) n.added)
     (held_more layout old.search.kept.vars (added_in old) more (guard_at a) h.held (subst (λ (k : ℕ). 0 < k) h.count w.some)
@@ -123,10 +150,10 @@ grows old a new more w n p only next system list frames h =
         ∙ sym (length-append frames ([] ∷ []))
 
 -- the frame of number 0 alone, where there are others
-pub again : (old new : Guarded) (i : ℕ) → IsWell old → IsWell new → 0 < i → i < length old.frames.items → new.places ≡ old.places → new.step ≡ old.step → new.bad ≡ old.bad → length new.frames.items ≡ 1 →
+pub again : (old new : Guarded) (i : ℕ) → IsWell old → IsWell new → 0 < i → i < length old.frames.items → new.places ≡ old.places → new.simple ≡ old.simple → new.step ≡ old.step → new.bad ≡ old.bad → length new.frames.items ≡ 1 →
     guard_at new 0 ≡ guard_at old 0 → new.search.kept.vars ≡ old.search.kept.vars → added_in new ≡ added_in old ++ (opposite (slice_index_or old.frames.items i old.step) ∷ []) ∷ [] → BeginsAgain old new
-again old new i w well some lt places same_step same_bad count same_first vars added system list frames h =
-    holding system list ([] ∷ []) new h.lists h.alike old.places old.search.kept.vars (added_in old ++ (opposite (plain (guard_at old i)) ∷ []) ∷ []) (guard_of old) h.top h.base (guard_at old) (λ x. retire_frames (h.role x)) well h.places
+again old new i w well some lt places same_simple same_step same_bad count same_first vars added system list frames h =
+    holding system list ([] ∷ []) new (simple_same system list old new same_simple h.simple) h.lists h.alike old.places old.search.kept.vars (added_in old ++ (opposite (plain (guard_at old i)) ∷ []) ∷ []) (guard_of old) h.top h.base (guard_at old) (λ x. retire_frames (h.role x)) well h.places
     places count same_guard at_none vars (added ∙ ap (λ (l : Literal). added_in old ++ (opposite l ∷ []) ∷ []) (frame_plain old i w lt))
     (again_past (layout_of old.places h.lists frames (guard_of old) h.top h.base (guard_at old) h.role) old.search.kept.vars (added_in old) i h.held some (subst (λ (k : ℕ). i < k) h.count lt))
   where
@@ -142,7 +169,7 @@ again old new i w well some lt places same_step same_bad count same_first vars a
 -- and where there are none
 pub again_same : (g : Guarded) → length g.frames.items ≡ 1 → BeginsAgain g g
 again_same g count system list frames h =
-    holding system list ([] ∷ []) g h.lists h.alike g.places g.search.kept.vars (added_in g) (guard_of g) h.top h.base (guard_at g) (λ x. retire_frames (h.role x)) h.well h.places refl count (λ which. refl) (λ i lt. refl) refl refl
+    holding system list ([] ∷ []) g h.simple h.lists h.alike g.places g.search.kept.vars (added_in g) (guard_of g) h.top h.base (guard_at g) (λ x. retire_frames (h.role x)) h.well h.places refl count (λ which. refl) (λ i lt. refl) refl refl
     (held_again (layout_of g.places h.lists frames (guard_of g) h.top h.base (guard_at g) h.role) g.search.kept.vars (added_in g) h.held)
 
 -- which list, where one is taken
@@ -169,14 +196,17 @@ alike_bad system was list now lists alike same step = alike step
 alike_bad system was list now lists alike same bad = same
 
 -- these bad states in the place of others
-pub takes : (old a b new : Guarded) (n : ℕ) (list cs : List (List Literal)) → MeetAlike old.places list cs → IsWell old → HasNewBad old a → HasWidened a b n → All (All (IsUpTo (old.places + n))) cs →
-    HasPut b new (under_list old.places (old.search.kept.vars + 1) (old.search.kept.vars + 1) cs) → TakesBad old new list
-takes old a b new n list cs same w r h low p system was frames held =
-    holding system list frames new (with_bad held.lists cs) (alike_bad system was list cs held.lists held.alike (subst (λ (k : ℕ). MeetAlike k list cs) held.places same)) old.places (old.search.kept.vars + 1 + n) ((added_in old ++ (opposite (plain old.bad.var) ∷ []) ∷ []) ++ under_list old.places base base cs) (guard_of a) top' base' (guard_at old) role' p.well
-    held.places (p.guards.places ∙ h.guards.places ∙ r.places) count (λ which. guards_same b new which p.guards ∙ guards_same a b which h.guards)
+pub takes : (old a b new : Guarded) (n : ℕ) (list cs : List (List Literal)) → All (All IsNear) cs → MeetAlike old.places list cs → IsWell old → HasNewBad old a → HasWidened a b n → All (All (IsUpTo (old.places + n))) cs →
+    HasPut b new (under_list old.places (old.search.kept.vars + 1) (old.search.kept.vars + 1) cs) → TakesBad old (with_simple new (record new.simple { bad = cs })) list
+takes old a b new n list cs near same w r h low p system was frames held =
+    holding system list frames (with_simple new (record new.simple { bad = cs })) simple (with_bad held.lists cs) (alike_bad system was list cs held.lists held.alike (subst (λ (k : ℕ). MeetAlike k list cs) held.places same)) old.places (old.search.kept.vars + 1 + n) ((added_in old ++ (opposite (plain old.bad.var) ∷ []) ∷ []) ++ under_list old.places base base cs) (guard_of a) top' base' (guard_at old) role' (well_simple new (record new.simple { bad = cs }) p.well)
+    held.places (p.guards.places ∙ h.guards.places ∙ r.places) count (λ which. guards_simple new (record new.simple { bad = cs }) which ∙ guards_same b new which p.guards ∙ guards_same a b which h.guards)
     (λ i lt. guard_same b new i p.guards.step p.guards.frames ∙ guard_same a b i h.guards.step h.guards.frames ∙ guard_same old a i r.step r.frames)
     (p.vars ∙ h.vars ∙ ap (λ (k : ℕ). k + n) r.vars) added filled
   where
+    simple : AreSimple system list (record new.simple { bad = cs })
+    simple = simple_bad system was list cs old.simple new.simple (p.guards.simple ∙ h.guards.simple ∙ r.simple) held.simple (record { near = near; alike = subst (λ (k : ℕ). MeetAlike k list cs) held.places same })
+
     base : ℕ
     base = old.search.kept.vars + 1
 
@@ -228,18 +258,29 @@ made_alike system fs ss f s first = f
 made_alike system fs ss f s step = s
 made_alike system fs ss f s bad = record { stays = λ v m. m; back = λ v m. m }
 
+-- the simple lists of a search that was just made
+abbrev pub simple_of : List (List Literal) → List (List Literal) → SimpleLists
+simple_of fs ss = record { first = fs; step = ss; bad = [] }
+
 -- the search over the first states and the steps
-pub made : (system : System) (fs ss : List (List Literal)) (a b new : Guarded) (n m : ℕ) → MeetAlike (places_of system) system.first fs → MeetAlike (places_of system) system.step ss → IsEmpty (places_of system) (places_of system + 3 + n + m) a → All (All (IsUpTo (places_of system + n))) fs → All (All (IsUpTo (places_of system + m))) ss →
+pub made : (system : System) (fs ss : List (List Literal)) (a b new : Guarded) (n m : ℕ) → All (All IsNear) fs → All (All IsNear) ss → MeetAlike (places_of system) system.first fs → MeetAlike (places_of system) system.step ss → IsEmpty (places_of system) (places_of system + 3 + n + m) a → All (All (IsUpTo (places_of system + n))) fs → All (All (IsUpTo (places_of system + m))) ss →
     HasPut a b (under_list (places_of system) (places_of system + 3) (places_of system + 1) fs) → HasPut b new (under_list (places_of system) (places_of system + 3 + n) (places_of system + 2) ss) →
-    IsHolding system [] ([] ∷ []) new
-made system fs ss a b new n m alike_first alike_step e low_first low_step p q =
-    holding system [] ([] ∷ []) new (made_lists fs ss) (made_alike system fs ss alike_first alike_step) places (places + 3 + n + m) (under_list places (places + 3) (guard_of a first) fs ++ under_list places (places + 3 + n) (guard_of a step) ss) (guard_of a) two_top two_base
-    (guard_at a) two_role q.well refl (q.guards.places ∙ p.guards.places ∙ e.places) (ap (λ (ls : List Literal). length ls) (q.guards.frames ∙ p.guards.frames ∙ e.frames))
-    (λ which. guards_same b new which q.guards ∙ guards_same a b which p.guards) (λ i lt. guard_same b new i q.guards.step q.guards.frames ∙ guard_same a b i p.guards.step p.guards.frames)
+    IsHolding system [] ([] ∷ []) (with_simple new (simple_of fs ss))
+made system fs ss a b new n m near_first near_step alike_first alike_step e low_first low_step p q =
+    holding system [] ([] ∷ []) (with_simple new (simple_of fs ss)) simple (made_lists fs ss) (made_alike system fs ss alike_first alike_step) places (places + 3 + n + m) (under_list places (places + 3) (guard_of a first) fs ++ under_list places (places + 3 + n) (guard_of a step) ss) (guard_of a) two_top two_base
+    (guard_at a) two_role (well_simple new (simple_of fs ss) q.well) refl (q.guards.places ∙ p.guards.places ∙ e.places) (ap (λ (ls : List Literal). length ls) (q.guards.frames ∙ p.guards.frames ∙ e.frames))
+    (λ which. guards_simple new (simple_of fs ss) which ∙ guards_same b new which q.guards ∙ guards_same a b which p.guards) (λ i lt. guard_same b new i q.guards.step q.guards.frames ∙ guard_same a b i p.guards.step p.guards.frames)
     (q.vars ∙ p.vars ∙ e.vars) added four
   where
     places : ℕ
     places = places_of system
+
+    simple : AreSimple system [] (simple_of fs ss)
+    simple = record {
+      first = record { near = near_first; alike = alike_first };
+      step = record { near = near_step; alike = alike_step };
+      bad = record { near = All-nil (All IsNear); alike = made_alike system fs ss alike_first alike_step bad };
+    }
 
     at_first : guard_of a first ≡ places + 1
     at_first = ap (λ (ls : List Literal). (slice_index_or ls 0 a.step).var) e.frames
@@ -372,9 +413,9 @@ again_none g w last = again_same g (one (length g.frames.items) w.some last) whe
 
 -- the frames but that of number 0 go
 pub again_from : (old a new : Guarded) (last : ℕ) (l : Literal) → IsWell old → last ≡ length old.frames.items - 1 → 0 < last → l ≡ slice_index_or old.frames.items last old.step → HasPut old a ((opposite l ∷ []) ∷ []) →
-    new.search ≡ a.search → new.vars ≡ a.vars → new.places ≡ a.places → new.step ≡ a.step → new.bad ≡ a.bad → new.frames.items ≡ take 1 a.frames.items → BeginsAgain old new
-again_from old a new last l w at_last some is_guard p search vars places steps bads frames =
-    again old new last w well some (inside last (length old.frames.items) at_last some) (places ∙ p.guards.places) (steps ∙ p.guards.step) (bads ∙ p.guards.bad)
+    new.search ≡ a.search → new.vars ≡ a.vars → new.places ≡ a.places → new.simple ≡ a.simple → new.step ≡ a.step → new.bad ≡ a.bad → new.frames.items ≡ take 1 a.frames.items → BeginsAgain old new
+again_from old a new last l w at_last some is_guard p search vars places simple steps bads frames =
+    again old new last w well some (inside last (length old.frames.items) at_last some) (places ∙ p.guards.places) (simple ∙ p.guards.simple) (steps ∙ p.guards.step) (bads ∙ p.guards.bad)
     (ap (λ (ls : List Literal). length ls) (frames ∙ ap (λ (ls : List Literal). take 1 ls) p.guards.frames) ∙ one_taken old.frames.items w.some) first_kept (ap (λ s. s.kept.vars) search ∙ p.vars)
     (ap (λ s. added_of s.kept.clauses s.kept.marks) search ∙ p.added ∙ ap (λ (j : Literal). added_in old ++ (opposite j ∷ []) ∷ []) is_guard)
   where
@@ -438,10 +479,10 @@ all_room places base vars n cs low room le = λ k d lt i e li. one (slice_index_
       by_order (inr b) = subst (λ (y : ℕ). y ≤ vars) (sym (renamed_high places base x b)) (over x a)
 
 -- these bad states, where their gates stand above the new guard
-pub takes_from : (old a b new : Guarded) (p base x n : ℕ) (list cs : List (List Literal)) → MeetAlike old.places list cs → IsWell old → HasNewBad old a → HasWidened a b n → All (All (IsUpTo (old.places + n))) cs → p ≡ b.places → base ≡ a.vars → x ≡ b.bad.var →
-    HasPut b new (under_list p base x cs) → TakesBad old new list
-takes_from old a b new p base x n list cs same w r h low is_places is_base is_guard put =
-    takes old a b new n list cs same w r h low
+pub takes_from : (old a b new : Guarded) (p base x n : ℕ) (list cs : List (List Literal)) → All (All IsNear) cs → MeetAlike old.places list cs → IsWell old → HasNewBad old a → HasWidened a b n → All (All (IsUpTo (old.places + n))) cs → p ≡ b.places → base ≡ a.vars → x ≡ b.bad.var →
+    HasPut b new (under_list p base x cs) → TakesBad old (with_simple new (record new.simple { bad = cs })) list
+takes_from old a b new p base x n list cs near same w r h low is_places is_base is_guard put =
+    takes old a b new n list cs near same w r h low
     (subst (λ (q : ℕ). HasPut b new (under_list q (old.search.kept.vars + 1) (old.search.kept.vars + 1) cs)) (is_places ∙ h.guards.places ∙ r.places)
     (subst (λ (q : ℕ). HasPut b new (under_list p q (old.search.kept.vars + 1) cs)) (is_base ∙ r.well.vars ∙ r.vars)
     (subst (λ (q : ℕ). HasPut b new (under_list p base q cs)) (is_guard ∙ ap (λ (l : Literal). l.var) (h.guards.bad ∙ r.bad)) put)))
@@ -459,10 +500,10 @@ fill_more a b c base guard done d under positive p q e =
     same = e ∙ ap (λ (l : Literal). opposite l ∷ renamed_clause b.places base d) (plain_guard guard positive) ∙ ap (λ (n : ℕ). under_guard guard.var (renamed_clause n base d)) p.guards.places
 
 -- the search over the first states and the steps, where their gates stand one after the other
-pub made_from : (system : System) (fs ss : List (List Literal)) (a b new : Guarded) (p n m x y : ℕ) → p ≡ places_of system → MeetAlike p system.first fs → MeetAlike p system.step ss → IsEmpty p (p + 3 + n + m) a → All (All (IsUpTo (p + n))) fs → All (All (IsUpTo (p + m))) ss → x ≡ p + 1 → y ≡ p + 2 →
-    HasPut a b (under_list a.places (p + 3) x fs) → HasPut b new (under_list b.places (p + 3 + n) y ss) → IsHolding system [] ([] ∷ []) new
-made_from system fs ss a b new p n m x y e alike_first alike_step empty low_first low_step at_first at_step one two =
-    made system fs ss a b new n m (subst (λ (q : ℕ). MeetAlike q system.first fs) e alike_first) (subst (λ (q : ℕ). MeetAlike q system.step ss) e alike_step) (subst (λ (q : ℕ). IsEmpty q (q + 3 + n + m) a) e empty) (subst (λ (q : ℕ). All (All (IsUpTo (q + n))) fs) e low_first) (subst (λ (q : ℕ). All (All (IsUpTo (q + m))) ss) e low_step)
+pub made_from : (system : System) (fs ss : List (List Literal)) (a b new : Guarded) (p n m x y : ℕ) → All (All IsNear) fs → All (All IsNear) ss → p ≡ places_of system → MeetAlike p system.first fs → MeetAlike p system.step ss → IsEmpty p (p + 3 + n + m) a → All (All (IsUpTo (p + n))) fs → All (All (IsUpTo (p + m))) ss → x ≡ p + 1 → y ≡ p + 2 →
+    HasPut a b (under_list a.places (p + 3) x fs) → HasPut b new (under_list b.places (p + 3 + n) y ss) → IsHolding system [] ([] ∷ []) (with_simple new (simple_of fs ss))
+made_from system fs ss a b new p n m x y near_first near_step e alike_first alike_step empty low_first low_step at_first at_step one two =
+    made system fs ss a b new n m near_first near_step (subst (λ (q : ℕ). MeetAlike q system.first fs) e alike_first) (subst (λ (q : ℕ). MeetAlike q system.step ss) e alike_step) (subst (λ (q : ℕ). IsEmpty q (q + 3 + n + m) a) e empty) (subst (λ (q : ℕ). All (All (IsUpTo (q + n))) fs) e low_first) (subst (λ (q : ℕ). All (All (IsUpTo (q + m))) ss) e low_step)
     (subst (λ (q : ℕ). HasPut a b (under_list q (q + 3) (q + 1) fs)) e (subst (λ (q : ℕ). HasPut a b (under_list q (p + 3) (p + 1) fs)) empty.places
     (subst (λ (q : ℕ). HasPut a b (under_list a.places (p + 3) q fs)) at_first one)))
     (subst (λ (q : ℕ). HasPut b new (under_list q (q + 3 + n) (q + 2) ss)) e (subst (λ (q : ℕ). HasPut b new (under_list q (p + 3 + n) (p + 2) ss)) (one.guards.places ∙ empty.places)

@@ -91,10 +91,10 @@ put_well old new c w s vars kept = record {
     same = ap (λ (k : KeptValue). k.vars) kept
 
 pub same_itself : (g : Guarded) → HasSameGuards g g
-same_itself g = record { places = refl; step = refl; bad = refl; frames = refl }
+same_itself g = record { places = refl; simple = refl; step = refl; bad = refl; frames = refl }
 
 pub same_both : (a b c : Guarded) → HasSameGuards a b → HasSameGuards b c → HasSameGuards a c
-same_both a b c s t = record { places = t.places ∙ s.places; step = t.step ∙ s.step; bad = t.bad ∙ s.bad; frames = t.frames ∙ s.frames }
+same_both a b c s t = record { places = t.places ∙ s.places; simple = t.simple ∙ s.simple; step = t.step ∙ s.step; bad = t.bad ∙ s.bad; frames = t.frames ∙ s.frames }
 
 pub put_none : (g : Guarded) → IsWell g → HasPut g g []
 put_none g w = record { well = w; guards = same_itself g; vars = refl; added = sym (append-nil (added_in g)) }
@@ -139,9 +139,9 @@ new_guard old b w places vars = record {
 }
 
 -- another guard of bad states
-pub bad_renewed : (old a b new : Guarded) → IsWell old → HasPut old a ((opposite old.bad ∷ []) ∷ []) → HasWidened a b 1 → new.search ≡ b.search → new.vars ≡ b.vars → new.places ≡ b.places → new.step ≡ b.step →
+pub bad_renewed : (old a b new : Guarded) → IsWell old → HasPut old a ((opposite old.bad ∷ []) ∷ []) → HasWidened a b 1 → new.search ≡ b.search → new.vars ≡ b.vars → new.places ≡ b.places → new.simple ≡ b.simple → new.step ≡ b.step →
     new.frames.items ≡ b.frames.items → new.bad ≡ plain b.vars → HasNewBad old new
-bad_renewed old a b new w p h search vars places step frames bad = record {
+bad_renewed old a b new w p h search vars places simple step frames bad = record {
   well = record {
     low = subst (λ (n : ℕ). n < 2 ^ 31) (sym places) h.well.low;
     vars = vars ∙ h.well.vars ∙ sym same;
@@ -155,6 +155,7 @@ bad_renewed old a b new w p h search vars places step frames bad = record {
     marked = ap (λ s. length s.kept.marks) search ∙ h.well.marked ∙ sym (ap (λ s. length s.kept.clauses) search);
   };
   places = places ∙ h.guards.places ∙ p.guards.places;
+  simple = simple ∙ h.guards.simple ∙ p.guards.simple;
   step = step ∙ h.guards.step ∙ p.guards.step;
   bad = named;
   frames = frames ∙ h.guards.frames ∙ p.guards.frames;
@@ -175,9 +176,9 @@ bad_renewed old a b new w p h search vars places step frames bad = record {
     named = bad ∙ ap plain (h.well.vars ∙ risen)
 
 -- the guard of a frame more
-pub frame_added : (old b new : Guarded) → IsWell old → HasWidened old b 1 → new.search ≡ b.search → new.vars ≡ b.vars → new.places ≡ b.places → new.step ≡ b.step → new.bad ≡ b.bad →
+pub frame_added : (old b new : Guarded) → IsWell old → HasWidened old b 1 → new.search ≡ b.search → new.vars ≡ b.vars → new.places ≡ b.places → new.simple ≡ b.simple → new.step ≡ b.step → new.bad ≡ b.bad →
     new.frames.items ≡ b.frames.items ++ plain b.vars ∷ [] → HasNewFrame old new
-frame_added old b new w h search vars places step bad frames = record {
+frame_added old b new w h search vars places simple step bad frames = record {
   well = record {
     low = subst (λ (n : ℕ). n < 2 ^ 31) (sym places) h.well.low;
     vars = vars ∙ h.well.vars ∙ sym same;
@@ -191,6 +192,7 @@ frame_added old b new w h search vars places step bad frames = record {
     marked = ap (λ s. length s.kept.marks) search ∙ h.well.marked ∙ sym (ap (λ s. length s.kept.clauses) search);
   };
   places = places ∙ h.guards.places;
+  simple = simple ∙ h.guards.simple;
   step = step ∙ h.guards.step;
   bad = bad ∙ h.guards.bad;
   frames = named;

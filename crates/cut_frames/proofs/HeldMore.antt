@@ -1,19 +1,21 @@
 -- What a search over lists and frames under guards holds after a clause over states and inputs was added to the bad states' list.
-use Rattle.std.proofs.Common.{◌≡◌, ◌⊎◌, inl, inr, ◌≤◌, ◌<◌, ℕ, suc, ◌+◌, ◌-◌, nat_le, true, false, List, [], ◌∷◌, ◌++◌, refl, sym, ◌∙◌, ap, subst, arith, length, if◌then◌else◌}
+use Rattle.std.proofs.Common.{◌≡◌, ◌⊎◌, inl, inr, ◌≤◌, ◌<◌, ◌^◌, ℕ, suc, ◌+◌, ◌-◌, nat_le, true, false, List, [], ◌∷◌, ◌++◌, refl, sym, ◌∙◌, ap, subst, arith, length, if◌then◌else◌}
 use Rattle.std.specs.Prelude.{Contains, All}
 use Rattle.std.proofs.lemmas.Bool.Decides.{leb_tells}
-use Rattle.std.proofs.lemmas.List.Elements.{All-head, All-tail, Contains-push, Contains-push_cases, Contains-append_left}
+use Rattle.std.proofs.lemmas.List.Elements.{All-head, All-tail, All-nil, All-cons, All-append, Contains-push, Contains-push_cases, Contains-append_left}
 use Rattle.sat_clauses.specs.Literal.{Literal}
 use Rattle.sat_clauses.specs.Derivation.{IsUpTo}
 use Rattle.cut_frames.specs.Roles.{Listed, first, step, bad, gate, renamed_clause, under_guard}
 use Rattle.cut_frames.specs.Guards.{guards_next, Layout, IsHeld, of_list, of_frame, of_next, of_retired, IsUnder, AreHeld}
-use Rattle.cut_frames.specs.GuardedSearch.{HasPut, IsWell, places_of, guard_of, guard_at, added_in, AddsBad}
+use Rattle.cut_frames.specs.Condition.{IsNear}
+use Rattle.cut_frames.specs.GuardedSearch.{HasPut, IsSimple, AreSimple, IsWell, places_of, guard_of, guard_at, added_in, AddsBad}
 use Rattle.cut_frames.specs.declared.guarded.Guarded.{Guarded}
+use Rattle.cut_frames.specs.declared.simple.SimpleLists.{SimpleLists}
 use Rattle.cut_frames.proofs.RoleLaws.{renamed_low}
 use Rattle.cut_frames.proofs.AnswerLemmas.{all_raised}
 use Rattle.cut_frames.proofs.HeldLists.{bad_at}
 use Rattle.cut_frames.proofs.AlikeLaws.{alike_more}
-use Rattle.cut_frames.proofs.GuardedLaws.{holding, layout_of, with_bad, alike_bad, guards_same, guard_same}
+use Rattle.cut_frames.proofs.GuardedLaws.{holding, layout_of, with_bad, alike_bad, guards_same, guard_same, with_simple, well_simple, guards_simple, simple_bad}
 
 -- a clause over the places keeps its variables
 pub renamed_places : (places base : ℕ) (c : List Literal) → All (IsUpTo places) c → renamed_clause places base c ≡ c
@@ -118,9 +120,24 @@ held_bad l vars added c list are same_first same_step more low = record {
     under : (i : ℕ) (d : List Literal) → IsUnder l added i d → IsUnder (record l { list = list; top = top }) (added ++ new ∷ []) i d
     under i d u = record { at = u.at; from = u.from; within = u.within; is_added = Contains-append_left added (new ∷ []) (under_guard (l.guard_at u.at) d) u.is_added }
 
+-- a clause over the places more in a list that takes the place of another one
+simple_more : (p : ℕ) (list simple : List (List Literal)) (c : List Literal) → p < 2 ^ 31 → All (IsUpTo p) c → IsSimple p list simple → IsSimple p (list ++ c ∷ []) (simple ++ c ∷ [])
+simple_more p list simple c small low s = record {
+  near = All-append (All IsNear) simple (c ∷ []) s.near (All-cons (All IsNear) c [] (λ k d lt. omega (arith, low k d lt, small)) (All-nil (All IsNear)));
+  alike = alike_more p list simple c low s.alike;
+}
+
 -- after a clause over the places was added under the guard of the bad states
-pub adds_bad : (old new : Guarded) (c : List Literal) → IsWell old → All (IsUpTo old.places) c → HasPut old new ((record { var = old.bad.var; negated = true } ∷ c) ∷ []) → AddsBad old new c
+pub adds_bad : (old new : Guarded) (c : List Literal) → IsWell old → All (IsUpTo old.places) c → HasPut old new ((record { var = old.bad.var; negated = true } ∷ c) ∷ []) → AddsBad old (with_simple new (record new.simple { bad = new.simple.bad ++ c ∷ [] })) c
 adds_bad old new c w low p system list frames h =
-    holding system (list ++ c ∷ []) frames new (with_bad h.lists (h.lists bad ++ c ∷ [])) (alike_bad system list (list ++ c ∷ []) (h.lists bad ++ c ∷ []) h.lists h.alike (alike_more (places_of system) list (h.lists bad) c (subst (λ (k : ℕ). All (IsUpTo k) c) h.places low) (h.alike bad))) old.places old.search.kept.vars (added_in old ++ under_guard old.bad.var c ∷ []) (guard_of old) (bad_at h.top (later (h.top bad) old.places)) h.base (guard_at old) h.role p.well h.places p.guards.places
-    (ap (λ (ls : List Literal). length ls) p.guards.frames ∙ h.count) (λ which. guards_same old new which p.guards) (λ i lt. guard_same old new i p.guards.step p.guards.frames) p.vars p.added
+    holding system (list ++ c ∷ []) frames (with_simple new more) simple (with_bad h.lists (h.lists bad ++ c ∷ [])) (alike_bad system list (list ++ c ∷ []) (h.lists bad ++ c ∷ []) h.lists h.alike (alike_more (places_of system) list (h.lists bad) c (subst (λ (k : ℕ). All (IsUpTo k) c) h.places low) (h.alike bad))) old.places old.search.kept.vars (added_in old ++ under_guard old.bad.var c ∷ []) (guard_of old) (bad_at h.top (later (h.top bad) old.places)) h.base (guard_at old) h.role (well_simple new more p.well) h.places p.guards.places
+    (ap (λ (ls : List Literal). length ls) p.guards.frames ∙ h.count) (λ which. guards_simple new more which ∙ guards_same old new which p.guards) (λ i lt. guard_same old new i p.guards.step p.guards.frames) p.vars p.added
     (held_bad (layout_of old.places h.lists frames (guard_of old) h.top h.base (guard_at old) h.role) old.search.kept.vars (added_in old) c (with_bad h.lists (h.lists bad ++ c ∷ [])) h.held refl refl refl low)
+  where
+    more : SimpleLists
+    more = record new.simple { bad = new.simple.bad ++ c ∷ [] }
+
+    simple : AreSimple system (list ++ c ∷ []) more
+    simple = simple_bad system list (list ++ c ∷ []) (new.simple.bad ++ c ∷ []) old.simple new.simple p.guards.simple h.simple
+        (subst (λ (s : SimpleLists). IsSimple (places_of system) (list ++ c ∷ []) (s.bad ++ c ∷ [])) (sym p.guards.simple)
+        (simple_more (places_of system) list old.simple.bad c (subst (λ (k : ℕ). k < 2 ^ 31) h.places w.low) (subst (λ (k : ℕ). All (IsUpTo k) c) h.places low) h.simple.bad))

@@ -7,6 +7,10 @@ use Rattle.sat_clauses.specs.declared.system.System.{System}
 abbrev pub IsLow : Literal → Type 0
 IsLow l = l.var < 2 ^ 31
 
+-- the literal's variable is below 2^32, as those of a list are that is numbered apart
+abbrev pub IsNear : Literal → Type 0
+IsNear l = l.var < 2 ^ 32
+
 -- the literal's variable is 1, a state bit now, or above all state and input bits
 abbrev pub IsOverNow : System → Literal → Type 0
 IsOverNow system l =

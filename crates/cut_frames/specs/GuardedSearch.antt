@@ -9,12 +9,14 @@ use Rattle.sat_solver.specs.declared.solve.Verdict.{Verdict}
 use Rattle.sat_solver.specs.declared.solve.Verdict.TheVariants.{Sat, Unsat}
 use Rattle.sat_clauses.specs.declared.system.System.{System}
 use Rattle.cut_frames.specs.Bits.{values_of}
+use Rattle.cut_frames.specs.Condition.{IsNear}
 use Rattle.cut_frames.specs.FrameLists.{frame_at}
 use Rattle.cut_frames.specs.Roles.{Listed, first, step, bad, Role, renamed}
 use Rattle.cut_frames.specs.Guards.{IsPut, AreHeld}
 use Rattle.cut_frames.specs.declared.guarded.Beside.{Beside}
 use Rattle.cut_frames.specs.declared.guarded.Beside.TheVariants.{Nothing, Step, Bad}
 use Rattle.cut_frames.specs.declared.guarded.Guarded.{Guarded}
+use Rattle.cut_frames.specs.declared.simple.SimpleLists.{SimpleLists}
 
 -- a list whose variables above those of states and inputs are its own: some values that agree on these places make it true
 pub record Meets (places : ℕ) (list : List (List Literal)) (v : TotalAssignment) : Type 0 where
@@ -27,9 +29,20 @@ pub record MeetAlike (places : ℕ) (old new : List (List Literal)) : Type 0 whe
   pub stays : (v : TotalAssignment) → Meets places old v → Meets places new v
   pub back : (v : TotalAssignment) → Meets places new v → Meets places old v
 
+-- the list takes the place of another one in a search: it is met alike, and its variables are small
+pub record IsSimple (places : ℕ) (list simple : List (List Literal)) : Type 0 where
+  pub near : All (All IsNear) simple
+  pub alike : MeetAlike places list simple
+
 -- the highest variable of states and inputs
 abbrev pub places_of : System → ℕ
 places_of system = 2 * system.state_bits + system.input_bits + 1
+
+-- the lists take the places of `first`, `step` and this list of bad states
+pub record AreSimple (system : System) (list : List (List Literal)) (simple : SimpleLists) : Type 0 where
+  pub first : IsSimple (places_of system) system.first simple.first
+  pub step : IsSimple (places_of system) system.step simple.step
+  pub bad : IsSimple (places_of system) list simple.bad
 
 -- what the frame of a number says of values: that of number 0 is `first`
 abbrev pub MeetsFrame : System → List (List (List Literal)) → ℕ → TotalAssignment → Type 0
@@ -82,9 +95,10 @@ pub record IsWell (g : Guarded) : Type 0 where
   pub bad : IsGuardIn g.places g.search.kept.vars g.bad
   pub marked : length g.search.kept.marks ≡ length g.search.kept.clauses
 
--- the places, the guards of the lists and those of the frames are the same
+-- the places, the simple lists, the guards of the lists and those of the frames are the same
 pub record HasSameGuards (old new : Guarded) : Type 0 where
   pub places : new.places ≡ old.places
+  pub simple : new.simple ≡ old.simple
   pub step : new.step ≡ old.step
   pub bad : new.bad ≡ old.bad
   pub frames : new.frames.items ≡ old.frames.items
@@ -107,6 +121,7 @@ pub record HasWidened (old new : Guarded) (count : ℕ) : Type 0 where
 pub record HasNewBad (old new : Guarded) : Type 0 where
   pub well : IsWell new
   pub places : new.places ≡ old.places
+  pub simple : new.simple ≡ old.simple
   pub step : new.step ≡ old.step
   pub bad : new.bad ≡ plain (old.search.kept.vars + 1)
   pub frames : new.frames.items ≡ old.frames.items
@@ -117,6 +132,7 @@ pub record HasNewBad (old new : Guarded) : Type 0 where
 pub record HasNewFrame (old new : Guarded) : Type 0 where
   pub well : IsWell new
   pub places : new.places ≡ old.places
+  pub simple : new.simple ≡ old.simple
   pub step : new.step ≡ old.step
   pub bad : new.bad ≡ old.bad
   pub frames : new.frames.items ≡ old.frames.items ++ plain (old.search.kept.vars + 1) ∷ []
@@ -160,10 +176,11 @@ lists_of system list step = system.step
 lists_of system list bad = list
 
 -- the search holds lists that are met as `first`, `step` and this list of bad states are, and these frames from number 1 on;
--- that of number 0 is `first`
+-- that of number 0 is `first`. It has simple forms of the three lists beside, for the next search
 pub record IsHolding (system : System) (list : List (List Literal)) (frames : List (List (List Literal))) (g : Guarded) : Type 0 where
   pub well : IsWell g
   pub places : g.places ≡ places_of system
+  pub simple : AreSimple system list g.simple
   pub count : length g.frames.items ≡ length frames
   pub lists : Listed → List (List Literal)
   pub alike : (which : Listed) → MeetAlike (places_of system) (lists_of system list which) (lists which)
@@ -196,6 +213,15 @@ HasAsked old new = (system : System) (list : List (List Literal)) (frames : List
 abbrev pub TakesBad : Guarded → Guarded → List (List Literal) → Type 0
 TakesBad old new list = (system : System) (was : List (List Literal)) (frames : List (List (List Literal))) →
     IsHolding system was frames old → IsHolding system list frames new
+
+-- a list that is met as this one is stands in the place of the bad states
+abbrev pub TakesSimple : Guarded → Guarded → List (List Literal) → Type 0
+TakesSimple old new simple = (list : List (List Literal)) → MeetAlike old.places list simple → TakesBad old new list
+
+-- the frame of number 0, no bad states, and lists that are met as these are
+abbrev pub HoldsSimple : ℕ → List (List Literal) → List (List Literal) → Guarded → Type 0
+HoldsSimple places firsts steps new = (system : System) → places ≡ places_of system → MeetAlike places system.first firsts →
+    MeetAlike places system.step steps → IsHolding system [] ([] ∷ []) new
 
 -- a clause more stands among the bad states' clauses
 abbrev pub AddsBad : Guarded → Guarded → List Literal → Type 0

@@ -1,6 +1,6 @@
 -- The variables 0 and 1 of a list are its own, as those above the places are: numbered apart from the places, they may be
 -- renamed, and two lists that are asked together never share them.
-use Rattle.std.specs.Prelude.{ℕ, zero, suc, ◌+◌, ◌≤◌, ◌<◌, ◌^◌, List, map, nat_le, if◌then◌else◌, IsTrue, All, Contains}
+use Rattle.std.specs.Prelude.{ℕ, zero, suc, ◌+◌, ◌≤◌, List, map, nat_le, if◌then◌else◌, IsTrue, All, Contains}
 use Rattle.sat_clauses.specs.Literal.{Literal, opposite}
 use Rattle.sat_clauses.specs.Assignment.{Assignment}
 use Rattle.sat_clauses.specs.Models.{TotalAssignment, literal_value, clause_value, all_true}
@@ -8,10 +8,11 @@ use Rattle.sat_simplify.specs.SamePlaces.{IsMet}
 use Rattle.sat_clauses.specs.declared.system.System.{System}
 use Rattle.cut_frames.specs.Bits.{values_of}
 use Rattle.cut_frames.specs.FrameLists.{frame_at}
-use Rattle.cut_frames.specs.GuardedSearch.{IsHolding, places_of}
+use Rattle.cut_frames.specs.GuardedSearch.{IsHolding, AreSimple, places_of}
 use Rattle.cut_frames.specs.declared.guarded.Beside.{Beside}
 use Rattle.cut_frames.specs.declared.guarded.Beside.TheVariants.{Nothing, Step, Bad}
 use Rattle.cut_frames.specs.declared.guarded.Guarded.{Guarded}
+use Rattle.cut_frames.specs.declared.simple.SimpleLists.{SimpleLists}
 
 -- the number of a variable apart: 0 and 1 stand above the places, and what stood there is two further on
 abbrev pub apart : ℕ → ℕ → ℕ
@@ -37,10 +38,6 @@ apart_system system = record system { first = apart_list (places_of system) syst
 abbrev pub IsPlace : ℕ → Literal → Type 0
 IsPlace places l = (2 ≤ l.var) × (l.var ≤ places)
 
--- the literal's variable is small
-abbrev pub IsNear : Literal → Type 0
-IsNear l = l.var < 2 ^ 32
-
 -- what the frame of a number says of values: that of number 0 is `first`
 abbrev pub IsMetFrame : System → List (List (List Literal)) → ℕ → TotalAssignment → Type 0
 IsMetFrame system frames zero v = IsMet (places_of system) system.first v
@@ -64,6 +61,10 @@ pub record IsExcluded (system : System) (list : List (List Literal)) (frames : L
     (assumptions core : List Literal) : Type 0 where
   pub negated : All (λ l. Contains assumptions (opposite l)) core
   pub follows : (v : TotalAssignment) → IsMetFrame system frames i v → IsMetBeside system list asked v → IsTrue (clause_value v core)
+
+-- these lists say what those of the system and these bad states say, with the variables of each list apart
+abbrev pub AreSimpleFor : System → List (List Literal) → SimpleLists → Type 0
+AreSimpleFor system list simple = AreSimple (apart_system system) (apart_list (places_of system) list) simple
 
 -- the search holds what the lists of the system, these bad states and these frames say, with the variables of each list apart
 abbrev pub IsKept : System → List (List Literal) → List (List (List Literal)) → Guarded → Type 0

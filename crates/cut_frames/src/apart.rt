@@ -4,9 +4,9 @@
 //! renamed where the list goes into a search with others. [`simpler_apart`] is the main function: the search needs only what a list
 //! says of the places, so it gets a simpler one that says the same (`MeetAlike` of `specs/GuardedSearch.antt`).
 ghost use Rattle.std.specs.Prelude.{◌≡◌, ◌<◌, ◌^◌, IfOk, All};
-ghost use Rattle.cut_frames.specs.Condition.{IsLow};
+ghost use Rattle.cut_frames.specs.Condition.{IsLow, IsNear};
 ghost use Rattle.cut_frames.specs.GuardedSearch.{MeetAlike};
-ghost use Rattle.cut_frames.specs.OwnVariables.{apart_literal, apart_clause, apart_list, IsNear};
+ghost use Rattle.cut_frames.specs.OwnVariables.{apart_literal, apart_clause, apart_list};
 
 use base_values::OutOfMemory;
 use sat_clauses::clause::{Clause, ClauseList};

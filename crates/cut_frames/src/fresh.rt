@@ -1,33 +1,36 @@
 //! The search made anew. It drops what it learned and is of no more use, but keeps each clause whose place in the frames another one took
 //! or that went to the next frame, so it grows with each question. Once it has more than twice the clauses that it began with, [`freshen`]
-//! makes one over what is alive: the lists of the system, the bad states that are asked about, and each clause of the frames once. So
-//! memory is in proportion to what is alive, and no question pays for what was learned long ago.
+//! makes one over what is alive: the lists of the system, the bad states that are asked about, and each clause of the frames once. The
+//! lists go over as they are, made simpler long before ([`crate::simple`]). So memory is in proportion to what is alive, and no question
+//! pays for what was learned long ago.
 ghost use Rattle.std.specs.Prelude.{◌≡◌, suc, [], ◌∷◌, All, IfOk, OnOk};
-ghost use Rattle.cut_frames.specs.OwnVariables.{IsKept};
+ghost use Rattle.cut_frames.specs.OwnVariables.{IsKept, AreSimpleFor};
 ghost use Rattle.cut_frames.specs.Condition.{IsFit, IsOverNow};
 ghost use Rattle.cut_frames.specs.Levels.{frames_from, frames_of, IsLevelled};
 
-use crate::guarded::Guarded;
+use crate::guarded::{Guarded, last_place};
 use crate::levels::Levels;
+use crate::simple::SimpleLists;
 use base_values::OutOfMemory;
 use sat_adviser::Panel;
 use sat_clauses::System;
 use sat_clauses::clause::ClauseList;
 use std::alloc::Global;
 
-/// A search over the lists of the system and these bad states, with the frame of number 0 alone.
+/// A search over simple lists of the system and these bad states, with the frame of number 0 alone.
 fn bare(
     alloc: Global,
     system: &System,
     bad: &ClauseList,
+    lists: SimpleLists,
     panel: &mut Panel,
 ) -> Result<Guarded, OutOfMemory>
     requires fit { IsFit system.now }
-    requires bad { All (All (IsOverNow system.now)) bad.now }
+    requires simple { AreSimpleFor system.now bad.now lists }
     ensures { IfOk result (IsKept system.now bad.now ([] ∷ [])) }
 {
-    let mut kept = Guarded::new(alloc, system)?;
-    kept.take_bad(bad, panel)?;
+    let mut kept = Guarded::over(alloc, last_place(system), lists.first, lists.step)?;
+    kept.take_simple(lists.bad, panel)?;
     Ok(kept)
 }
 
@@ -36,14 +39,15 @@ fn with_frames(
     alloc: Global,
     system: &System,
     bad: &ClauseList,
+    lists: SimpleLists,
     last: usize,
     panel: &mut Panel,
 ) -> Result<Guarded, OutOfMemory>
     requires fit { IsFit system.now }
-    requires bad { All (All (IsOverNow system.now)) bad.now }
+    requires simple { AreSimpleFor system.now bad.now lists }
     ensures { IfOk result (IsKept system.now bad.now (frames_from 0 (suc last) [])) }
 {
-    let mut kept = bare(alloc, system, bad, panel)?;
+    let mut kept = bare(alloc, system, bad, lists, panel)?;
     for _ in 0..last {
         kept.grow(panel)?;
     }
@@ -55,15 +59,16 @@ fn renewed(
     system: &System,
     frames: &Levels,
     bad: &ClauseList,
+    lists: SimpleLists,
     panel: &mut Panel,
 ) -> Result<Guarded, OutOfMemory>
     requires fit { IsFit system.now }
     requires framed { IsLevelled system.now frames.now }
-    requires bad { All (All (IsOverNow system.now)) bad.now }
+    requires simple { AreSimpleFor system.now bad.now lists }
     ensures { IfOk result (IsKept system.now bad.now (frames_of frames.now)) }
 {
     let alloc = *frames.held.allocator();
-    let mut kept = with_frames(alloc, system, bad, frames.last, panel)?;
+    let mut kept = with_frames(alloc, system, bad, lists, frames.last, panel)?;
     for held in &frames.held {
         if held.highest > 0 {
             kept.add(held.highest, &held.clause)?;
@@ -91,7 +96,8 @@ pub fn freshen(
         return Ok(());
     }
     let past = kept.work();
-    *kept = renewed(system, frames, bad, panel)?;
+    let lists = kept.take_lists();
+    *kept = renewed(system, frames, bad, lists, panel)?;
     kept.note_past(past);
     Ok(())
 }

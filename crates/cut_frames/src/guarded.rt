@@ -11,16 +11,18 @@ ghost use Rattle.std.specs.Prelude.{◌≡◌, ◌≤◌, ◌<◌, ◌+◌, ◌*
 ghost use Rattle.sat_clauses.specs.Literal.{opposite};
 ghost use Rattle.sat_clauses.specs.Derivation.{IsUpTo};
 ghost use Rattle.sat_clauses.specs.Hints.{HasNoOpposites};
-ghost use Rattle.cut_frames.specs.OwnVariables.{apart_system, apart_list, IsNear};
-ghost use Rattle.cut_frames.specs.Condition.{IsLow, IsFit};
+ghost use Rattle.cut_frames.specs.OwnVariables.{apart_system, apart_list};
+ghost use Rattle.cut_frames.specs.Condition.{IsLow, IsNear, IsFit};
 ghost use Rattle.cut_frames.specs.Roles.{renamed_literal, renamed_clause, under_list};
 ghost use Rattle.cut_frames.specs.Guards.{unguarded};
 ghost use Rattle.cut_frames.specs.GuardedSearch.{IsWell, IsHolding, IsGuardIn, HasRoomFor, IsEmpty, HasPut, HasWidened, HasNewBad};
 ghost use Rattle.cut_frames.specs.GuardedSearch.{HasNewFrame, HasAsked, Tells, TakesBad, AddsBad, Puts, Grows, BeginsAgain, asked_guards};
+ghost use Rattle.cut_frames.specs.GuardedSearch.{HoldsSimple, TakesSimple};
 ghost use Rattle.sat_solver.specs.declared.solve.Verdict.TheVariants.{Unsat};
 
 use crate::apart::simpler_apart;
 use crate::highest::highest;
+use crate::simple::SimpleLists;
 use base_values::OutOfMemory;
 use sat_adviser::Panel;
 use sat_clauses::System;
@@ -74,6 +76,8 @@ pub struct Guarded {
     pub bad: Lit,
     /// The guard of each frame; that of number 0 is the guard of the first states.
     pub frames: Vec<Lit>,
+    /// The lists that it was filled with, for the search that takes its place.
+    pub simple: SimpleLists,
     /// What was before it.
     pub past: Past,
 }
@@ -179,14 +183,34 @@ impl Guarded {
         ensures { IfOk result (λ g. IsHolding (apart_system system.now) [] ([] ∷ []) g) }
     {
         let places = last_place(system);
-        let apart_first = simpler_apart(alloc, places, system.first.as_slice())?;
-        let apart_step = simpler_apart(alloc, places, system.step.as_slice())?;
-        let first = highest(&apart_first).max(places) - places;
-        let step = highest(&apart_step).max(places) - places;
-        let most = most_of(apart_first.len().saturating_add(apart_step.len()));
-        let mut held = Guarded::empty(alloc, places, places + 3 + first + step, most)?;
-        held.fill(Lit::new(places + 1, false), places + 3, &apart_first)?;
-        held.fill(Lit::new(places + 2, false), places + 3 + first, &apart_step)?;
+        let first = simpler_apart(alloc, places, system.first.as_slice())?;
+        let step = simpler_apart(alloc, places, system.step.as_slice())?;
+        Guarded::over(alloc, places, first, step)
+    }
+
+    /// The search over simple lists of the first states and the steps, with the frame of number 0 and no bad states.
+    pub fn over(
+        alloc: Global,
+        places: u64,
+        first: ClauseList,
+        step: ClauseList,
+    ) -> Result<Guarded, OutOfMemory>
+        requires low { places < 2 ^ 31 }
+        requires first { All (All IsNear) first }
+        requires step { All (All IsNear) step }
+        ensures { IfOk result (HoldsSimple places first step) }
+    {
+        let firsts = highest(&first).max(places) - places;
+        let steps = highest(&step).max(places) - places;
+        let most = most_of(first.len().saturating_add(step.len()));
+        let mut held = Guarded::empty(alloc, places, places + 3 + firsts + steps, most)?;
+        held.fill(Lit::new(places + 1, false), places + 3, &first)?;
+        held.fill(Lit::new(places + 2, false), places + 3 + firsts, &step)?;
+        held.simple = SimpleLists {
+            first,
+            step,
+            bad: ClauseList::new(alloc),
+        };
         Ok(held)
     }
 
@@ -207,6 +231,7 @@ impl Guarded {
             step: Lit::new(places + 2, false),
             bad: Lit::new(places + 3, false),
             frames,
+            simple: SimpleLists::none(alloc),
             past: Past {
                 work: no_work(),
                 most,
@@ -242,6 +267,14 @@ impl Guarded {
     {
         let most = most_of(self.search.count());
         self.past = Past { work, most };
+    }
+
+    /// The simple lists, for the search that takes the place of this one.
+    pub fn take_lists(&mut self) -> SimpleLists
+        ensures { result ≡ self.old.simple }
+    {
+        let alloc = *self.frames.allocator();
+        std::mem::replace(&mut self.simple, SimpleLists::none(alloc))
     }
 
     /// Has the search make these literals false before any other choice where it is asked about bad states.
@@ -310,11 +343,21 @@ impl Guarded {
         ensures { OnOk result (TakesBad self.old self.new (apart_list self.old.places bad.now)) }
     {
         let alloc = *self.frames.allocator();
-        let apart_bad = simpler_apart(alloc, self.places, bad.as_slice())?;
+        let simple = simpler_apart(alloc, self.places, bad.as_slice())?;
+        self.take_simple(simple, panel)
+    }
+
+    /// Retires the bad states that were asked about, and takes those of a simple list.
+    pub fn take_simple(&mut self, bad: ClauseList, panel: &mut Panel) -> Result<(), OutOfMemory>
+        requires well { IsWell self.old }
+        requires near { All (All IsNear) bad }
+        ensures { OnOk result (TakesSimple self.old self.new bad) }
+    {
         self.renew_bad(panel)?;
         let base = self.vars;
-        self.widen(highest(&apart_bad).max(self.places) - self.places, panel)?;
-        self.fill(self.bad, base, &apart_bad)?;
+        self.widen(highest(&bad).max(self.places) - self.places, panel)?;
+        self.fill(self.bad, base, &bad)?;
+        self.simple.bad = bad;
         Ok(())
     }
 
@@ -327,6 +370,7 @@ impl Guarded {
         let alloc = *self.frames.allocator();
         let under = implied_by(alloc, self.bad, clause.lits())?;
         self.put(&under)?;
+        self.simple.bad.push_lits(clause.lits())?;
         Ok(())
     }
 

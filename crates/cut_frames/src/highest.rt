@@ -1,7 +1,7 @@
 //! The highest variable of a list of clauses: [`highest`] tells how many variables a list that is added to the search takes.
 ghost use Rattle.std.specs.Prelude.{◌<◌, ◌^◌, All};
 ghost use Rattle.sat_clauses.specs.Derivation.{IsUpTo};
-ghost use Rattle.cut_frames.specs.OwnVariables.{IsNear};
+ghost use Rattle.cut_frames.specs.Condition.{IsNear};
 
 use sat_clauses::clause::ClauseList;
 use sat_clauses::lit::Lit;

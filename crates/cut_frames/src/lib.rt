@@ -48,6 +48,7 @@ mod raise;
 mod reached;
 mod shown;
 mod shrink;
+mod simple;
 mod smaller;
 mod steps;
 mod waiting;

@@ -1,7 +1,7 @@
 use Rattle.std.proofs.Common.{◌≡◌, ◌∙◌, All, ap, sym, subst}
 use Rattle.std.proofs.lemmas.Result.{IfOk-weaker}
-use Rattle.cut_frames.specs.Condition.{IsLow}
-use Rattle.cut_frames.specs.OwnVariables.{apart_list, IsNear}
+use Rattle.cut_frames.specs.Condition.{IsLow, IsNear}
+use Rattle.cut_frames.specs.OwnVariables.{apart_list}
 use Rattle.cut_frames.specs.GuardedSearch.{MeetAlike}
 use Rattle.cut_frames.proofs.ApartLaws.{simpler_low, simpler_near, simpler_alike}
 use Rattle.cut_frames.proofs.apart.simpler_apart.Goals as goal

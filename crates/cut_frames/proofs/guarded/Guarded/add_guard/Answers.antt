@@ -8,4 +8,4 @@ pub returns : goal.returns
 returns g c =
     let b = c.widen.new.self in
     let frames : c.push.new.self.items ≡ b.frames.items ++ plain b.vars ∷ [] = grind (arith, common_steps) in
-    frame_added c.args.self.now b (record { search = b.search; vars = b.vars; places = b.places; step = b.step; bad = b.bad; frames = c.push.new.self; past = b.past }) c.requires c.in_ok-widen.ensures refl refl refl refl refl frames
+    frame_added c.args.self.now b (record { search = b.search; vars = b.vars; places = b.places; step = b.step; bad = b.bad; frames = c.push.new.self; simple = b.simple; past = b.past }) c.requires c.in_ok-widen.ensures refl refl refl refl refl refl frames

@@ -28,8 +28,8 @@ ask-requires-clause-apart g c =
 pub returns-in-Sat-clause-asked : goal.returns-in-Sat-clause-asked
 returns-in-Sat-clause-asked g c =
     let s = c.args.self.now in
-    let t : Guarded = record { search = c.ask.new.self; vars = s.vars; places = s.places; step = s.step; bad = s.bad; frames = s.frames; past = s.past } in
-    asks s t (asked_well s t _ _ _ c.requires.well (record { places = refl; step = refl; bad = refl; frames = refl }) refl c.in_ok-values.ensures.vars c.in_ok-values.ensures.learned)
+    let t : Guarded = record { search = c.ask.new.self; vars = s.vars; places = s.places; step = s.step; bad = s.bad; frames = s.frames; simple = s.simple; past = s.past } in
+    asks s t (asked_well s t _ _ _ c.requires.well (record { places = refl; simple = refl; step = refl; bad = refl; frames = refl }) refl c.in_ok-values.ensures.vars c.in_ok-values.ensures.learned)
 
 pub returns-in-Sat-clause-verdict : goal.returns-in-Sat-clause-verdict
 returns-in-Sat-clause-verdict g c =
@@ -41,8 +41,8 @@ returns-in-Sat-clause-verdict g c =
 pub returns-clause-asked : goal.returns-clause-asked
 returns-clause-asked g c =
     let s = c.args.self.now in
-    let t : Guarded = record { search = c.ask.new.self; vars = s.vars; places = s.places; step = s.step; bad = s.bad; frames = s.frames; past = s.past } in
-    asks s t (asked_well s t _ _ _ c.requires.well (record { places = refl; step = refl; bad = refl; frames = refl }) refl c.in_ok-values.ensures.vars c.in_ok-values.ensures.learned)
+    let t : Guarded = record { search = c.ask.new.self; vars = s.vars; places = s.places; step = s.step; bad = s.bad; frames = s.frames; simple = s.simple; past = s.past } in
+    asks s t (asked_well s t _ _ _ c.requires.well (record { places = refl; simple = refl; step = refl; bad = refl; frames = refl }) refl c.in_ok-values.ensures.vars c.in_ok-values.ensures.learned)
 
 pub returns-clause-verdict : goal.returns-clause-verdict
 returns-clause-verdict g c =

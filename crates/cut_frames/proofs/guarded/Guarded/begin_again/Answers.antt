@@ -17,5 +17,5 @@ returns c =
     let some : 0 < length s.frames.items - 1 = grind arith in
     let past : c.in_ok-past.past ≡ opposite (slice_index_or s.frames.items (length s.frames.items - 1) s.step) ∷ [] = grind (arith, common_steps) in
     let frames : c.truncate.new.self.items ≡ take 1 a.frames.items = grind (arith, common_steps) in
-    again_from s a (record { search = a.search; vars = a.vars; places = a.places; step = a.step; bad = a.bad; frames = c.truncate.new.self; past = a.past }) (length s.frames.items - 1)
-    (slice_index_or s.frames.items (length s.frames.items - 1) s.step) c.requires.well refl some refl (subst (λ (d : List Literal). HasPut s a (d ∷ [])) past c.in_ok-put.ensures) refl refl refl refl refl frames
+    again_from s a (record { search = a.search; vars = a.vars; places = a.places; step = a.step; bad = a.bad; frames = c.truncate.new.self; simple = a.simple; past = a.past }) (length s.frames.items - 1)
+    (slice_index_or s.frames.items (length s.frames.items - 1) s.step) c.requires.well refl some refl (subst (λ (d : List Literal). HasPut s a (d ∷ [])) past c.in_ok-put.ensures) refl refl refl refl refl refl frames

@@ -28,14 +28,14 @@ refute-requires-clause-apart g c =
 pub returns-in-None-clause-asked : goal.returns-in-None-clause-asked
 returns-in-None-clause-asked g c =
     let s = c.args.self.now in
-    let t : Guarded = record { search = c.refute.new.self; vars = s.vars; places = s.places; step = s.step; bad = s.bad; frames = s.frames; past = s.past } in
-    asks s t (asked_well s t _ _ _ c.requires.well (record { places = refl; step = refl; bad = refl; frames = refl }) refl c.in_ok-refute.ensures.vars c.in_ok-refute.ensures.learned)
+    let t : Guarded = record { search = c.refute.new.self; vars = s.vars; places = s.places; step = s.step; bad = s.bad; frames = s.frames; simple = s.simple; past = s.past } in
+    asks s t (asked_well s t _ _ _ c.requires.well (record { places = refl; simple = refl; step = refl; bad = refl; frames = refl }) refl c.in_ok-refute.ensures.vars c.in_ok-refute.ensures.learned)
 
 pub returns-clause-asked : goal.returns-clause-asked
 returns-clause-asked g c =
     let s = c.args.self.now in
-    let t : Guarded = record { search = c.refute.new.self; vars = s.vars; places = s.places; step = s.step; bad = s.bad; frames = s.frames; past = s.past } in
-    asks s t (asked_well s t _ _ _ c.requires.well (record { places = refl; step = refl; bad = refl; frames = refl }) refl c.in_ok-refute.ensures.vars c.in_ok-refute.ensures.learned)
+    let t : Guarded = record { search = c.refute.new.self; vars = s.vars; places = s.places; step = s.step; bad = s.bad; frames = s.frames; simple = s.simple; past = s.past } in
+    asks s t (asked_well s t _ _ _ c.requires.well (record { places = refl; simple = refl; step = refl; bad = refl; frames = refl }) refl c.in_ok-refute.ensures.vars c.in_ok-refute.ensures.learned)
 
 pub returns-clause-core : goal.returns-clause-core
 returns-clause-core g c =

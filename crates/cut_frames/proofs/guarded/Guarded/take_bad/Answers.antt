@@ -1,26 +1,16 @@
-use Rattle.std.proofs.Common.{◌≡◌, ◌≤◌, ◌+◌, ◌-◌, ℕ, List, refl, subst, arith}
-use Rattle.cut_frames.specs.OwnVariables.{apart_list}
+use Rattle.std.proofs.Common.{Result, Ok, Err, OnOk, List, subst}
 use Rattle.sat_clauses.specs.Literal.{Literal}
+use Rattle.cut_frames.specs.OwnVariables.{apart_list}
 use Rattle.cut_frames.specs.GuardedSearch.{MeetAlike}
-use Rattle.cut_frames.proofs.AnswerLemmas.{lists_raised}
-use Rattle.cut_frames.proofs.GuardedLaws.{takes_from}
 use Rattle.cut_frames.proofs.guarded.Guarded.take_bad.Goals as goal
+
+on_ok : {T E P Q : Type 0} (r : Result T E) → (P → Q) → OnOk r P → OnOk r Q
+on_ok (Ok x) f h = f h
+on_ok (Err x) f h = tt
 
 pub returns : goal.returns
 returns g c =
-    let reach : c.highest.result ≤ c.max.result = grind arith in
-    let more : c.renew_bad.new.self.places ≤ c.max.result = grind arith in
-    takes_from c.args.self.now c.renew_bad.new.self c.widen.new.self c.fill.new.self c.widen.new.self.places c.renew_bad.new.self.vars c.widen.new.self.bad.var (c.max.result - c.renew_bad.new.self.places) (apart_list c.args.self.now.places c.args.bad.now) c.in_ok-apart_bad.apart_bad
-    (subst (λ (ls : List (List Literal)). MeetAlike c.args.self.now.places (apart_list c.args.self.now.places ls) c.in_ok-apart_bad.apart_bad) c.as_slice.ensures c.in_ok-apart_bad.ensures.alike) c.requires.well
-    c.in_ok-renew_bad.ensures c.in_ok-widen.ensures
-    (lists_raised c.highest.result (c.args.self.now.places + (c.max.result - c.renew_bad.new.self.places)) c.in_ok-apart_bad.apart_bad
-    (fits c.highest.result c.max.result c.args.self.now.places c.renew_bad.new.self.places c.in_ok-renew_bad.ensures.places reach more) c.highest.ensures.up_to) refl refl refl c.in_ok-fill.ensures
-  where
-    fits : (h m p q : ℕ) → q ≡ p → h ≤ m → q ≤ m → h ≤ p + (m - q)
-    fits h m p q e a b = omega (arith, e, a, b)
-
-pub highest-requires : goal.highest-requires
-highest-requires g c = c.in_ok-apart_bad.ensures.near
-
-pub fill-requires-clause-low : goal.fill-requires-clause-low
-fill-requires-clause-low g c = c.in_ok-apart_bad.ensures.near
+    let p = c.args.self.now.places in
+    on_ok c.take_simple.result
+    (λ takes. takes (apart_list p c.args.bad.now) (subst (λ (ls : List (List Literal)). MeetAlike p (apart_list p ls) c.in_ok-simple.simple) c.as_slice.ensures c.in_ok-simple.ensures.alike))
+    c.take_simple.ensures
