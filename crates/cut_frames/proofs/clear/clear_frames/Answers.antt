@@ -202,7 +202,7 @@ looks-preserved-in-Continue-branch-7 g c =
     let owed : AreOwed c.args.system.now c.args.bad.now (frames_of c.looks.frames) (c.pop.new.self ++ c.pop.ensures.0 ∷ []) = subst (λ (o : List Assignment). AreOwed c.args.system.now c.args.bad.now (frames_of c.looks.frames) o) popped c.looks.invariant.owed in
     let gained : AreStronger c.args.system.now (frames_of c.args.frames.now) (frames_of c.block.new.frames) = stronger_blocked c.args.system.now c.args.bad.now (frames_of c.args.frames.now) (frames_of c.looks.frames) (frames_of c.block.new.frames) c.level_of-level.result c.in-Blocked.clause now c.looks.invariant.stronger in
     let first : length (frames_of c.args.frames.now) ≡ length (frames_of c.block.new.frames) = length_frames c.args.frames.now ∙ ap suc (sym (c.block.ensures.last ∙ c.looks.invariant.last)) ∙ sym (length_frames c.block.new.frames) in
-    let none : length c.pop.new.self ≡ 0 = grind (arith, common_steps) in
+    let none : length c.pop.new.self ≡ 0 = grind (arith, c.is_empty.ensures, c.if-is_empty.true) in
     record {
       framed = c.raise_all.ensures.framed;
       last = c.raise_all.ensures.last ∙ c.block.ensures.last ∙ c.looks.invariant.last;

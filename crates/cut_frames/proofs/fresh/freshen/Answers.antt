@@ -1,5 +1,4 @@
-use Rattle.std.proofs.Common.{◌≡◌, List, sym, subst}
-use Rattle.sat_clauses.specs.Literal.{Literal}
+use Rattle.std.proofs.Common.{sym, subst}
 use Rattle.cut_frames.specs.OwnVariables.{apart_system, apart_list, AreSimpleFor}
 use Rattle.cut_frames.specs.GuardedSearch.{places_of}
 use Rattle.cut_frames.specs.Levels.{frames_of}
