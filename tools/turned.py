@@ -1,8 +1,11 @@
-"""Wrong bodies that are made from right ones: one thing in a function's body is turned, as a test, a number or the order of two arguments.
+"""Wrong bodies that are made from right ones: one thing in a function's body is turned, as a test, a number, a name of an enumeration or
+the order of two arguments, or a line that does something is left out.
 
 `wrong_bodies(crate)` has for each public function that promises something and that no edit changes the edits that can be made of it so, the
 most telling first.
 """
+import functools
+import glob
 import re
 
 from planted import Plant, functions_of, plants_of
@@ -20,7 +23,11 @@ TURNS = [
     (r"\((\w+), (\w+)\)", r"(\2, \1)"), (r"\((\w+), (\w+), (\w+)\)", r"(\1, \3, \2)"), (r"\((\w+), (self\.\w+)\)", r"(\2, \1)"),
     (r"\.neg\(\)", ""), (r"\bSome\(\w+\)$", "None"),
     (r"self\.(\w+)\.len\(\)", r"self.\1.len() + 1"), (r"\.len\(\)( as u64)?$", r".len()\1 + 1"),
+    (r"\[(\w*[a-z]\w*)\]", "[0]"), (r"\.(at|get)\((\w*[a-z]\w*)\)", r".\1(0)"), (r"\((\w+), (\w+), (\w+), (\w+)\)", r"(\1, \2, \4, \3)"),
 ]
+
+# A line that does something, and no more than that: it is left out.
+DOES = re.compile(r" *(?!let |return |if |for |while |match |break|continue)[\w.&*:]+(\.|\().*\)\??;$")
 
 # What a function answers in place of its body, by the type of its answer. Want of memory is none of these: any call may answer it.
 ANSWERS = [
@@ -69,16 +76,40 @@ def signature_of(lines, function):
     return " ".join(taken)
 
 
+@functools.cache
+def enumerations():
+    """Returns of each enumeration of the crates its names, each with what it holds as it is written."""
+    found = {}
+    for path in glob.glob(f"{TOP}/crates/*/src/*.rt"):
+        with open(path, encoding="utf-8") as it:
+            for name, within in re.findall(r"^(?:pub(?:\(crate\))? )?enum (\w+)[^{]*\{\n(.*?)^\}", it.read(), re.M | re.S):
+                found[name] = re.findall(r"^    ([A-Z]\w*)(\(.*\))?(?: = \d+)?,$", within, re.M)
+    return found
+
+
+def renamed(line):
+    """Returns the line with another name of an enumeration, one that holds the same, in the place of the first that stands there as a
+    value, or None."""
+    for it in re.finditer(r"\b([A-Z]\w*)::([A-Z]\w*)\b(?![{:])", line):
+        holds = dict(enumerations().get(it[1], []))
+        alike = [name for name in holds if holds[name] == holds.get(it[2])]
+        if len(alike) > 1 and "=>" not in line[it.end():]:
+            return f"{line[:it.start(2)]}{alike[(alike.index(it[2]) + 1) % len(alike)]}{line[it.end(2):]}"
+    return None
+
+
 def turns_of(crate, path, function, text):
     """Returns the edits that can be made of a function's body."""
     made = []
     lines = text.split("\n")
     body = lines_of_body(lines, function)
+    made += [Turned(crate, path, function, lines, number, it) for number in body if (it := renamed(lines[number]))]
     for old, new in TURNS:
         for number in body:
             turned = re.sub(old, new, lines[number], count=1)
-            if turned != lines[number]:
+            if turned != lines[number] and not re.search(r"\w, alloc\b", turned):
                 made.append(Turned(crate, path, function, lines, number, turned))
+    made += [Turned(crate, path, function, lines, number, "") for number in body if DOES.fullmatch(lines[number])]
     for it in answers_of(signature_of(lines, function)) if body else []:
         made.append(Turned(crate, path, function, lines, body[0], f"{it} {lines[body[0]].strip()}"))
     return made
