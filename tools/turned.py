@@ -35,6 +35,8 @@ ANSWERS = [
     (r"&(?:'\w+ )?str", ('""',)), (r"", ("",)),
 ]
 
+FREE = ("OutOfMemory", "Memory")
+
 
 class Turned(Plant):
     """An edit that was made: a function, and the same with another line in the place of one of its lines."""
@@ -92,8 +94,8 @@ def renamed(line):
     value, or None."""
     for it in re.finditer(r"\b([A-Z]\w*)::([A-Z]\w*)\b(?![{:])", line):
         holds = dict(enumerations().get(it[1], []))
-        alike = [name for name in holds if holds[name] == holds.get(it[2])]
-        if len(alike) > 1 and "=>" not in line[it.end():]:
+        alike = [name for name in holds if holds[name] == holds.get(it[2]) and name not in FREE]
+        if it[2] in alike and len(alike) > 1 and "=>" not in line[it.end():]:
             return f"{line[:it.start(2)]}{alike[(alike.index(it[2]) + 1) % len(alike)]}{line[it.end(2):]}"
     return None
 
