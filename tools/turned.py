@@ -35,6 +35,7 @@ ANSWERS = [
     (r"&(?:'\w+ )?str", ('""',)), (r"", ("",)),
 ]
 
+# Names that stand for want of memory: no value becomes one of them, for the same reason.
 FREE = ("OutOfMemory", "Memory")
 
 
