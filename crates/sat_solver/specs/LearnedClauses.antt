@@ -10,7 +10,7 @@ use Rattle.sat_solver.specs.TrailRecord.{TrailValue}
 use Rattle.sat_solver.specs.Trail.{IsIdle}
 use Rattle.sat_solver.specs.declared.solve.Verdict.{Verdict}
 use Rattle.sat_solver.specs.declared.solve.Verdict.TheVariants.{Sat, Unsat}
-use Rattle.sat_solver.specs.Search.{AreSteps, with_steps, IsSolution}
+use Rattle.sat_solver.specs.Search.{AreSteps, with_steps, Grows, IsSolution}
 
 -- the clauses that were added, where the marks say which were learned
 abbrev pub added_of : List (List Literal) → List Bool → List (List Literal)
@@ -52,3 +52,10 @@ pub record IsRefuted (cores : Bool) (added all : List (List Literal)) (assumptio
 abbrev pub IsAnswer : Bool → ℕ → List (List Literal) → List (List Literal) → List Literal → Verdict → Type 0
 IsAnswer cores vars added all assumptions (Sat a) = IsSolution vars added assumptions a
 IsAnswer cores vars added all assumptions (Unsat c) = IsRefuted cores added all assumptions c
+
+-- a question was answered: the clauses have grown by steps that were kept, and the trail has no literal
+pub record IsFound (cores : Bool) (assumptions : List Literal) (vars : ℕ) (old new : List (List Literal)) (kept_old kept_new : Option (List Step))
+    (t : TrailValue) (verdict : Verdict) : Type 0 where
+  pub answer : IsAnswer cores vars old new assumptions verdict
+  pub grows : Grows vars old kept_old new kept_new
+  pub idle : IsIdle vars t

@@ -18,7 +18,8 @@ ghost use Rattle.sat_solver.specs.Proposals.{IsRight};
 
 use crate::alive::still_alive;
 use crate::arena::Arena;
-use crate::proposed::{SearchQuestion, proposed, refuted};
+use crate::proposed::{proposed, refuted};
+use crate::question::SearchQuestion;
 use crate::solve::{Verdict, solve_on};
 use crate::trail::Trail;
 use crate::work::Work;
@@ -227,13 +228,17 @@ impl Kept {
         }
         self.failed = true;
         self.questions = self.questions.saturating_add(1);
-        let verdict = answered(
+        let question = SearchQuestion {
             alloc,
+            assumptions,
+            cores,
+        };
+        let verdict = answered(
             &mut self.kernel,
             &mut self.trail,
             &mut self.store,
             &self.marks,
-            SearchQuestion { assumptions, cores },
+            question,
             panel,
             recorder,
         )?;
@@ -271,14 +276,12 @@ impl Kept {
         }
         self.failed = true;
         self.questions = self.questions.saturating_add(1);
-        let told = refuted(
+        let question = SearchQuestion {
             alloc,
-            &mut self.kernel,
-            &mut self.store,
-            SearchQuestion { assumptions, cores },
-            panel,
-            recorder,
-        )?;
+            assumptions,
+            cores,
+        };
+        let told = refuted(&mut self.kernel, &mut self.store, question, panel, recorder)?;
         let learned = mark(&mut self.marks, self.store.count() as usize)?;
         self.learned = self.learned.saturating_add(learned);
         self.failed = false;
@@ -297,13 +300,12 @@ fn core_of(told: Option<Verdict>) -> Option<Clause>
 }
 
 // The answer that the kernel proposes, where it is right, and else that of the search.
-fn answered<'a, R: Recorder>(
-    alloc: Global,
+fn answered<R: Recorder>(
     kernel: &mut Option<Kernel>,
     trail: &mut Trail,
     store: &mut Arena,
     marks: &[bool],
-    question: SearchQuestion<'a>,
+    question: SearchQuestion<'_>,
     panel: &mut Panel,
     recorder: &mut R,
 ) -> Result<Verdict, OutOfMemory>
@@ -319,19 +321,11 @@ fn answered<'a, R: Recorder>(
     ensures ready { panel.new.vars ≡ panel.old.vars }
     ensures restarts { panel.new.rotated ≤ panel.old.rotated + 64 }
 {
-    let told = proposed(alloc, kernel, store, marks, question, panel, recorder)?;
+    let told = proposed(kernel, store, marks, question, panel, recorder)?;
     if let Some(verdict) = told {
         return Ok(verdict);
     }
-    let found = solve_on(
-        alloc,
-        trail,
-        store,
-        question.assumptions,
-        question.cores,
-        panel,
-        recorder,
-    )?;
+    let found = solve_on(trail, store, question, panel, recorder)?;
     Ok(found)
 }
 

@@ -50,6 +50,7 @@ mod pass;
 mod pick;
 mod propagate;
 mod proposed;
+mod question;
 pub mod solve;
 mod threads;
 mod trail;

@@ -13,6 +13,7 @@ ghost use Rattle.sat_solver.specs.LearnedClauses.{added_of};
 ghost use Rattle.sat_solver.specs.Proposals.{HasTrue, IsRight};
 
 use crate::arena::Arena;
+use crate::question::SearchQuestion;
 use crate::solve::Verdict;
 use base_values::OutOfMemory;
 use sat_adviser::Panel;
@@ -187,21 +188,13 @@ fn values_of(alloc: Global, kernel: &Kernel, vars: u64) -> Result<Assign, OutOfM
     Ok(values)
 }
 
-/// A question: the assumptions, and whether a clause that refutes them is kept with the others.
-#[derive(Clone, Copy)]
-pub(crate) struct SearchQuestion<'a> {
-    pub assumptions: &'a [Lit],
-    pub cores: bool,
-}
-
 /// The assignment that a kernel proposes, where it proposes one that makes all added clauses and the assumptions true.
-fn model<'a>(
-    alloc: Global,
+fn model(
     kernel: &Kernel,
     proposal: &Proposal,
     store: &Arena,
     marks: &[bool],
-    question: SearchQuestion<'a>,
+    question: SearchQuestion<'_>,
 ) -> Result<Option<Assign>, OutOfMemory>
     requires small { store.now.vars < 2 ^ 62 }
     requires in_range { All (All (IsUpTo store.now.vars)) store.now.clauses }
@@ -212,7 +205,7 @@ fn model<'a>(
     let Proposal::Model = proposal else {
         return Ok(None);
     };
-    let values = values_of(alloc, kernel, store.vars())?;
+    let values = values_of(question.alloc, kernel, store.vars())?;
     if all_true(store, marks, &values) && are_true(question.assumptions, &values) {
         return Ok(Some(values));
     }
@@ -245,11 +238,10 @@ fn refutes<R: Recorder>(
 }
 
 /// The clause by which a kernel refutes the assumptions, where it does.
-fn core<'a, R: Recorder>(
-    alloc: Global,
+fn core<R: Recorder>(
     store: &mut Arena,
     step: Step,
-    question: SearchQuestion<'a>,
+    question: SearchQuestion<'_>,
     recorder: &mut R,
 ) -> Result<Option<Verdict>, OutOfMemory>
     requires small { store.old.vars < 2 ^ 62 }
@@ -263,19 +255,18 @@ fn core<'a, R: Recorder>(
     if !are_negated(step.clause.lits(), question.assumptions) {
         return Ok(None);
     }
-    if !refutes(alloc, store, &step, question.cores, recorder)? {
+    if !refutes(question.alloc, store, &step, question.cores, recorder)? {
         return Ok(None);
     }
     Ok(Some(Verdict::Unsat(step.clause)))
 }
 
 /// The answer that a kernel proposes, where it is right. A kernel that learned what does not follow is asked no more.
-pub(crate) fn proposed<'a, R: Recorder>(
-    alloc: Global,
+pub(crate) fn proposed<R: Recorder>(
     asked: &mut Option<Kernel>,
     store: &mut Arena,
     marks: &[bool],
-    question: SearchQuestion<'a>,
+    question: SearchQuestion<'_>,
     panel: &mut Panel,
     recorder: &mut R,
 ) -> Result<Option<Verdict>, OutOfMemory>
@@ -295,13 +286,13 @@ pub(crate) fn proposed<'a, R: Recorder>(
     };
     let proposal = kernel.ask(question.assumptions, store.count(), panel)?;
     let steps = kernel.take_steps();
-    let found = model(alloc, kernel, &proposal, store, marks, question)?;
-    if !keep_steps(alloc, store, steps.as_slice(), recorder)? {
+    let found = model(kernel, &proposal, store, marks, question)?;
+    if !keep_steps(question.alloc, store, steps.as_slice(), recorder)? {
         *asked = None;
         return Ok(None);
     }
     if let Proposal::Core(step) = proposal {
-        let answer = core(alloc, store, step, question, recorder)?;
+        let answer = core(store, step, question, recorder)?;
         return Ok(answer);
     }
     match found {
@@ -312,11 +303,10 @@ pub(crate) fn proposed<'a, R: Recorder>(
 
 /// The clause by which a kernel refutes the assumptions, where it does and that is right. An assignment that it proposes is not looked at.
 /// A kernel that learned what does not follow is asked no more.
-pub(crate) fn refuted<'a, R: Recorder>(
-    alloc: Global,
+pub(crate) fn refuted<R: Recorder>(
     asked: &mut Option<Kernel>,
     store: &mut Arena,
-    question: SearchQuestion<'a>,
+    question: SearchQuestion<'_>,
     panel: &mut Panel,
     recorder: &mut R,
 ) -> Result<Option<Verdict>, OutOfMemory>
@@ -336,12 +326,12 @@ pub(crate) fn refuted<'a, R: Recorder>(
     };
     let proposal = kernel.ask(question.assumptions, store.count(), panel)?;
     let steps = kernel.take_steps();
-    if !keep_steps(alloc, store, steps.as_slice(), recorder)? {
+    if !keep_steps(question.alloc, store, steps.as_slice(), recorder)? {
         *asked = None;
         return Ok(None);
     }
     if let Proposal::Core(step) = proposal {
-        let answer = core(alloc, store, step, question, recorder)?;
+        let answer = core(store, step, question, recorder)?;
         return Ok(answer);
     }
     Ok(None)

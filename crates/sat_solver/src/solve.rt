@@ -16,18 +16,20 @@ ghost use Rattle.sat_clauses.specs.Hints.{truth_at};
 ghost use Rattle.sat_solver.specs.Trail.{IsLawful, IsIdle};
 ghost use Rattle.sat_solver.specs.Search.{Extends, CanSolve, HasKept, IsReason, Grows};
 ghost use Rattle.sat_solver.specs.ClauseFindings.{IsUseful};
-ghost use Rattle.sat_solver.specs.LearnedClauses.{IsAnswer};
+ghost use Rattle.sat_solver.specs.LearnedClauses.{IsFound};
 ghost use Rattle.sat_solver.specs.SearchSteps.{IsRunning, Keeps, GoesOn};
 ghost use Rattle.sat_solver.specs.Verdict.{IsAmong, IsAt, IsCore, IsFurther, IsLesson, IsAdvance, IsVerdict};
 
+use crate::analysis::analyse;
 use crate::arena::Arena;
 use crate::choose::choose_from;
 use crate::clauses::{fill, len, lits};
 use crate::complete::complete;
 use crate::find::{FoundClause, Pick, find, next_pick};
 use crate::follow::follow;
-use crate::lesson::{take_core, take_lesson};
+use crate::lesson::{keep_lesson, take_core};
 use crate::propagate::propagate;
+use crate::question::SearchQuestion;
 use crate::trail::{Reason, Trail};
 use base_values::OutOfMemory;
 use sat_adviser::Panel;
@@ -110,7 +112,12 @@ pub fn solve_in<S: Store, R: Recorder>(
     ensures restarts { panel.new.rotated ≤ panel.old.rotated + 64 }
 {
     let mut trail = Trail::with_vars(alloc, store.vars())?;
-    let verdict = solve_on(alloc, &mut trail, store, assumptions, true, panel, recorder)?;
+    let question = SearchQuestion {
+        alloc,
+        assumptions,
+        cores: true,
+    };
+    let verdict = solve_on(&mut trail, store, question, panel, recorder)?;
     Ok(verdict)
 }
 
@@ -118,51 +125,41 @@ pub fn solve_in<S: Store, R: Recorder>(
 /// the assumptions is kept with the others where `cores` holds; else it is answered alone, and the empty clause
 /// is still one of them.
 pub(crate) fn solve_on<S: Store, R: Recorder>(
-    alloc: Global,
     trail: &mut Trail,
     store: &mut S,
-    assumptions: &[Lit],
-    cores: bool,
+    question: SearchQuestion<'_>,
     panel: &mut Panel,
     recorder: &mut R,
 ) -> Result<Verdict, OutOfMemory>
-    requires can_solve { CanSolve (S.held store.old).vars (S.held store.old).clauses assumptions.now }
+    requires can_solve { CanSolve (S.held store.old).vars (S.held store.old).clauses question.assumptions.now }
     requires idle { IsIdle (S.held store.old).vars trail.old }
-    ensures answer { IfOk result (λ verdict. IsAnswer cores (S.held store.old).vars
-        (S.held store.old).clauses (S.held store.new).clauses assumptions.now verdict) }
-    ensures grows { IfOk result (λ _. Grows (S.held store.old).vars (S.held store.old).clauses
-        (R.kept recorder.old) (S.held store.new).clauses (R.kept recorder.new)) }
+    ensures found { IfOk result (IsFound question.entry.cores question.entry.assumptions.now (S.held store.old).vars
+        (S.held store.old).clauses (S.held store.new).clauses (R.kept recorder.old) (R.kept recorder.new) trail.new) }
     ensures err { OnErr result (Extends (S.held store.old).vars (S.held store.old).clauses (S.held store.new).clauses) }
     ensures vars { IfOk result (λ _. (S.held store.new).vars ≡ (S.held store.old).vars) }
     ensures trail { (S.held store.new).trail ≡ [] }
-    ensures idle { IfOk result (λ _. IsIdle (S.held store.old).vars trail.new) }
     ensures ready { panel.new.vars ≡ panel.old.vars }
     ensures restarts { panel.new.rotated ≤ panel.old.rotated + 64 }
 {
-    let answer = search(alloc, trail, store, assumptions, cores, panel, recorder);
+    let answer = search(trail, store, question, panel, recorder);
     store.undo(0);
     answer
 }
 
 // The search over a store, with a trail without literals, which it is again where there is an answer.
 fn search<S: Store, R: Recorder>(
-    alloc: Global,
     trail: &mut Trail,
     store: &mut S,
-    assumptions: &[Lit],
-    cores: bool,
+    question: SearchQuestion<'_>,
     panel: &mut Panel,
     recorder: &mut R,
 ) -> Result<Verdict, OutOfMemory>
-    requires can_solve { CanSolve (S.held store.old).vars (S.held store.old).clauses assumptions.now }
+    requires can_solve { CanSolve (S.held store.old).vars (S.held store.old).clauses question.assumptions.now }
     requires idle { IsIdle (S.held store.old).vars trail.old }
-    ensures answer { IfOk result (λ verdict. IsAnswer cores (S.held store.old).vars
-        (S.held store.old).clauses (S.held store.new).clauses assumptions.now verdict) }
-    ensures grows { IfOk result (λ _. Grows (S.held store.old).vars (S.held store.old).clauses
-        (R.kept recorder.old) (S.held store.new).clauses (R.kept recorder.new)) }
+    ensures found { IfOk result (IsFound question.entry.cores question.entry.assumptions.now (S.held store.old).vars
+        (S.held store.old).clauses (S.held store.new).clauses (R.kept recorder.old) (R.kept recorder.new) trail.new) }
     ensures err { OnErr result (Extends (S.held store.old).vars (S.held store.old).clauses (S.held store.new).clauses) }
     ensures vars { IfOk result (λ _. (S.held store.new).vars ≡ (S.held store.old).vars) }
-    ensures idle { IfOk result (λ _. IsIdle (S.held store.old).vars trail.new) }
     ensures ready { panel.new.vars ≡ panel.old.vars }
     ensures restarts { panel.new.rotated ≤ panel.old.rotated + 64 }
 {
@@ -176,7 +173,7 @@ fn search<S: Store, R: Recorder>(
             panel.rotate();
             continue 'search;
         }
-        let answer = advance(alloc, trail, store, assumptions, cores, panel, recorder)?;
+        let answer = advance(trail, store, question, panel, recorder)?;
         match answer {
             Some(verdict) => {
                 trail.undo(0);
@@ -189,96 +186,76 @@ fn search<S: Store, R: Recorder>(
 
 // One step of the search.
 fn advance<S: Store, R: Recorder>(
-    alloc: Global,
     trail: &mut Trail,
     store: &mut S,
-    assumptions: &[Lit],
-    cores: bool,
+    question: SearchQuestion<'_>,
     panel: &mut Panel,
     recorder: &mut R,
 ) -> Result<Option<Verdict>, OutOfMemory>
-    requires running { IsRunning assumptions.now (S.held store.old) trail.old }
+    requires running { IsRunning question.assumptions.now (S.held store.old) trail.old }
     ensures keeps { Keeps (S.held store.old) (S.held store.new) }
-    ensures goes_on { IfOk result
-        (λ _. GoesOn assumptions.now (S.held store.old) (S.held store.new) (R.kept recorder.old) (R.kept recorder.new) trail.new) }
-    ensures advance { IfOk result (λ answer. IsAdvance cores (S.held store.new).clauses assumptions.now trail.old trail.new answer) }
+    ensures goes_on { IfOk result (λ _. GoesOn question.entry.assumptions.now (S.held store.old) (S.held store.new)
+        (R.kept recorder.old) (R.kept recorder.new) trail.new) }
+    ensures advance { IfOk result
+        (λ answer. IsAdvance question.entry.cores (S.held store.new).clauses question.entry.assumptions.now trail.old trail.new answer) }
     ensures ready { panel.new.vars ≡ panel.old.vars }
     ensures rotated { panel.new.rotated ≡ panel.old.rotated }
 {
     follow(store, trail)?;
     let found = propagate(store, trail);
-    let answer = take_step(
-        alloc,
-        trail,
-        store,
-        assumptions,
-        cores,
-        found,
-        panel,
-        recorder,
-    )?;
+    let answer = take_step(trail, store, question, found, panel, recorder)?;
     Ok(answer)
 }
 
 // One step of the search, by what propagation found.
 fn take_step<S: Store, R: Recorder>(
-    alloc: Global,
     trail: &mut Trail,
     store: &mut S,
-    assumptions: &[Lit],
-    cores: bool,
+    question: SearchQuestion<'_>,
     found: FoundClause,
     panel: &mut Panel,
     recorder: &mut R,
 ) -> Result<Option<Verdict>, OutOfMemory>
-    requires running { IsRunning assumptions.now (S.held store.old) trail.old }
+    requires running { IsRunning question.assumptions.now (S.held store.old) trail.old }
     requires found { IsUseful (S.held store.old).clauses trail.old.values found }
     ensures keeps { Keeps (S.held store.old) (S.held store.new) }
-    ensures goes_on { IfOk result
-        (λ _. GoesOn assumptions.now (S.held store.old) (S.held store.new) (R.kept recorder.old) (R.kept recorder.new) trail.new) }
-    ensures advance { IfOk result (λ answer. IsAdvance cores (S.held store.new).clauses assumptions.now trail.old trail.new answer) }
+    ensures goes_on { IfOk result (λ _. GoesOn question.entry.assumptions.now (S.held store.old) (S.held store.new)
+        (R.kept recorder.old) (R.kept recorder.new) trail.new) }
+    ensures advance { IfOk result
+        (λ answer. IsAdvance question.entry.cores (S.held store.new).clauses question.entry.assumptions.now trail.old trail.new answer) }
     ensures ready { panel.new.vars ≡ panel.old.vars }
     ensures rotated { panel.new.rotated ≡ panel.old.rotated }
 {
     match found {
-        FoundClause::Conflict(number) => resolve(
-            alloc,
-            trail,
-            store,
-            assumptions,
-            number,
-            panel,
-            recorder,
-        ),
+        FoundClause::Conflict(number) => resolve(trail, store, question, number, panel, recorder),
         FoundClause::Next(number, lit) => {
-            push(trail, store, assumptions, lit, Reason::Implied(number))?;
+            push(trail, store, question, lit, Reason::Implied(number))?;
             Ok(None)
         }
-        FoundClause::Nothing => decide(alloc, trail, store, assumptions, cores, panel, recorder),
+        FoundClause::Nothing => decide(trail, store, question, panel, recorder),
     }
 }
 
 // One step of the search where propagation found nothing.
 fn decide<S: Store, R: Recorder>(
-    alloc: Global,
     trail: &mut Trail,
     store: &mut S,
-    assumptions: &[Lit],
-    cores: bool,
+    question: SearchQuestion<'_>,
     panel: &mut Panel,
     recorder: &mut R,
 ) -> Result<Option<Verdict>, OutOfMemory>
-    requires running { IsRunning assumptions.now (S.held store.old) trail.old }
+    requires running { IsRunning question.assumptions.now (S.held store.old) trail.old }
     ensures keeps { Keeps (S.held store.old) (S.held store.new) }
-    ensures goes_on { IfOk result
-        (λ _. GoesOn assumptions.now (S.held store.old) (S.held store.new) (R.kept recorder.old) (R.kept recorder.new) trail.new) }
-    ensures advance { IfOk result (λ answer. IsAdvance cores (S.held store.new).clauses assumptions.now trail.old trail.new answer) }
+    ensures goes_on { IfOk result (λ _. GoesOn question.entry.assumptions.now (S.held store.old) (S.held store.new)
+        (R.kept recorder.old) (R.kept recorder.new) trail.new) }
+    ensures advance { IfOk result
+        (λ answer. IsAdvance question.entry.cores (S.held store.new).clauses question.entry.assumptions.now trail.old trail.new answer) }
     ensures ready { panel.new.vars ≡ panel.old.vars }
     ensures rotated { panel.new.rotated ≡ panel.old.rotated }
 {
-    match next_pick(trail, assumptions) {
+    match next_pick(trail, question.assumptions) {
         Pick::Assume(lit, place) => {
-            push(trail, store, assumptions, lit, Reason::Assumed(place))?;
+            push(trail, store, question, lit, Reason::Assumed(place))?;
             Ok(None)
         }
         Pick::Choose => {
@@ -286,58 +263,41 @@ fn decide<S: Store, R: Recorder>(
                 return Ok(Some(Verdict::Sat(assign)));
             }
             let lit = choose_from(panel, trail.assign(), trail.least());
-            push(trail, store, assumptions, lit, Reason::Chosen)?;
+            push(trail, store, question, lit, Reason::Chosen)?;
             Ok(None)
         }
         Pick::Refuted(lit) => {
-            let clause = refute(
-                alloc,
-                trail,
-                store,
-                assumptions,
-                cores,
-                lit,
-                panel,
-                recorder,
-            )?;
+            let clause = refute(trail, store, question, lit, panel, recorder)?;
             Ok(Some(Verdict::Unsat(clause)))
         }
-        Pick::Done => settle(alloc, trail, store, assumptions, panel, recorder),
+        Pick::Done => settle(trail, store, question, panel, recorder),
     }
 }
 
 // One step of the search where all variables have values and the assumptions are true. Propagation may
 // have missed a clause, so all are looked at.
 fn settle<S: Store, R: Recorder>(
-    alloc: Global,
     trail: &mut Trail,
     store: &mut S,
-    assumptions: &[Lit],
+    question: SearchQuestion<'_>,
     panel: &mut Panel,
     recorder: &mut R,
 ) -> Result<Option<Verdict>, OutOfMemory>
-    requires running { IsRunning assumptions.now (S.held store.old) trail.old }
+    requires running { IsRunning question.assumptions.now (S.held store.old) trail.old }
     requires taken { (x : ℕ) → 0 < x → x < length trail.old.values → slice_index_or trail.old.values x None ≢ None }
-    requires assumed { All (λ l. value_of trail.old.values l ≡ Some true) assumptions.now }
+    requires assumed { All (λ l. value_of trail.old.values l ≡ Some true) question.assumptions.now }
     ensures keeps { Keeps (S.held store.old) (S.held store.new) }
-    ensures goes_on { IfOk result
-        (λ _. GoesOn assumptions.now (S.held store.old) (S.held store.new) (R.kept recorder.old) (R.kept recorder.new) trail.new) }
-    ensures advance { IfOk result (λ answer. IsAdvance true (S.held store.new).clauses assumptions.now trail.old trail.new answer) }
+    ensures goes_on { IfOk result (λ _. GoesOn question.entry.assumptions.now (S.held store.old) (S.held store.new)
+        (R.kept recorder.old) (R.kept recorder.new) trail.new) }
+    ensures advance { IfOk result
+        (λ answer. IsAdvance true (S.held store.new).clauses question.entry.assumptions.now trail.old trail.new answer) }
     ensures ready { panel.new.vars ≡ panel.old.vars }
     ensures rotated { panel.new.rotated ≡ panel.old.rotated }
 {
     match find(store, trail.assign()) {
-        FoundClause::Conflict(number) => resolve(
-            alloc,
-            trail,
-            store,
-            assumptions,
-            number,
-            panel,
-            recorder,
-        ),
+        FoundClause::Conflict(number) => resolve(trail, store, question, number, panel, recorder),
         FoundClause::Next(number, lit) => {
-            push(trail, store, assumptions, lit, Reason::Implied(number))?;
+            push(trail, store, question, lit, Reason::Implied(number))?;
             Ok(None)
         }
         FoundClause::Nothing => {
@@ -349,27 +309,27 @@ fn settle<S: Store, R: Recorder>(
 
 // One step of the search where a clause is false.
 fn resolve<S: Store, R: Recorder>(
-    alloc: Global,
     trail: &mut Trail,
     store: &mut S,
-    assumptions: &[Lit],
+    question: SearchQuestion<'_>,
     number: u64,
     panel: &mut Panel,
     recorder: &mut R,
 ) -> Result<Option<Verdict>, OutOfMemory>
-    requires running { IsRunning assumptions.now (S.held store.old) trail.old }
+    requires running { IsRunning question.assumptions.now (S.held store.old) trail.old }
     requires is_false { truth_at (S.held store.old).clauses trail.old.values number ≡ Some Truth.False }
     ensures keeps { Keeps (S.held store.old) (S.held store.new) }
-    ensures goes_on { IfOk result
-        (λ _. GoesOn assumptions.now (S.held store.old) (S.held store.new) (R.kept recorder.old) (R.kept recorder.new) trail.new) }
-    ensures advance { IfOk result (λ answer. IsAdvance true (S.held store.new).clauses assumptions.now trail.old trail.new answer) }
+    ensures goes_on { IfOk result (λ _. GoesOn question.entry.assumptions.now (S.held store.old) (S.held store.new)
+        (R.kept recorder.old) (R.kept recorder.new) trail.new) }
+    ensures advance { IfOk result
+        (λ answer. IsAdvance true (S.held store.new).clauses question.entry.assumptions.now trail.old trail.new answer) }
     ensures ready { panel.new.vars ≡ panel.old.vars }
     ensures rotated { panel.new.rotated ≡ panel.old.rotated }
 {
     if lits(store, number as usize - 1).is_empty() {
-        return Ok(Some(Verdict::Unsat(Clause::from_lits(alloc, &[])?)));
+        return Ok(Some(Verdict::Unsat(Clause::from_lits(question.alloc, &[])?)));
     }
-    let answer = learn(alloc, trail, store, assumptions, number, panel, recorder)?;
+    let answer = learn(trail, store, question, number, panel, recorder)?;
     match answer {
         Some(clause) => Ok(Some(Verdict::Unsat(clause))),
         None => Ok(None),
@@ -378,33 +338,25 @@ fn resolve<S: Store, R: Recorder>(
 
 // Learns from a false clause and goes back, unless the empty clause follows.
 fn learn<S: Store, R: Recorder>(
-    alloc: Global,
     trail: &mut Trail,
     store: &mut S,
-    assumptions: &[Lit],
+    question: SearchQuestion<'_>,
     number: u64,
     panel: &mut Panel,
     recorder: &mut R,
 ) -> Result<Option<Clause>, OutOfMemory>
-    requires running { IsRunning assumptions.now (S.held store.old) trail.old }
+    requires running { IsRunning question.assumptions.now (S.held store.old) trail.old }
     requires is_false { truth_at (S.held store.old).clauses trail.old.values number ≡ Some Truth.False }
     ensures keeps { Keeps (S.held store.old) (S.held store.new) }
-    ensures goes_on { IfOk result
-        (λ _. GoesOn assumptions.now (S.held store.old) (S.held store.new) (R.kept recorder.old) (R.kept recorder.new) trail.new) }
-    ensures lesson { IfOk result (λ answer. IsLesson (S.held store.new).clauses assumptions.now trail.old trail.new answer) }
+    ensures goes_on { IfOk result (λ _. GoesOn question.entry.assumptions.now (S.held store.old) (S.held store.new)
+        (R.kept recorder.old) (R.kept recorder.new) trail.new) }
+    ensures lesson { IfOk result
+        (λ answer. IsLesson (S.held store.new).clauses question.entry.assumptions.now trail.old trail.new answer) }
     ensures ready { panel.new.vars ≡ panel.old.vars }
     ensures rotated { panel.new.rotated ≡ panel.old.rotated }
 {
-    let learned = take_lesson(
-        alloc,
-        trail,
-        store,
-        assumptions,
-        number,
-        false,
-        panel,
-        recorder,
-    )?;
+    let learned = analyse(question.alloc, trail, store, number, false)?;
+    keep_lesson(trail, store, question, &learned.step, panel, recorder)?;
     if learned.step.clause.lits().is_empty() {
         return Ok(Some(learned.step.clause.copy()?));
     }
@@ -413,7 +365,7 @@ fn learn<S: Store, R: Recorder>(
     push(
         trail,
         store,
-        assumptions,
+        question,
         lit,
         Reason::Implied(len(store) as u64),
     )?;
@@ -422,22 +374,20 @@ fn learn<S: Store, R: Recorder>(
 
 // The clause of negated assumptions that shows that this assumption can't be true beside the others.
 fn refute<S: Store, R: Recorder>(
-    alloc: Global,
     trail: &mut Trail,
     store: &mut S,
-    assumptions: &[Lit],
-    cores: bool,
+    question: SearchQuestion<'_>,
     assumption: Lit,
     panel: &mut Panel,
     recorder: &mut R,
 ) -> Result<Clause, OutOfMemory>
-    requires running { IsRunning assumptions.now (S.held store.old) trail.old }
-    requires assumed { Contains assumptions.now assumption }
+    requires running { IsRunning question.assumptions.now (S.held store.old) trail.old }
+    requires assumed { Contains question.assumptions.now assumption }
     requires is_false { value_of trail.old.values assumption ≡ Some false }
     ensures keeps { Keeps (S.held store.old) (S.held store.new) }
-    ensures goes_on { IfOk result
-        (λ _. GoesOn assumptions.now (S.held store.old) (S.held store.new) (R.kept recorder.old) (R.kept recorder.new) trail.new) }
-    ensures core { IfOk result (λ c. IsCore cores (S.held store.new).clauses assumptions.now c) }
+    ensures goes_on { IfOk result (λ _. GoesOn question.entry.assumptions.now (S.held store.old) (S.held store.new)
+        (R.kept recorder.old) (R.kept recorder.new) trail.new) }
+    ensures core { IfOk result (λ c. IsCore question.entry.cores (S.held store.new).clauses question.entry.assumptions.now c) }
     ensures ready { panel.new.vars ≡ panel.old.vars }
     ensures rotated { panel.new.rotated ≡ panel.old.rotated }
 {
@@ -447,17 +397,8 @@ fn refute<S: Store, R: Recorder>(
         unreachable!()
     };
     trail.undo(place);
-    push(trail, store, assumptions, assumption, Reason::Assumed(0))?;
-    let core = take_core(
-        alloc,
-        trail,
-        store,
-        assumptions,
-        cores,
-        number,
-        panel,
-        recorder,
-    )?;
+    push(trail, store, question, assumption, Reason::Assumed(0))?;
+    let core = take_core(trail, store, question, number, panel, recorder)?;
     Ok(core)
 }
 
@@ -482,15 +423,15 @@ fn place_of(trail: &Trail, lit: Lit) -> usize
 fn push<S: Store>(
     trail: &mut Trail,
     store: &S,
-    assumptions: &[Lit],
+    question: SearchQuestion<'_>,
     lit: Lit,
     reason: Reason,
 ) -> Result<(), OutOfMemory>
-    requires running { IsRunning assumptions.now (S.held store.now) trail.old }
+    requires running { IsRunning question.assumptions.now (S.held store.now) trail.old }
     requires in_range { IsInRange trail.old.values lit }
     requires free { value_of trail.old.values lit ≡ None }
-    requires reason { IsReason (S.held store.now).clauses assumptions.now trail.old.values lit reason }
-    ensures running { OnOk result (IsRunning assumptions.now (S.held store.now) trail.new) }
+    requires reason { IsReason (S.held store.now).clauses question.assumptions.now trail.old.values lit reason }
+    ensures running { OnOk result (IsRunning question.entry.assumptions.now (S.held store.now) trail.new) }
     ensures entries { OnOk result (trail.new.entries ≡ trail.old.entries ++ (record { lit = lit; reason = reason }) ∷ []) }
     ensures rises { OnOk result (IsFurther trail.old trail.new) }
 {

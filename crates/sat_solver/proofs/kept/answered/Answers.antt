@@ -20,11 +20,11 @@ solve_on-requires-clause-can_solve g c =
 pub returns-clause-right : goal.returns-clause-right
 returns-clause-right g c =
     let answer : IsAnswer c.args.question.cores c.args.store.now.vars c.proposed.new.store.clauses c.solve_on.new.store.clauses c.args.question.assumptions.now c.in_ok-found.found =
-    subst (λ (n : ℕ). IsAnswer c.args.question.cores n c.proposed.new.store.clauses c.solve_on.new.store.clauses c.args.question.assumptions.now c.in_ok-found.found) c.proposed.ensures.vars c.in_ok-found.ensures.answer in
+    subst (λ (n : ℕ). IsAnswer c.args.question.cores n c.proposed.new.store.clauses c.solve_on.new.store.clauses c.args.question.assumptions.now c.in_ok-found.found) c.proposed.ensures.vars c.in_ok-found.ensures.found.answer in
     right_from_answer c.args.question.cores c.args.store.now.vars c.args.store.now.clauses c.proposed.new.store.clauses c.solve_on.new.store.clauses c.args.marks.now (g.R.Recorder.kept c.args.recorder.now) (g.R.Recorder.kept c.proposed.new.recorder) c.args.question.assumptions.now c.in_ok-found.found c.in_ok-told.ensures.grows answer
 
 pub returns-clause-grows : goal.returns-clause-grows
 returns-clause-grows g c =
     let later : Grows c.args.store.now.vars c.proposed.new.store.clauses (g.R.Recorder.kept c.proposed.new.recorder) c.solve_on.new.store.clauses (g.R.Recorder.kept c.solve_on.new.recorder) =
-    subst (λ (n : ℕ). Grows n c.proposed.new.store.clauses (g.R.Recorder.kept c.proposed.new.recorder) c.solve_on.new.store.clauses (g.R.Recorder.kept c.solve_on.new.recorder)) c.proposed.ensures.vars c.in_ok-found.ensures.grows in
+    subst (λ (n : ℕ). Grows n c.proposed.new.store.clauses (g.R.Recorder.kept c.proposed.new.recorder) c.solve_on.new.store.clauses (g.R.Recorder.kept c.solve_on.new.recorder)) c.proposed.ensures.vars c.in_ok-found.ensures.found.grows in
     grows_more c.args.store.now.vars c.args.store.now.clauses c.proposed.new.store.clauses c.solve_on.new.store.clauses (g.R.Recorder.kept c.args.recorder.now) (g.R.Recorder.kept c.proposed.new.recorder) (g.R.Recorder.kept c.solve_on.new.recorder) c.in_ok-told.ensures.grows later

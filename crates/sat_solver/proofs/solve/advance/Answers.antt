@@ -15,7 +15,7 @@ propagate-found-requires g c =
 
 pub take_step-requires-clause-running : goal.take_step-requires-clause-running
 take_step-requires-clause-running g c =
-    running_followed c.args.assumptions.now (g.S.Store.held c.args.store.now) (g.S.Store.held c.follow.new.store) c.args.trail.now c.propagate-found.new.trail c.requires.running
+    running_followed c.args.question.assumptions.now (g.S.Store.held c.args.store.now) (g.S.Store.held c.follow.new.store) c.args.trail.now c.propagate-found.new.trail c.requires.running
     (c.propagate-found.ensures.same ∙ c.in_ok-follow.ensures.trail) c.in_ok-follow.ensures.one c.follow.ensures.clauses c.follow.ensures.vars
 
 pub take_step-requires-clause-found : goal.take_step-requires-clause-found
@@ -29,13 +29,13 @@ returns-clause-keeps g c =
 
 pub returns-clause-goes_on : goal.returns-clause-goes_on
 returns-clause-goes_on g c =
-    goes_on_since c.args.assumptions.now (g.S.Store.held c.args.store.now) (g.S.Store.held c.follow.new.store) (g.S.Store.held c.take_step.new.store)
+    goes_on_since c.args.question.assumptions.now (g.S.Store.held c.args.store.now) (g.S.Store.held c.follow.new.store) (g.S.Store.held c.take_step.new.store)
     (g.R.Recorder.kept c.args.recorder.now) (g.R.Recorder.kept c.take_step.new.recorder) c.take_step.new.trail c.follow.ensures.clauses c.follow.ensures.vars c.in_ok-answer.ensures.goes_on
 
 pub returns-clause-advance : goal.returns-clause-advance
 returns-clause-advance g c =
-    advance_followed c.args.cores (g.S.Store.held c.take_step.new.store).clauses c.args.assumptions.now c.args.trail.now c.take_step.new.trail (length c.args.trail.now.entries) c.in_ok-answer.answer
-    (subst (λ (t : TrailValue). IsAdvance c.args.cores (g.S.Store.held c.take_step.new.store).clauses c.args.assumptions.now t c.take_step.new.trail c.in_ok-answer.answer) (c.propagate-found.ensures.same ∙ c.in_ok-follow.ensures.trail) c.in_ok-answer.ensures.advance)
+    advance_followed c.args.question.cores (g.S.Store.held c.take_step.new.store).clauses c.args.question.assumptions.now c.args.trail.now c.take_step.new.trail (length c.args.trail.now.entries) c.in_ok-answer.answer
+    (subst (λ (t : TrailValue). IsAdvance c.args.question.cores (g.S.Store.held c.take_step.new.store).clauses c.args.question.assumptions.now t c.take_step.new.trail c.in_ok-answer.answer) (c.propagate-found.ensures.same ∙ c.in_ok-follow.ensures.trail) c.in_ok-answer.ensures.advance)
 
 pub returns-in_err-answer-clause-keeps : goal.returns-in_err-answer-clause-keeps
 returns-in_err-answer-clause-keeps g c =

@@ -9,7 +9,7 @@ use Rattle.sat_solver.proofs.solve.push.Goals as goal
 
 pub returns-clause-running : goal.returns-clause-running
 returns-clause-running g c =
-    running_pushed c.args.assumptions.now (g.S.Store.held c.args.store.now) c.args.trail.now c.set.new.self (record { lit = c.args.lit; reason = c.args.reason }) c.set.result
+    running_pushed c.args.question.assumptions.now (g.S.Store.held c.args.store.now) c.args.trail.now c.set.new.self (record { lit = c.args.lit; reason = c.args.reason }) c.set.result
     c.requires.running c.requires.in_range c.requires.free c.requires.reason c.set.ensures.values c.set.ensures.entries c.set.ensures.followed
 
 pub returns-clause-rises : goal.returns-clause-rises

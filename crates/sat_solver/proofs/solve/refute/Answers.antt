@@ -25,14 +25,14 @@ unreachable-requires g c =
     let place = c.place_of-place.ensures.place in
     let same : place.0 ≡ e = same_Some _ _ (sym place.1 ∙ c.at-reason.ensures) in
     let is : e.lit ≡ opposite c.args.assumption = ap (λ (d : TrailEntry). d.lit) (sym same) ∙ (place.2 ∙ c.neg.ensures) in
-    only_implied (g.S.Store.held c.args.store.now).clauses c.args.assumptions.now n c.args.assumption e (below t.entries i) c.requires.running.apart c.requires.assumed is
+    only_implied (g.S.Store.held c.args.store.now).clauses c.args.question.assumptions.now n c.args.assumption e (below t.entries i) c.requires.running.apart c.requires.assumed is
     (fresh_at n t.entries i e c.at-reason.ensures c.requires.running.sound.lawful.fresh)
-    (justified_at (g.S.Store.held c.args.store.now).clauses c.args.assumptions.now n t.entries i e c.at-reason.ensures c.requires.running.sound.justified)
+    (justified_at (g.S.Store.held c.args.store.now).clauses c.args.question.assumptions.now n t.entries i e c.at-reason.ensures c.requires.running.sound.justified)
     c.in_default.not-Implied
 
 pub push-requires-clause-running : goal.push-requires-clause-running
 push-requires-clause-running g c =
-    running_undone c.args.assumptions.now (g.S.Store.held c.args.store.now) c.args.trail.now c.undo.new.self c.place_of-place.result c.requires.running
+    running_undone c.args.question.assumptions.now (g.S.Store.held c.args.store.now) c.args.trail.now c.undo.new.self c.place_of-place.result c.requires.running
     c.undo.ensures.same_vars c.undo.ensures.entries c.undo.ensures.values c.undo.ensures.followed c.undo.ensures.followed_within
 
 pub push-requires-clause-free : goal.push-requires-clause-free
@@ -60,10 +60,10 @@ take_core-requires-clause-is_false g c =
     let same : place.0 ≡ e = same_Some _ _ (sym place.1 ∙ c.at-reason.ensures) in
     let is : e.lit ≡ opposite p = ap (λ (d : TrailEntry). d.lit) (sym same) ∙ (place.2 ∙ c.neg.ensures) in
     let fresh = fresh_at n t.entries i e c.at-reason.ensures c.requires.running.sound.lawful.fresh in
-    let justified = justified_at cs c.args.assumptions.now n t.entries i e c.at-reason.ensures c.requires.running.sound.justified in
+    let justified = justified_at cs c.args.question.assumptions.now n t.entries i e c.at-reason.ensures c.requires.running.sound.justified in
     let unit : truth_at cs (assigned n (below t.entries i)) c.in-Implied.number ≡ Some (UnitClause (opposite p)) =
     subst (λ (l : Literal). truth_at cs (assigned n (below t.entries i)) c.in-Implied.number ≡ Some (UnitClause l)) is
-    (subst (IsReason cs c.args.assumptions.now (assigned n (below t.entries i)) e.lit) c.in-Implied.is justified.1) in
+    (subst (IsReason cs c.args.question.assumptions.now (assigned n (below t.entries i)) e.lit) c.in-Implied.is justified.1) in
     let inside = value_in_range t.values p _ c.requires.is_false in
     let free = free_before n p e (below t.entries i) is fresh in
     let places : length u.values ≡ n = sym c.in_ok-push.ensures.running.places ∙ c.requires.running.places in
@@ -89,18 +89,18 @@ returns-clause-core g c =
     let is : e.lit ≡ opposite p = ap (λ (x : TrailEntry). x.lit) (sym same) ∙ (place.2 ∙ c.neg.ensures) in
     let fresh = fresh_at n t.entries i e c.at-reason.ensures c.requires.running.sound.lawful.fresh in
     let free = free_before n p e (below t.entries i) is fresh in
-    let justified = justified_at cs c.args.assumptions.now n t.entries i e c.at-reason.ensures c.requires.running.sound.justified in
+    let justified = justified_at cs c.args.question.assumptions.now n t.entries i e c.at-reason.ensures c.requires.running.sound.justified in
     let places : length u.values ≡ n = sym c.in_ok-push.ensures.running.places ∙ c.requires.running.places in
     let turned : reverse u.entries ≡ d ∷ below t.entries i =
     ap reverse (c.in_ok-push.ensures.entries ∙ ap (λ ys. ys ++ d ∷ []) c.undo.ensures.entries) ∙ reverse_push (take i t.entries) d in
     let clause = c.in_ok-core.core in
     let lits : clause ≡ (analysed cs true (begun n cs c.in-Implied.number) (d ∷ below t.entries i)).lits =
-    c.in_ok-core.ensures.lits
+    c.in_ok-core.ensures.core.lits
     ∙ (ap (λ m. (analysed cs true (begun m cs c.in-Implied.number) (reverse u.entries)).lits) places
     ∙ ap (λ (ys : List TrailEntry). (analysed cs true (begun n cs c.in-Implied.number) ys).lits) turned) in
     record {
-      listed = c.in_ok-core.ensures.listed;
-      negated = subst (All (λ l. Contains c.args.assumptions.now (opposite l))) (sym lits)
-          (core_negated cs c.args.assumptions.now n p d (below t.entries i) c.in-Implied.number 0 c.requires.assumed refl fresh.0 (justified.0, (c.requires.assumed, All-nil (λ q. value_of (assigned n (below t.entries i)) q ≡ Some true))) free);
-      follows = c.in_ok-core.ensures.follows;
+      listed = c.in_ok-core.ensures.core.listed;
+      negated = subst (All (λ l. Contains c.args.question.assumptions.now (opposite l))) (sym lits)
+          (core_negated cs c.args.question.assumptions.now n p d (below t.entries i) c.in-Implied.number 0 c.requires.assumed refl fresh.0 (justified.0, (c.requires.assumed, All-nil (λ q. value_of (assigned n (below t.entries i)) q ≡ Some true))) free);
+      follows = c.in_ok-core.ensures.core.follows;
     }

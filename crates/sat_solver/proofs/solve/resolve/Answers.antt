@@ -9,6 +9,6 @@ returns-then-is_empty-clause-advance g c =
     let cs = (g.S.Store.held c.args.store.now).clauses in
     let empty : length c.lits.result.now ≡ 0 = eqb-true (length c.lits.result.now) 0 (sym c.is_empty.ensures ∙ c.if-is_empty.true) in
     let same : c.in_ok-from_lits.field-0 ≡ c.lits.result.now = c.in_ok-from_lits.ensures ∙ sym (nothing_in c.lits.result.now empty) in
-    empty_core cs c.args.assumptions.now c.in_ok-from_lits.field-0
+    empty_core cs c.args.question.assumptions.now c.in_ok-from_lits.field-0
     (subst (λ (x : List Literal). Contains cs x) (sym same) (listed_at cs (c.args.number - 1) c.lits.result.now c.lits.ensures))
     (ap length same ∙ empty)

@@ -15,7 +15,7 @@ search-init g c =
       ready = refl;
       restarts = omega arith;
       vars = refl;
-      running = running_first c.args.assumptions.now (g.S.Store.held c.args.store.now) c.args.trail.now c.requires.can_solve c.requires.idle;
+      running = running_first c.args.question.assumptions.now (g.S.Store.held c.args.store.now) c.args.trail.now c.requires.can_solve c.requires.idle;
       grows = search rules;
     }
 
@@ -26,8 +26,8 @@ search-smaller-then-len-limit g c =
     subst (λ r. left n (c.search.restarts - 1) c.undo.new.self.entries < left n r c.search.trail.entries) back
     (left_restarts n (c.search.restarts - 1) c.search.trail.entries c.undo.new.self.entries)
 
-pub returns-in-Some-clause-answer : goal.returns-in-Some-clause-answer
-returns-in-Some-clause-answer g c =
+pub returns-in-Some-clause-found : goal.returns-in-Some-clause-found
+returns-in-Some-clause-found g c =
     let vars = (g.S.Store.held c.args.store.now).vars in
     let cs = (g.S.Store.held c.search.store).clauses in
     let ds = (g.S.Store.held c.advance.new.store).clauses in
@@ -35,20 +35,14 @@ returns-in-Some-clause-answer g c =
     let k1 = g.R.Recorder.kept c.search.recorder in
     let k2 = g.R.Recorder.kept c.advance.new.recorder in
     let grows = grows_more vars (g.S.Store.held c.args.store.now).clauses cs ds k0 k1 k2 c.search.invariant.grows (subst (λ m. Grows m cs k1 ds k2) c.search.invariant.vars c.in_ok-answer.ensures.goes_on.grows) in
-    answer_from c.args.cores vars (g.S.Store.held c.args.store.now).clauses ds c.args.assumptions.now c.search.trail c.advance.new.trail k0 k2 c.in-Some.verdict grows
-    (sym c.search.invariant.running.places ∙ ap (λ n. n + 1) c.search.invariant.vars)
-    (subst (IsAdvance c.args.cores ds c.args.assumptions.now c.search.trail c.advance.new.trail) c.in-Some.is c.in_ok-answer.ensures.advance)
-
-pub returns-in-Some-clause-grows : goal.returns-in-Some-clause-grows
-returns-in-Some-clause-grows g c =
-    let vars = (g.S.Store.held c.args.store.now).vars in
-    let cs = (g.S.Store.held c.search.store).clauses in
-    let ds = (g.S.Store.held c.advance.new.store).clauses in
-    let k0 = g.R.Recorder.kept c.args.recorder.now in
-    let k1 = g.R.Recorder.kept c.search.recorder in
-    let k2 = g.R.Recorder.kept c.advance.new.recorder in
-    let grows = grows_more vars (g.S.Store.held c.args.store.now).clauses cs ds k0 k1 k2 c.search.invariant.grows (subst (λ m. Grows m cs k1 ds k2) c.search.invariant.vars c.in_ok-answer.ensures.goes_on.grows) in
-    grows
+    record {
+      answer = answer_from c.args.question.cores vars (g.S.Store.held c.args.store.now).clauses ds c.args.question.assumptions.now c.search.trail c.advance.new.trail k0 k2 c.in-Some.verdict grows
+          (sym c.search.invariant.running.places ∙ ap (λ n. n + 1) c.search.invariant.vars)
+          (subst (IsAdvance c.args.question.cores ds c.args.question.assumptions.now c.search.trail c.advance.new.trail) c.in-Some.is c.in_ok-answer.ensures.advance);
+      grows = grows;
+      idle = idle_undone vars c.advance.new.trail c.undo-in-Some.new.self
+          (sym c.in_ok-answer.ensures.goes_on.running.places ∙ ap (λ n. n + 1) (c.advance.ensures.keeps.vars ∙ c.search.invariant.vars)) c.undo-in-Some.ensures.values c.undo-in-Some.ensures.entries c.undo-in-Some.ensures.followed_within;
+    }
 
 pub returns-in-Some-clause-vars : goal.returns-in-Some-clause-vars
 returns-in-Some-clause-vars g c = c.advance.ensures.keeps.vars ∙ c.search.invariant.vars
@@ -56,7 +50,7 @@ returns-in-Some-clause-vars g c = c.advance.ensures.keeps.vars ∙ c.search.inva
 pub search-smaller : goal.search-smaller
 search-smaller g c =
     let further : IsFurther c.search.trail c.advance.new.trail =
-    subst (IsAdvance c.args.cores (g.S.Store.held c.advance.new.store).clauses c.args.assumptions.now c.search.trail c.advance.new.trail) c.in-None.is c.in_ok-answer.ensures.advance in
+    subst (IsAdvance c.args.question.cores (g.S.Store.held c.advance.new.store).clauses c.args.question.assumptions.now c.search.trail c.advance.new.trail) c.in-None.is c.in_ok-answer.ensures.advance in
     left_falls ((g.S.Store.held c.args.store.now).vars + 1) c.search.restarts c.search.trail.entries c.advance.new.trail.entries
     (subst (λ m. score m c.search.trail.entries + 1 ≤ score m c.advance.new.trail.entries) (sym c.search.invariant.running.places ∙ ap (λ n. n + 1) c.search.invariant.vars) further)
 
@@ -87,8 +81,3 @@ returns-in_err-answer-clause-err g c =
 
 pub undo-requires-in-Some-clause-lawful : goal.undo-requires-in-Some-clause-lawful
 undo-requires-in-Some-clause-lawful g c = c.in_ok-answer.ensures.goes_on.running.sound.lawful
-
-pub returns-in-Some-clause-idle : goal.returns-in-Some-clause-idle
-returns-in-Some-clause-idle g c =
-    idle_undone (g.S.Store.held c.args.store.now).vars c.advance.new.trail c.undo-in-Some.new.self
-    (sym c.in_ok-answer.ensures.goes_on.running.places ∙ ap (λ n. n + 1) (c.advance.ensures.keeps.vars ∙ c.search.invariant.vars)) c.undo-in-Some.ensures.values c.undo-in-Some.ensures.entries c.undo-in-Some.ensures.followed_within

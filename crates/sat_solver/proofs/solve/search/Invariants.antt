@@ -10,7 +10,7 @@ invariant-search g l = record {
   ready : l.panel.vars ≡ l.initial.panel.vars;
   restarts : l.panel.rotated + l.restarts ≤ l.initial.panel.rotated + 64;
   vars : (g.S.Store.held l.store).vars ≡ (g.S.Store.held l.initial.store).vars;
-  running : IsRunning l.assumptions (g.S.Store.held l.store) l.trail;
+  running : IsRunning l.question.assumptions.now (g.S.Store.held l.store) l.trail;
   grows : Grows (g.S.Store.held l.initial.store).vars (g.S.Store.held l.initial.store).clauses (g.R.Recorder.kept l.initial.recorder) (g.S.Store.held l.store).clauses (g.R.Recorder.kept l.recorder);
 }
 
