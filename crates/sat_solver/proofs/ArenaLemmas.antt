@@ -1,19 +1,22 @@
 -- An arena in which a literal was just made true.
-use Rattle.std.proofs.Common.{zero, suc, ◌≡◌, ◌≢◌, ◌⊎◌, inl, inr, ⊎_elim, ℕ, ◌+◌, ◌-◌, ◌<◌, ◌≤◌, true, List, [], ◌∷◌, ◌++◌, length, get_or, take, Contains, Some, refl, sym, ap, ◌∙◌, subst, arith}
+use Rattle.std.proofs.Common.{zero, suc, ◌≡◌, ◌≢◌, ◌⊎◌, inl, inr, ⊎_elim, ℕ, ◌+◌, ◌-◌, ◌<◌, ◌≤◌, true, List, [], ◌∷◌, ◌++◌, length, get_or, take, Contains, None, Some, refl, sym, ap, ◌∙◌, subst, arith}
 use Rattle.std.specs.Prelude.{slice_get}
 use Rattle.std.proofs.lemmas.Bool.{cases_eq, cases_lt}
 use Rattle.std.proofs.lemmas.Option.{get_or_from_slice_get, slice_get_within}
+use Rattle.std.proofs.lemmas.List.{length-replicate}
 use Rattle.std.proofs.lemmas.List.Elements.{All-contains}
 use Rattle.sat_clauses.specs.Literal.{Literal, opposite}
 use Rattle.sat_clauses.specs.Code.{code_of}
-use Rattle.sat_clauses.specs.Assignment.{Assignment}
+use Rattle.sat_clauses.specs.Assignment.{Assignment, all_free}
+use Rattle.sat_clauses.specs.Models.{ClausesBelow}
 use Rattle.sat_clauses.specs.Truth.{truth_of}
 use Rattle.sat_clauses.specs.Store.{IsDue, AreExactlyDue, IsFalseOrUnit}
 use Rattle.sat_clauses.specs.Trail.{assigned_by, IsTrail}
+use Rattle.sat_clauses.proofs.TrailLemmas.{length-assigned_from}
 use Rattle.sat_clauses.proofs.StoreLemmas.{IsFalseOrUnit-from, is_false_or_unit-from}
 use Rattle.sat_solver.specs.Threads.{at}
 use Rattle.sat_solver.specs.Watch.{IsWatched}
-use Rattle.sat_solver.specs.Pass.{clause_of, is_hit, CanVisit, IsHitAt, IsPassed}
+use Rattle.sat_solver.specs.Pass.{clause_of, is_hit, CanVisit, CanPass, IsHitAt, IsPassed}
 use Rattle.sat_solver.specs.Arena.{AreWatched}
 use Rattle.sat_solver.proofs.WatchLemmas.{swap_watched, can_visit, still_watched, untouched, watched_if_hit, watched_undone}
 
@@ -42,14 +45,30 @@ tables_undone vars t keep cs fs ss w = record {
 }
 
 -- what is filed under a literal is a clause, and can be visited
-pub filed_known : (vars : ℕ) (t : List Literal) (l : Literal) (cs : List (List Literal)) (fs ss : List ℕ) → 2 ≤ code_of l → AreWatched vars t cs fs ss → (i : ℕ) → at fs i ≡ code_of l → i < length cs
+filed_known : (vars : ℕ) (t : List Literal) (l : Literal) (cs : List (List Literal)) (fs ss : List ℕ) → 2 ≤ code_of l → AreWatched vars t cs fs ss → (i : ℕ) → at fs i ≡ code_of l → i < length cs
 filed_known vars t l cs fs ss real w i is = ⊎_elim (λ lt. lt) (λ le. let z = w.unused_first i le in absurd (omega arith)) (cases_lt i (length cs))
 
-pub filed_visit : (vars : ℕ) (t : List Literal) (l : Literal) (cs : List (List Literal)) (fs ss : List ℕ) → IsTrail vars (t ++ l ∷ []) → 2 ≤ code_of (opposite l) → AreWatched vars t cs fs ss
+filed_visit : (vars : ℕ) (t : List Literal) (l : Literal) (cs : List (List Literal)) (fs ss : List ℕ) → IsTrail vars (t ++ l ∷ []) → 2 ≤ code_of (opposite l) → AreWatched vars t cs fs ss
     → (i : ℕ) → at fs i ≡ code_of (opposite l) → CanVisit (assigned_by vars (t ++ l ∷ [])) (clause_of cs i) (opposite l) (at ss i)
 filed_visit vars t l cs fs ss trail real w i is =
     can_visit vars t l (clause_of cs i) (at ss i) trail real (w.no_spare_second i)
     (subst (λ x. IsWatched vars t (clause_of cs i) x (at ss i)) is (w.watched i (filed_known vars t (opposite l) cs fs ss real w i is)))
+
+length_assigned : (vars : ℕ) (ls : List Literal) → length (assigned_by vars ls) ≡ vars + 1
+length_assigned vars ls = length-assigned_from (all_free vars) ls ∙ length-replicate (vars + 1) None
+
+pub can_pass_first : (vars : ℕ) (t : List Literal) (l : Literal) (cs : List (List Literal)) (fs ss : List ℕ) → IsTrail vars (t ++ l ∷ []) → 2 ≤ code_of (opposite l) → l.var ≤ vars → ClausesBelow (vars + 1) cs → length cs ≤ length ss → AreWatched vars t cs fs ss
+    → CanPass (assigned_by vars (t ++ l ∷ [])) (opposite l) cs fs ss []
+can_pass_first vars t l cs fs ss trail real literal in_range places w = record {
+  in_range = subst (λ (n : ℕ). ClausesBelow n cs) (sym (length_assigned vars (t ++ l ∷ []))) in_range;
+  literal = omega (arith, literal, length_assigned vars (t ++ l ∷ []));
+  known = filed_known vars t (opposite l) cs fs ss real w;
+  other_places = places;
+  no_spare = w.no_spare_first;
+  visit = filed_visit vars t l cs fs ss trail real w;
+  once = λ i j d lt within. absurd (omega arith);
+  not_yet = λ i is none. let z = none.1 in absurd (omega arith);
+}
 
 -- a clause is filed under the literal in one table at most
 pub filed_once : (vars : ℕ) (t : List Literal) (l : Literal) (cs : List (List Literal)) (fs ss : List ℕ) → 2 ≤ code_of l → AreWatched vars t cs fs ss → (i : ℕ) → at fs i ≡ code_of l → at ss i ≢ code_of l
@@ -58,13 +77,13 @@ filed_once vars t l cs fs ss real w i is e =
 
 module _ (vars : ℕ) (t : List Literal) (l : Literal) (cs : List (List Literal)) (fs ss fs' found : List ℕ) (trail : IsTrail vars (t ++ l ∷ [])) (real : 2 ≤ code_of (opposite l)) (w : AreWatched vars t cs fs ss)
     (first : IsPassed (assigned_by vars (t ++ l ∷ [])) (opposite l) cs ss fs fs' [] found) where
-  pub visit_second : (i : ℕ) → at ss i ≡ code_of (opposite l) → CanVisit (assigned_by vars (t ++ l ∷ [])) (clause_of cs i) (opposite l) (at fs' i)
+  visit_second : (i : ℕ) → at ss i ≡ code_of (opposite l) → CanVisit (assigned_by vars (t ++ l ∷ [])) (clause_of cs i) (opposite l) (at fs' i)
   visit_second i is =
       let ne : at fs i ≢ code_of (opposite l) = λ e. filed_once vars t (opposite l) cs fs ss real w i e is in
       subst (λ x. CanVisit (assigned_by vars (t ++ l ∷ [])) (clause_of cs i) (opposite l) x) (sym (first.rest i ne))
       (filed_visit vars t l cs ss fs trail real (swap_tables vars t cs fs ss w) i is)
 
-  pub not_yet_second : (i : ℕ) → at ss i ≡ code_of (opposite l) → ¬ (Contains found (i + 1))
+  not_yet_second : (i : ℕ) → at ss i ≡ code_of (opposite l) → ¬ (Contains found (i + 1))
   not_yet_second i is has = ⊎_elim
       (λ (none : Contains [] (i + 1)). let z = none.1 in absurd (omega arith))
       (λ (h : (j : ℕ) × IsHitAt (assigned_by vars (t ++ l ∷ [])) (opposite l) cs fs (i + 1) j).
@@ -72,6 +91,18 @@ module _ (vars : ℕ) (t : List Literal) (l : Literal) (cs : List (List Literal)
       let same : h.0 ≡ i = omega arith in
       filed_once vars t (opposite l) cs fs ss real w i (ap (at fs) (sym same) ∙ h.1.watched) is)
       (All-contains (λ (n : ℕ). Contains [] n ⊎ ((j : ℕ) × IsHitAt (assigned_by vars (t ++ l ∷ [])) (opposite l) cs fs n j)) found (i + 1) first.hits has)
+
+  pub can_pass_second : l.var ≤ vars → ClausesBelow (vars + 1) cs → length cs ≤ length fs → CanPass (assigned_by vars (t ++ l ∷ [])) (opposite l) cs ss fs' found
+  can_pass_second literal in_range places = record {
+    in_range = subst (λ (n : ℕ). ClausesBelow n cs) (sym (length_assigned vars (t ++ l ∷ []))) in_range;
+    literal = omega (arith, literal, length_assigned vars (t ++ l ∷ []));
+    known = filed_known vars t (opposite l) cs ss fs real (swap_tables vars t cs fs ss w);
+    other_places = omega (arith, places, first.places);
+    no_spare = w.no_spare_second;
+    visit = visit_second;
+    once = first.once;
+    not_yet = not_yet_second;
+  }
 
   module _ (ss' found' : List ℕ) (second : IsPassed (assigned_by vars (t ++ l ∷ [])) (opposite l) cs fs' ss ss' found found') where
     unused_after : (os new : List ℕ) → 2 ≤ code_of (opposite l) → ((i : ℕ) → length cs ≤ i → at os i ≡ 0) → ((i : ℕ) → at os i ≢ code_of (opposite l) → at new i ≡ at os i) → (i : ℕ) → length cs ≤ i → at new i ≡ 0
@@ -158,7 +189,6 @@ pub same_passed : (a a' : Assignment) (l l' : Literal) (cs : List (List Literal)
 same_passed a a' l l' cs others old new before before' found e f g p =
     subst (λ x. IsPassed a' l' cs others old new x found) g (subst (λ x. IsPassed a' x cs others old new before found) f (subst (λ x. IsPassed x l cs others old new before found) e p))
 
-pub same_visits : (a a' : Assignment) (l l' : Literal) (cs : List (List Literal)) (fs ss : List ℕ) → a' ≡ a → l' ≡ l → ((i : ℕ) → at fs i ≡ code_of l → CanVisit a (clause_of cs i) l (at ss i)) → (i : ℕ) → at fs i ≡ code_of l' → CanVisit a' (clause_of cs i) l' (at ss i)
-same_visits a a' l l' cs fs ss e f v =
-    subst (λ (x : Literal). (i : ℕ) → at fs i ≡ code_of x → CanVisit a' (clause_of cs i) x (at ss i)) (sym f)
-    (subst (λ (x : Assignment). (i : ℕ) → at fs i ≡ code_of l → CanVisit x (clause_of cs i) l (at ss i)) (sym e) v)
+pub same_can_pass : (a a' : Assignment) (l l' : Literal) (cs : List (List Literal)) (homes others found found' : List ℕ) → a' ≡ a → l' ≡ l → found' ≡ found → CanPass a l cs homes others found → CanPass a' l' cs homes others found'
+same_can_pass a a' l l' cs homes others found found' e f g p =
+    subst (λ x. CanPass a' l' cs homes others x) (sym g) (subst (λ x. CanPass a' x cs homes others found) (sym f) (subst (λ x. CanPass x l cs homes others found) (sym e) p))

@@ -54,8 +54,8 @@ IsAnswer cores vars added all assumptions (Sat a) = IsSolution vars added assump
 IsAnswer cores vars added all assumptions (Unsat c) = IsRefuted cores added all assumptions c
 
 -- a question was answered: the clauses have grown by steps that were kept, and the trail has no literal
-pub record IsFound (cores : Bool) (assumptions : List Literal) (vars : ℕ) (old new : List (List Literal)) (kept_old kept_new : Option (List Step))
-    (t : TrailValue) (verdict : Verdict) : Type 0 where
+pub record IsFound (cores : Bool) (assumptions : List Literal) (vars : ℕ) (old new : List (List Literal))
+    (kept_old kept_new : Option (List Step)) (t : TrailValue) (verdict : Verdict) : Type 0 where
   pub answer : IsAnswer cores vars old new assumptions verdict
   pub grows : Grows vars old kept_old new kept_new
   pub idle : IsIdle vars t

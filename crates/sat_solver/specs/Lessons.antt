@@ -14,7 +14,7 @@ pub record IsAnalysedCore (cores : Bool) (old new : List (List Literal)) (number
   pub follows : FollowsFrom new c
 
 -- the adviser at a place, and no other, has heard a clause, and its count of these has risen
-pub record HasHeard (place : ℕ) (heard_old heard_new : List (Option (List Literal))) (told_old told_new : List ℕ) (c : List Literal) : Type 0
-  where
-    pub heard : heard_new ≡ heard_at heard_old place c
-    pub told : told_new ≡ risen_at told_old place
+pub record HasHeard (place : ℕ) (heard_old heard_new : List (Option (List Literal))) (told_old told_new : List ℕ)
+    (c : List Literal) : Type 0 where
+  pub heard : heard_new ≡ heard_at heard_old place c
+  pub told : told_new ≡ risen_at told_old place

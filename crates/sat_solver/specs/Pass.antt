@@ -1,9 +1,9 @@
 -- What becomes of the clauses that watch a literal which was just made false.
-use Rattle.std.specs.Prelude.{◌≡◌, ◌≢◌, ◌⊎◌, ℕ, ◌+◌, ◌≤◌, Bool, true, false, not, ◌==◌, ◌&&◌, List, [], All, AllPairs, Contains, Some}
+use Rattle.std.specs.Prelude.{◌≡◌, ◌≢◌, ◌⊎◌, ℕ, ◌+◌, ◌<◌, ◌≤◌, Bool, true, false, not, ◌==◌, ◌&&◌, List, [], All, AllPairs, Contains, Some}
 use Rattle.std.specs.Prelude.{unwrap_or, length, slice_index_or}
 use Rattle.sat_clauses.specs.Literal.{Literal}
 use Rattle.sat_clauses.specs.Code.{code_of}
-use Rattle.sat_clauses.specs.Assignment.{Assignment, value_of}
+use Rattle.sat_clauses.specs.Assignment.{Assignment, IsInRange, value_of}
 use Rattle.sat_clauses.specs.Truth.{truth_of}
 use Rattle.sat_clauses.specs.Store.{is_false_or_unit}
 use Rattle.sat_solver.specs.Threads.{at}
@@ -30,6 +30,17 @@ pub record CanVisit (a : Assignment) (c : List Literal) (l : Literal) (other : �
   pub has : other ≢ 0 → HasCode c other
   pub alone : other ≡ 0 → All (λ m. code_of m ≡ code_of l) c
   pub ready : (m : Literal) → Contains c m → code_of m ≡ other → value_of a m ≡ Some false → HasTrue a c ⊎ OthersFalse a c (code_of l) other
+
+-- the clauses of a literal that is false can be visited, and none of them was found
+pub record CanPass (a : Assignment) (l : Literal) (clauses : List (List Literal)) (homes others found : List ℕ) : Type 0 where
+  pub in_range : All (All (IsInRange a)) clauses
+  pub literal : IsInRange a l
+  pub known : (i : ℕ) → at homes i ≡ code_of l → i < length clauses
+  pub other_places : length clauses ≤ length others
+  pub no_spare : (i : ℕ) → at homes i ≢ 1
+  pub visit : (i : ℕ) → at homes i ≡ code_of l → CanVisit a (clause_of clauses i) l (at others i)
+  pub once : AllPairs (λ x y. x ≢ y) found
+  pub not_yet : (i : ℕ) → at homes i ≡ code_of l → ¬ (Contains found (i + 1))
 
 -- no other literal can be watched, or none has to
 abbrev pub IsKept : Assignment → List Literal → ℕ → Type 0

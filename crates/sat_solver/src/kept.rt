@@ -11,14 +11,15 @@ ghost use Rattle.sat_solver.specs.declared.solve.Verdict.TheVariants.{Unsat};
 ghost use Rattle.sat_clauses.specs.Models.{FollowsFrom};
 ghost use Rattle.sat_clauses.specs.Derivation.{IsUpTo};
 ghost use Rattle.sat_clauses.specs.Hints.{HasNoOpposites};
+ghost use Rattle.sat_solver.specs.KeptRecord.{CanAssume};
 ghost use Rattle.sat_solver.specs.LearnedClauses.{added_of, HasLearned, IsAnswer};
-ghost use Rattle.sat_solver.specs.Search.{CanSolve, Grows};
+ghost use Rattle.sat_solver.specs.Search.{CanSolve};
 ghost use Rattle.sat_solver.specs.Trail.{IsIdle};
-ghost use Rattle.sat_solver.specs.Proposals.{IsRight};
+ghost use Rattle.sat_solver.specs.Proposals.{IsAnswered};
 
 use crate::alive::still_alive;
 use crate::arena::Arena;
-use crate::proposed::{proposed, refuted};
+use crate::proposed::{Proposer, proposed, refuted};
 use crate::question::SearchQuestion;
 use crate::solve::{Verdict, solve_on};
 use crate::trail::Trail;
@@ -204,17 +205,14 @@ impl Kept {
     /// assumptions is kept with the others where `cores` holds.
     fn ask<R: Recorder>(
         &mut self,
-        alloc: Global,
-        assumptions: &[Lit],
-        cores: bool,
+        question: SearchQuestion<'_>,
         panel: &mut Panel,
         recorder: &mut R,
     ) -> Result<Verdict, OutOfMemory>
-        requires in_range { All (IsUpTo self.old.vars) assumptions.now }
-        requires apart { HasNoOpposites assumptions.now }
+        requires can_assume { CanAssume self.old.vars question.assumptions.now }
         ensures answer { IfOk result
-            (λ verdict. IsAnswer cores self.old.vars (added_of self.old.clauses self.old.marks) self.new.clauses assumptions.now
-            verdict) }
+            (IsAnswer question.entry.cores self.old.vars (added_of self.old.clauses self.old.marks) self.new.clauses
+            question.entry.assumptions.now) }
         ensures learned { IfOk result (λ _. HasLearned self.old.vars self.old.clauses self.old.marks
             (R.kept recorder.old) self.new.clauses self.new.marks (R.kept recorder.new)) }
         ensures vars { IfOk result (λ _. self.new.vars ≡ self.old.vars) }
@@ -228,16 +226,14 @@ impl Kept {
         }
         self.failed = true;
         self.questions = self.questions.saturating_add(1);
-        let question = SearchQuestion {
-            alloc,
-            assumptions,
-            cores,
+        let proposer = Proposer {
+            kernel: &mut self.kernel,
+            marks: &self.marks,
         };
         let verdict = answered(
-            &mut self.kernel,
+            proposer,
             &mut self.trail,
             &mut self.store,
-            &self.marks,
             question,
             panel,
             recorder,
@@ -252,17 +248,14 @@ impl Kept {
     /// is kept with the others where `cores` holds.
     fn refute<R: Recorder>(
         &mut self,
-        alloc: Global,
-        assumptions: &[Lit],
-        cores: bool,
+        question: SearchQuestion<'_>,
         panel: &mut Panel,
         recorder: &mut R,
     ) -> Result<Option<Clause>, OutOfMemory>
-        requires in_range { All (IsUpTo self.old.vars) assumptions.now }
-        requires apart { HasNoOpposites assumptions.now }
+        requires can_assume { CanAssume self.old.vars question.assumptions.now }
         ensures answer { IfOk result
-            (λ r. IfSome r (λ core. IsAnswer cores self.old.vars (added_of self.old.clauses self.old.marks) self.new.clauses
-            assumptions.now (Unsat core))) }
+            (λ r. IfSome r (λ core. IsAnswer question.entry.cores self.old.vars (added_of self.old.clauses self.old.marks)
+            self.new.clauses question.entry.assumptions.now (Unsat core))) }
         ensures learned { IfOk result (λ _. HasLearned self.old.vars self.old.clauses self.old.marks
             (R.kept recorder.old) self.new.clauses self.new.marks (R.kept recorder.new)) }
         ensures vars { IfOk result (λ _. self.new.vars ≡ self.old.vars) }
@@ -276,11 +269,6 @@ impl Kept {
         }
         self.failed = true;
         self.questions = self.questions.saturating_add(1);
-        let question = SearchQuestion {
-            alloc,
-            assumptions,
-            cores,
-        };
         let told = refuted(&mut self.kernel, &mut self.store, question, panel, recorder)?;
         let learned = mark(&mut self.marks, self.store.count() as usize)?;
         self.learned = self.learned.saturating_add(learned);
@@ -301,10 +289,9 @@ fn core_of(told: Option<Verdict>) -> Option<Clause>
 
 // The answer that the kernel proposes, where it is right, and else that of the search.
 fn answered<R: Recorder>(
-    kernel: &mut Option<Kernel>,
+    proposer: Proposer<'_, '_>,
     trail: &mut Trail,
     store: &mut Arena,
-    marks: &[bool],
     question: SearchQuestion<'_>,
     panel: &mut Panel,
     recorder: &mut R,
@@ -312,16 +299,12 @@ fn answered<R: Recorder>(
     requires can_solve { CanSolve store.old.vars store.old.clauses question.assumptions.now }
     requires empty { store.old.trail ≡ [] }
     requires idle { IsIdle store.old.vars trail.old }
-    ensures right { IfOk result (IsRight question.entry.cores store.old.vars (added_of store.old.clauses marks.now)
-        store.old.clauses store.new.clauses question.entry.assumptions.now) }
-    ensures grows { OnOk result (Grows store.old.vars store.old.clauses (R.kept recorder.old) store.new.clauses (R.kept recorder.new)) }
-    ensures vars { IfOk result (λ _. store.new.vars ≡ store.old.vars) }
-    ensures trail { IfOk result (λ _. store.new.trail ≡ []) }
-    ensures idle { IfOk result (λ _. IsIdle store.old.vars trail.new) }
+    ensures answered { IfOk result (IsAnswered question.entry.cores question.entry.assumptions.now
+        (added_of store.old.clauses proposer.entry.marks.now) store.old store.new (R.kept recorder.old) (R.kept recorder.new) trail.new) }
     ensures ready { panel.new.vars ≡ panel.old.vars }
     ensures restarts { panel.new.rotated ≤ panel.old.rotated + 64 }
 {
-    let told = proposed(kernel, store, marks, question, panel, recorder)?;
+    let told = proposed(proposer, store, question, panel, recorder)?;
     if let Some(verdict) = told {
         return Ok(verdict);
     }
@@ -489,13 +472,12 @@ impl<R: Recorder + Drop> Search<R> {
         ensures failed { self.old.kept.failed ≡ true → IsErr result }
         ensures fails { OnErr result (self.new.kept.failed ≡ true) }
     {
-        self.kept.ask(
-            self.alloc,
+        let question = SearchQuestion {
+            alloc: self.alloc,
             assumptions,
-            self.cores,
-            panel,
-            &mut self.recorder,
-        )
+            cores: self.cores,
+        };
+        self.kept.ask(question, panel, &mut self.recorder)
     }
 }
 
@@ -520,13 +502,12 @@ impl<R: Recorder + Drop> Search<R> {
         ensures failed { self.old.kept.failed ≡ true → IsErr result }
         ensures fails { OnErr result (self.new.kept.failed ≡ true) }
     {
-        self.kept.refute(
-            self.alloc,
+        let question = SearchQuestion {
+            alloc: self.alloc,
             assumptions,
-            self.cores,
-            panel,
-            &mut self.recorder,
-        )
+            cores: self.cores,
+        };
+        self.kept.refute(question, panel, &mut self.recorder)
     }
 }
 

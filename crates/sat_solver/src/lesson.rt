@@ -1,4 +1,5 @@
-//! What the search makes of a lesson, the clause that a false clause teaches: it is kept with its hints, and the present adviser hears it once.
+//! What the search makes of a lesson, the clause that a false clause teaches: it is kept with its hints, and the present
+//! adviser hears it once.
 //!
 //! [`keep_lesson`] keeps it, and [`take_core`] finds the clause of assumptions that refutes one of them.
 ghost use Rattle.std.specs.Prelude.{◌≡◌, [], ◌∷◌, ◌++◌, map, IfOk, OnOk, Some};

@@ -3,12 +3,12 @@
 //! [`pass`] is the main function. It takes the clauses one by one out of the list of the literal and files them
 //! anew: where another literal can be watched under that one, and else in a list of those that were visited,
 //! from which they come back at the end.
-ghost use Rattle.std.specs.Prelude.{◌≡◌, ◌≢◌, ◌↔◌, IsTrue, ℕ, ◌+◌, ◌*◌, ◌<◌, ◌≤◌, [], ◌∷◌, ◌++◌, true, Some, All, AllPairs, Contains};
+ghost use Rattle.std.specs.Prelude.{◌≡◌, ◌≢◌, ◌↔◌, IsTrue, ℕ, ◌+◌, ◌*◌, ◌<◌, ◌≤◌, [], ◌∷◌, ◌++◌, true, Some, All};
 ghost use Rattle.std.specs.Prelude.{length, find, vec_len, vec_capacity, if◌then◌else◌};
-ghost use Rattle.sat_clauses.specs.Code.{code_of, literal_of};
+ghost use Rattle.sat_clauses.specs.Code.{literal_of};
 ghost use Rattle.sat_clauses.specs.Assignment.{IsInRange, value_of};
 ghost use Rattle.sat_solver.specs.Threads.{at};
-ghost use Rattle.sat_solver.specs.Pass.{clause_of, is_hit, may_watch, CanVisit, IsNewList, IsPassed};
+ghost use Rattle.sat_solver.specs.Pass.{is_hit, may_watch, CanVisit, CanPass, IsNewList, IsPassed};
 
 use crate::threads::Threads;
 use sat_clauses::assign::Assign;
@@ -91,17 +91,9 @@ pub fn pass(
     lit: Lit,
     found: &mut Vec<u64>,
 ) -> u64
-    requires in_range { All (All (IsInRange assign.now)) clauses.now.clauses }
-    requires literal { IsInRange assign.now lit }
     requires lists { 2 * length assign.now ≤ mine.old.lists }
-    requires known { (i : ℕ) → at mine.old.homes i ≡ code_of lit → i < length clauses.now.clauses }
-    requires other_places { length clauses.now.clauses ≤ length other.now.homes }
-    requires no_spare { (i : ℕ) → at mine.old.homes i ≢ 1 }
-    requires visit { (i : ℕ) → at mine.old.homes i ≡ code_of lit →
-        CanVisit assign.now (clause_of clauses.now.clauses i) lit (at other.now.homes i) }
+    requires can_pass { CanPass assign.now lit clauses.now.clauses mine.old.homes other.now.homes found.old.items }
     requires room { vec_len found.old + length mine.old.homes ≤ vec_capacity found.old }
-    requires once { AllPairs (λ x y. x ≢ y) found.old.items }
-    requires not_yet { (i : ℕ) → at mine.old.homes i ≡ code_of lit → ¬ (Contains found.old.items (i + 1)) }
     ensures lists { mine.new.lists ≡ mine.old.lists }
     ensures passed { IsPassed assign.now lit clauses.now.clauses other.now.homes mine.old.homes mine.new.homes found.old.items
         found.new.items }

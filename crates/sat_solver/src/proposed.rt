@@ -4,13 +4,12 @@
 //! [`crate::solve`] gives it.
 ghost use Rattle.std.specs.Prelude.{◌≡◌, ◌^◌, ◌<◌, ◌≤◌, ◌+◌, List, All, Any, Contains, IsTrue, IfOk, IfSome, Some, true, false, [], length};
 ghost use Rattle.std.specs.Prelude.{slice_index_or, OnOk};
-ghost use Rattle.sat_clauses.specs.Models.{FollowsFrom};
 ghost use Rattle.sat_clauses.specs.Literal.{Literal, opposite};
 ghost use Rattle.sat_clauses.specs.Assignment.{IsInRange, all_free, value_of};
 ghost use Rattle.sat_clauses.specs.Derivation.{IsUpTo};
-ghost use Rattle.sat_solver.specs.Search.{IsStep, IsSolution, Grows};
+ghost use Rattle.sat_solver.specs.Search.{CanSolve, IsStep, IsSolution, Grows};
 ghost use Rattle.sat_solver.specs.LearnedClauses.{added_of};
-ghost use Rattle.sat_solver.specs.Proposals.{HasTrue, IsRight};
+ghost use Rattle.sat_solver.specs.Proposals.{HasTrue, IsRight, IsShown};
 
 use crate::arena::Arena;
 use crate::question::SearchQuestion;
@@ -58,8 +57,7 @@ fn keep_step<R: Recorder>(
     ensures vars { store.new.vars ≡ store.old.vars }
     ensures trail { store.new.trail ≡ store.old.trail }
     ensures grows { OnOk result (Grows store.old.vars store.old.clauses (R.kept recorder.old) store.new.clauses (R.kept recorder.new)) }
-    ensures listed { IfOk result (λ is_kept. IsTrue is_kept → Contains store.new.clauses step.now.clause) }
-    ensures follows { IfOk result (λ is_kept. IsTrue is_kept → FollowsFrom store.old.clauses step.now.clause) }
+    ensures shown { IfOk result (λ is_kept. IsTrue is_kept → IsShown true store.old.clauses store.new.clauses step.now.clause) }
 {
     if !is_step(judge, store.stored(), step, store.vars()) {
         return Ok(false);
@@ -225,8 +223,7 @@ fn refutes<R: Recorder>(
     ensures vars { store.new.vars ≡ store.old.vars }
     ensures trail { store.new.trail ≡ store.old.trail }
     ensures grows { OnOk result (Grows store.old.vars store.old.clauses (R.kept recorder.old) store.new.clauses (R.kept recorder.new)) }
-    ensures listed { IfOk result (λ is_right. IsTrue is_right → cores ≡ true → Contains store.new.clauses step.now.clause) }
-    ensures follows { IfOk result (λ is_right. IsTrue is_right → FollowsFrom store.old.clauses step.now.clause) }
+    ensures shown { IfOk result (λ is_right. IsTrue is_right → IsShown cores store.old.clauses store.new.clauses step.now.clause) }
 {
     let mut judge = CheckerTrail::with_vars(alloc, store.vars())?;
     if cores {
@@ -261,26 +258,33 @@ fn core<R: Recorder>(
     Ok(Some(Verdict::Unsat(step.clause)))
 }
 
+/// What proposes answers, and which clauses were learned: an assignment is to make the others true.
+pub(crate) struct Proposer<'k, 'm> {
+    pub kernel: &'k mut Option<Kernel>,
+    pub marks: &'m [bool],
+}
+
 /// The answer that a kernel proposes, where it is right. A kernel that learned what does not follow is asked no more.
 pub(crate) fn proposed<R: Recorder>(
-    asked: &mut Option<Kernel>,
+    proposer: Proposer<'_, '_>,
     store: &mut Arena,
-    marks: &[bool],
     question: SearchQuestion<'_>,
     panel: &mut Panel,
     recorder: &mut R,
 ) -> Result<Option<Verdict>, OutOfMemory>
-    requires small { store.old.vars < 2 ^ 62 }
-    requires in_range { All (All (IsUpTo store.old.vars)) store.old.clauses }
-    requires asked { All (IsUpTo store.old.vars) question.assumptions.now }
+    requires can_solve { CanSolve store.old.vars store.old.clauses question.assumptions.now }
     ensures vars { store.new.vars ≡ store.old.vars }
     ensures trail { store.new.trail ≡ store.old.trail }
     ensures grows { OnOk result (Grows store.old.vars store.old.clauses (R.kept recorder.old) store.new.clauses (R.kept recorder.new)) }
-    ensures right { IfOk result (λ r. IfSome r (IsRight question.entry.cores store.old.vars (added_of store.old.clauses marks.now)
-        store.old.clauses store.new.clauses question.entry.assumptions.now)) }
+    ensures right { IfOk result (λ r. IfSome r (IsRight question.entry.cores store.old.vars
+        (added_of store.old.clauses proposer.entry.marks.now) store.old.clauses store.new.clauses question.entry.assumptions.now)) }
     ensures ready { panel.new.vars ≡ panel.old.vars }
     ensures rotated { panel.new.rotated ≡ panel.old.rotated }
 {
+    let Proposer {
+        kernel: asked,
+        marks,
+    } = proposer;
     let Some(kernel) = asked else {
         return Ok(None);
     };
@@ -310,9 +314,7 @@ pub(crate) fn refuted<R: Recorder>(
     panel: &mut Panel,
     recorder: &mut R,
 ) -> Result<Option<Verdict>, OutOfMemory>
-    requires small { store.old.vars < 2 ^ 62 }
-    requires in_range { All (All (IsUpTo store.old.vars)) store.old.clauses }
-    requires asked { All (IsUpTo store.old.vars) question.assumptions.now }
+    requires can_solve { CanSolve store.old.vars store.old.clauses question.assumptions.now }
     ensures vars { store.new.vars ≡ store.old.vars }
     ensures trail { store.new.trail ≡ store.old.trail }
     ensures grows { OnOk result (Grows store.old.vars store.old.clauses (R.kept recorder.old) store.new.clauses (R.kept recorder.new)) }

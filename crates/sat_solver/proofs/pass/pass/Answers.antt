@@ -17,7 +17,7 @@ use Rattle.sat_solver.proofs.pass.pass.Goals as goal
 pub loop-i-init : goal.loop-i-init
 loop-i-init c = record {
   lists = omega arith;
-  passing = pass_begin c.args.assign.now c.args.lit c.args.clauses.now.clauses c.args.other.now.homes c.args.mine.now.homes c.args.found.now.items c.requires.once;
+  passing = pass_begin c.args.assign.now c.args.lit c.args.clauses.now.clauses c.args.other.now.homes c.args.mine.now.homes c.args.found.now.items c.requires.can_pass.once;
   few = omega (arith, count_by-le-length (eqb c.code-list.result) c.args.mine.now.homes);
   room = omega arith;
 }
@@ -26,10 +26,10 @@ pub lits-requires : goal.lits-requires
 lits-requires c =
     let i = c.in-Some.i in
     let was : at c.loop-i.mine.homes i ≡ code_of c.args.lit = c.in-Some.ensures.was ∙ c.code-list.ensures.value in
-    c.requires.known i (watched_before c.args.assign.now c.args.lit c.args.clauses.now.clauses c.args.other.now.homes c.args.mine.now.homes c.args.found.now.items c.loop-i.mine.homes c.loop-i.found.items i c.loop-i.invariant.passing was)
+    c.requires.can_pass.known i (watched_before c.args.assign.now c.args.lit c.args.clauses.now.clauses c.args.other.now.homes c.args.mine.now.homes c.args.found.now.items c.loop-i.mine.homes c.loop-i.found.items i c.loop-i.invariant.passing was)
 
 pub home-requires : goal.home-requires
-home-requires c = omega (arith, c.requires.other_places, slice_get_within c.args.clauses.now.clauses c.in-Some.i c.lits.result.now c.lits.ensures)
+home-requires c = omega (arith, c.requires.can_pass.other_places, slice_get_within c.args.clauses.now.clauses c.in-Some.i c.lits.result.now c.lits.ensures)
 
 -- the other code is one in range
 other_within : (a : Assignment) (c : List Literal) (l : Literal) (other : ℕ) → All (IsInRange a) c → CanVisit a c l other → other < 2 * length a
@@ -46,7 +46,7 @@ visit-home-requires-clause-other c =
     let was : at c.loop-i.mine.homes i ≡ code_of c.args.lit = c.in-Some.ensures.was ∙ c.code-list.ensures.value in
     let old = watched_before a c.args.lit cs c.args.other.now.homes c.args.mine.now.homes c.args.found.now.items c.loop-i.mine.homes c.loop-i.found.items i c.loop-i.invariant.passing was in
     let within = slice_get_within cs i c.lits.result.now c.lits.ensures in
-    let k = other_within a (clause_of cs i) c.args.lit (at c.args.other.now.homes i) (c.requires.in_range i [] within) (c.requires.visit i old) in
+    let k = other_within a (clause_of cs i) c.args.lit (at c.args.other.now.homes i) (c.requires.can_pass.in_range i [] within) (c.requires.can_pass.visit i old) in
     omega (arith, k, c.home.ensures.value)
 
 pub visit-home-requires-clause-in_range : goal.visit-home-requires-clause-in_range
@@ -54,7 +54,7 @@ visit-home-requires-clause-in_range c =
     let cs = c.args.clauses.now.clauses in
     let i = c.in-Some.i in
     let lits = c.lits.result.now in
-    subst (All (IsInRange c.args.assign.now)) (get_or_from_slice_get cs i lits lits c.lits.ensures) (c.requires.in_range i lits (slice_get_within cs i lits c.lits.ensures))
+    subst (All (IsInRange c.args.assign.now)) (get_or_from_slice_get cs i lits lits c.lits.ensures) (c.requires.can_pass.in_range i lits (slice_get_within cs i lits c.lits.ensures))
 
 pub visit-home-requires-clause-visit : goal.visit-home-requires-clause-visit
 visit-home-requires-clause-visit c =
@@ -64,7 +64,7 @@ visit-home-requires-clause-visit c =
     let old = watched_before c.args.assign.now c.args.lit cs c.args.other.now.homes c.args.mine.now.homes c.args.found.now.items c.loop-i.mine.homes c.loop-i.found.items i c.loop-i.invariant.passing was in
     let lits : clause_of cs i ≡ c.lits.result.now = get_or_from_slice_get cs i c.lits.result.now [] c.lits.ensures in
     subst (λ (x : ℕ). CanVisit c.args.assign.now c.lits.result.now c.args.lit x) (sym c.home.ensures.value)
-    (subst (λ (x : List Literal). CanVisit c.args.assign.now x c.args.lit (at c.args.other.now.homes i)) lits (c.requires.visit i old))
+    (subst (λ (x : List Literal). CanVisit c.args.assign.now x c.args.lit (at c.args.other.now.homes i)) lits (c.requires.can_pass.visit i old))
 
 -- the new list is one of those that there are
 new_within : (a : Assignment) (c : List Literal) (other g : ℕ) → All (IsInRange a) c → 0 < length a → IsNewList a c other 1 g → g < 2 * length a
@@ -76,8 +76,8 @@ push-requires-clause-within c =
     let cs = c.args.clauses.now.clauses in
     let i = c.in-Some.i in
     let lits = c.lits.result.now in
-    let all = subst (All (IsInRange c.args.assign.now)) (get_or_from_slice_get cs i lits lits c.lits.ensures) (c.requires.in_range i lits (slice_get_within cs i lits c.lits.ensures)) in
-    let k = new_within c.args.assign.now lits c.home.result c.visit-home.result all (let r = c.requires.literal in omega arith) c.visit-home.ensures.list in
+    let all = subst (All (IsInRange c.args.assign.now)) (get_or_from_slice_get cs i lits lits c.lits.ensures) (c.requires.can_pass.in_range i lits (slice_get_within cs i lits c.lits.ensures)) in
+    let k = new_within c.args.assign.now lits c.home.result c.visit-home.result all (let r = c.requires.can_pass.literal in omega arith) c.visit-home.ensures.list in
     omega (arith, k, c.requires.lists, c.loop-i.invariant.lists, ap (λ (t : ThreadsValue). t.lists) c.in-Some.ensures.taken)
 
 pub loop-i-smaller : goal.loop-i-smaller
@@ -96,7 +96,7 @@ loop-i-smaller c =
     let new : IsNewList a (clause_of cs i) (at os i) 1 g =
     subst (λ (x : List Literal). IsNewList a x (at os i) 1 g) clause (subst (λ (x : ℕ). IsNewList a lits x 1 g) c.home.ensures.value c.visit-home.ensures.list) in
     let real : 2 ≤ code_of l = let k = c.code-list.ensures in omega arith in
-    let is_false = (c.requires.visit i old).is_false in
+    let is_false = (c.requires.can_pass.visit i old).is_false in
     let homes : c.push.new.self.homes ≡ set hs i g =
     ap (λ (t : ThreadsValue). t.homes) c.push.ensures ∙ (ap (λ (t : ThreadsValue). set t.homes i g) c.in-Some.ensures.taken ∙ set-set hs i 0 g) in
     let less = count_moved hs i c.code-list.result g (within_from_some hs i (omega arith)) c.in-Some.ensures.was
@@ -119,7 +119,7 @@ loop-i-preserved c =
     let new : IsNewList a (clause_of cs i) (at os i) 1 g =
     subst (λ (x : List Literal). IsNewList a x (at os i) 1 g) clause (subst (λ (x : ℕ). IsNewList a lits x 1 g) c.home.ensures.value c.visit-home.ensures.list) in
     let real : 2 ≤ code_of l = let k = c.code-list.ensures in omega arith in
-    let is_false = (c.requires.visit i old).is_false in
+    let is_false = (c.requires.can_pass.visit i old).is_false in
     let homes : c.push.new.self.homes ≡ set hs i g =
     ap (λ (t : ThreadsValue). t.homes) c.push.ensures ∙ (ap (λ (t : ThreadsValue). set t.homes i g) c.in-Some.ensures.taken ∙ set-set hs i 0 g) in
     let less = count_moved hs i c.code-list.result g (within_from_some hs i (omega arith)) c.in-Some.ensures.was
@@ -129,7 +129,7 @@ loop-i-preserved c =
     record {
       lists = ap (λ (t : ThreadsValue). t.lists) c.push.ensures ∙ (ap (λ (t : ThreadsValue). t.lists) c.in-Some.ensures.taken ∙ c.loop-i.invariant.lists);
       passing = subst (λ (x : List ℕ). IsPassing a l cs os c.args.mine.now.homes x c.args.found.now.items c.visit-home.new.found.items) (sym homes)
-          (pass_step a l cs os c.args.mine.now.homes c.args.found.now.items hs c.loop-i.found.items c.visit-home.new.found.items i g real is_false c.requires.not_yet c.loop-i.invariant.passing was new noted);
+          (pass_step a l cs os c.args.mine.now.homes c.args.found.now.items hs c.loop-i.found.items c.visit-home.new.found.items i g real is_false c.requires.can_pass.not_yet c.loop-i.invariant.passing was new noted);
       few = omega (arith, less, ap (count_by (eqb c.code-list.result)) homes, c.visit-home.ensures.few, c.loop-i.invariant.few);
       room = omega (arith, c.visit-home.ensures.room, c.loop-i.invariant.room);
     }
@@ -140,7 +140,7 @@ returns-clause-passed c =
     let real : 2 ≤ code_of c.args.lit = let k = c.code-list.ensures in omega arith in
     let list = c.code-list.ensures.value in
     let same : c.pop.new.self.homes ≡ c.loop-i.mine.homes = ap (λ (t : ThreadsValue). t.homes) c.in_default.ensures.same in
-    pass_end c.args.assign.now c.args.lit cs c.args.other.now.homes c.args.mine.now.homes c.args.found.now.items c.loop-i.mine.homes c.put_back.new.mine.homes c.loop-i.found.items real c.requires.no_spare c.loop-i.invariant.passing
+    pass_end c.args.assign.now c.args.lit cs c.args.other.now.homes c.args.mine.now.homes c.args.found.now.items c.loop-i.mine.homes c.put_back.new.mine.homes c.loop-i.found.items real c.requires.can_pass.no_spare c.loop-i.invariant.passing
     (λ j e. c.in_default.ensures.empty j (e ∙ sym list))
     (c.put_back.ensures.places ∙ ap length same)
     (λ j e. c.put_back.ensures.back j (ap (λ (x : List ℕ). at x j) same ∙ e) ∙ list)

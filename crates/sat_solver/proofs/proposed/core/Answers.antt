@@ -6,6 +6,6 @@ pub returns-clause-right : goal.returns-clause-right
 returns-clause-right g c = λ added.
     record {
       negated = subst (λ (x : List Literal). All (λ l. Contains c.args.question.assumptions.now (opposite l)) x) c.lits.ensures (c.if-not-are_negated.ensures refl);
-      follows = c.in_ok-refutes.ensures.follows c.if-not-branch.false;
-      listed = c.in_ok-refutes.ensures.listed c.if-not-branch.false;
+      follows = (c.in_ok-refutes.ensures.shown c.if-not-branch.false).follows;
+      listed = (c.in_ok-refutes.ensures.shown c.if-not-branch.false).listed;
     }

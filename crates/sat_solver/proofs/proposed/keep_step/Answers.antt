@@ -16,17 +16,14 @@ returns-clause-grows g c =
     let new : c.push.new.self.clauses ≡ cs ++ step.clause ∷ [] = ap (λ (s : StoreValue). s.clauses) c.in_ok-push.ensures.ok ∙ ap (λ (x : List Literal). cs ++ x ∷ []) c.lits.ensures in
     grows_one vars cs c.push.new.self.clauses (g.R.Recorder.kept c.args.recorder.now) (g.R.Recorder.kept c.keep.new.self) step is new c.in_ok-keep.ensures.ok
 
-pub returns-clause-listed : goal.returns-clause-listed
-returns-clause-listed g c = λ e.
-    let cs = c.args.store.now.clauses in
-    let step = c.args.step.now in
-    let new : c.push.new.self.clauses ≡ cs ++ step.clause ∷ [] = ap (λ (s : StoreValue). s.clauses) c.in_ok-push.ensures.ok ∙ ap (λ (x : List Literal). cs ++ x ∷ []) c.lits.ensures in
-    subst (λ (xs : List (List Literal)). Contains xs step.clause) (sym new) (Contains-push cs step.clause)
-
-pub returns-clause-follows : goal.returns-clause-follows
-returns-clause-follows g c = λ e.
+pub returns-clause-shown : goal.returns-clause-shown
+returns-clause-shown g c = λ e.
     let cs = c.args.store.now.clauses in
     let vars = c.args.store.now.vars in
     let step = c.args.step.now in
     let is : IsStep vars cs step = subst (λ (n : ℕ). IsStep n cs step) c.vars.ensures.value (subst (λ (xs : List (List Literal)). IsStep c.vars.result xs step) c.stored.ensures (c.if-not-is_step.ensures.step refl)) in
-    FollowsFrom-EndsFalse vars cs step.clause step.hints is.ends
+    let new : c.push.new.self.clauses ≡ cs ++ step.clause ∷ [] = ap (λ (s : StoreValue). s.clauses) c.in_ok-push.ensures.ok ∙ ap (λ (x : List Literal). cs ++ x ∷ []) c.lits.ensures in
+    record {
+      listed = λ _. subst (λ (xs : List (List Literal)). Contains xs step.clause) (sym new) (Contains-push cs step.clause);
+      follows = FollowsFrom-EndsFalse vars cs step.clause step.hints is.ends;
+    }

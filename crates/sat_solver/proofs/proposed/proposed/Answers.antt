@@ -11,7 +11,7 @@ use Rattle.sat_solver.proofs.proposed.proposed.Goals as goal
 pub core-requires-clause-in_range : goal.core-requires-clause-in_range
 core-requires-clause-in_range g c =
     subst (λ (n : ℕ). All (All (IsUpTo n)) c.keep_steps.new.store.clauses) (sym c.keep_steps.ensures.vars)
-    (grown_in_range c.args.store.now.vars c.args.store.now.clauses c.keep_steps.new.store.clauses (g.R.Recorder.kept c.args.recorder.now) (g.R.Recorder.kept c.keep_steps.new.recorder) c.in_ok-keep_steps.ensures.grows c.requires.in_range)
+    (grown_in_range c.args.store.now.vars c.args.store.now.clauses c.keep_steps.new.store.clauses (g.R.Recorder.kept c.args.recorder.now) (g.R.Recorder.kept c.keep_steps.new.recorder) c.in_ok-keep_steps.ensures.grows c.requires.can_solve.clauses_in_range)
 
 pub returns-in-Core-clause-grows : goal.returns-in-Core-clause-grows
 returns-in-Core-clause-grows g c =
@@ -21,7 +21,7 @@ returns-in-Core-clause-grows g c =
 
 pub returns-in-Core-clause-right : goal.returns-in-Core-clause-right
 returns-in-Core-clause-right g c =
-    let added = added_of c.args.store.now.clauses c.args.marks.now in
+    let added = added_of c.args.store.now.clauses c.args.proposer.marks.now in
     let cores = c.args.question.cores in
     let assumptions = c.args.question.assumptions.now in
     let right : IfSome c.in_ok-answer.answer (IsRight cores c.args.store.now.vars added c.keep_steps.new.store.clauses c.core.new.store.clauses assumptions) =

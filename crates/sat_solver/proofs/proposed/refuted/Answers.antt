@@ -10,7 +10,7 @@ use Rattle.sat_solver.proofs.proposed.refuted.Goals as goal
 pub core-requires-clause-in_range : goal.core-requires-clause-in_range
 core-requires-clause-in_range g c =
     subst (λ (n : ℕ). All (All (IsUpTo n)) c.keep_steps.new.store.clauses) (sym c.keep_steps.ensures.vars)
-    (grown_in_range c.args.store.now.vars c.args.store.now.clauses c.keep_steps.new.store.clauses (g.R.Recorder.kept c.args.recorder.now) (g.R.Recorder.kept c.keep_steps.new.recorder) c.in_ok-keep_steps.ensures.grows c.requires.in_range)
+    (grown_in_range c.args.store.now.vars c.args.store.now.clauses c.keep_steps.new.store.clauses (g.R.Recorder.kept c.args.recorder.now) (g.R.Recorder.kept c.keep_steps.new.recorder) c.in_ok-keep_steps.ensures.grows c.requires.can_solve.clauses_in_range)
 
 pub returns-in-Core-clause-grows : goal.returns-in-Core-clause-grows
 returns-in-Core-clause-grows g c =

@@ -1,6 +1,6 @@
-use Rattle.std.proofs.Common.{◌≡◌, ℕ, ◌+◌, ◌<◌, ◌≤◌, ◌++◌, [], ◌∷◌, None, Contains, length, refl, ap, sym, ◌∙◌, subst, arith}
+use Rattle.std.proofs.Common.{◌≡◌, ℕ, ◌+◌, ◌≤◌, ◌++◌, [], ◌∷◌, None, length, refl, ap, sym, ◌∙◌, subst, arith}
 use Rattle.std.proofs.lemmas.List.{length-replicate}
-use Rattle.sat_clauses.specs.Literal.{Literal, opposite}
+use Rattle.sat_clauses.specs.Literal.{opposite}
 use Rattle.sat_clauses.specs.Code.{code_of}
 use Rattle.sat_clauses.specs.Assignment.{Assignment, all_free}
 use Rattle.sat_clauses.specs.Models.{ClausesBelow}
@@ -9,160 +9,40 @@ use Rattle.sat_clauses.specs.StoreRecord.{StoreValue}
 use Rattle.sat_clauses.specs.Trail.{assigned_by, IsTrail}
 use Rattle.sat_clauses.specs.TrailRecord.{TrailValue}
 use Rattle.sat_clauses.proofs.TrailLemmas.{length-assigned_from}
-use Rattle.sat_solver.specs.Threads.{at}
 use Rattle.sat_solver.specs.Pass.{IsPassed}
 use Rattle.sat_solver.specs.Arena.{AreWatched}
-use Rattle.sat_solver.proofs.ArenaLemmas.{filed_known, filed_visit, visit_second, not_yet_second, are_watched, exactly_due, same_passed, same_visits, swap_tables}
+use Rattle.sat_solver.proofs.ArenaLemmas.{can_pass_first, can_pass_second, are_watched, exactly_due, same_passed, same_can_pass}
 use Rattle.sat_solver.proofs.arena.ArenaStore.set.Goals as goal
 
 -- as many places as the assignment has
 places : (t : TrailValue) (a : Assignment) (vars : ℕ) → a ≡ assigned_by t.vars t.lits → t.vars ≡ vars → vars + 1 ≡ length a
 places t a vars e f = sym (ap length e ∙ (length-assigned_from (all_free t.vars) t.lits ∙ (length-replicate (t.vars + 1) None ∙ ap (λ (n : ℕ). n + 1) f)))
 
-pub pass-by_first-requires-clause-in_range : goal.pass-by_first-requires-clause-in_range
-pass-by_first-requires-clause-in_range c =
-    let s = c.self.inside in
-    let vars = s.trail.vars in
-    let t = s.trail.lits in
-    let l = c.args.lit in
-    let cs = s.clauses.clauses in
-    let fs = s.firsts.homes in
-    let ss = s.seconds.homes in
-    let trail_is = c.set.ensures.value in
-    let last : c.neg-last.result ≡ opposite l = c.neg-last.ensures in
-    let a_is : c.assign.result.now ≡ assigned_by vars (t ++ l ∷ []) = c.assign.ensures.value ∙ ap (λ (x : TrailValue). assigned_by x.vars x.lits) trail_is in
-    let many = places c.set.new.self c.assign.result.now vars c.assign.ensures.value (ap (λ (x : TrailValue). x.vars) trail_is) in
-    let is_trail : IsTrail vars (t ++ l ∷ []) = subst (λ (x : TrailValue). IsTrail x.vars x.lits) trail_is c.assign.ensures.is_trail in
-    let real : 2 ≤ code_of (opposite l) = let r = c.set.ensures.real in omega arith in
-    subst (λ (n : ℕ). ClausesBelow n cs) many c.self.invariant.in_range
-
-pub pass-by_first-requires-clause-literal : goal.pass-by_first-requires-clause-literal
-pass-by_first-requires-clause-literal c =
-    let s = c.self.inside in
-    let vars = s.trail.vars in
-    let t = s.trail.lits in
-    let l = c.args.lit in
-    let cs = s.clauses.clauses in
-    let fs = s.firsts.homes in
-    let ss = s.seconds.homes in
-    let trail_is = c.set.ensures.value in
-    let last : c.neg-last.result ≡ opposite l = c.neg-last.ensures in
-    let a_is : c.assign.result.now ≡ assigned_by vars (t ++ l ∷ []) = c.assign.ensures.value ∙ ap (λ (x : TrailValue). assigned_by x.vars x.lits) trail_is in
-    let many = places c.set.new.self c.assign.result.now vars c.assign.ensures.value (ap (λ (x : TrailValue). x.vars) trail_is) in
-    let is_trail : IsTrail vars (t ++ l ∷ []) = subst (λ (x : TrailValue). IsTrail x.vars x.lits) trail_is c.assign.ensures.is_trail in
-    let real : 2 ≤ code_of (opposite l) = let r = c.set.ensures.real in omega arith in
-    omega (arith, many, c.requires.in_range, ap (λ (x : Literal). x.var) last, ap (λ (v : StoreValue). v.vars) c.self.view_is)
-
 pub pass-by_first-requires-clause-lists : goal.pass-by_first-requires-clause-lists
 pass-by_first-requires-clause-lists c =
-    let s = c.self.inside in
-    let vars = s.trail.vars in
-    let t = s.trail.lits in
-    let l = c.args.lit in
-    let cs = s.clauses.clauses in
-    let fs = s.firsts.homes in
-    let ss = s.seconds.homes in
-    let trail_is = c.set.ensures.value in
-    let last : c.neg-last.result ≡ opposite l = c.neg-last.ensures in
-    let a_is : c.assign.result.now ≡ assigned_by vars (t ++ l ∷ []) = c.assign.ensures.value ∙ ap (λ (x : TrailValue). assigned_by x.vars x.lits) trail_is in
-    let many = places c.set.new.self c.assign.result.now vars c.assign.ensures.value (ap (λ (x : TrailValue). x.vars) trail_is) in
-    let is_trail : IsTrail vars (t ++ l ∷ []) = subst (λ (x : TrailValue). IsTrail x.vars x.lits) trail_is c.assign.ensures.is_trail in
-    let real : 2 ≤ code_of (opposite l) = let r = c.set.ensures.real in omega arith in
-    omega (arith, many, c.self.invariant.lists_first)
+    omega (arith, places c.set.new.self c.assign.result.now c.self.inside.trail.vars c.assign.ensures.value (ap (λ (x : TrailValue). x.vars) c.set.ensures.value), c.self.invariant.lists_first)
 
-pub pass-by_first-requires-clause-visit : goal.pass-by_first-requires-clause-visit
-pass-by_first-requires-clause-visit c =
+pub pass-by_first-requires-clause-can_pass : goal.pass-by_first-requires-clause-can_pass
+pass-by_first-requires-clause-can_pass c =
     let s = c.self.inside in
     let vars = s.trail.vars in
     let t = s.trail.lits in
     let l = c.args.lit in
-    let cs = s.clauses.clauses in
-    let fs = s.firsts.homes in
-    let ss = s.seconds.homes in
     let trail_is = c.set.ensures.value in
     let last : c.neg-last.result ≡ opposite l = c.neg-last.ensures in
     let a_is : c.assign.result.now ≡ assigned_by vars (t ++ l ∷ []) = c.assign.ensures.value ∙ ap (λ (x : TrailValue). assigned_by x.vars x.lits) trail_is in
-    let many = places c.set.new.self c.assign.result.now vars c.assign.ensures.value (ap (λ (x : TrailValue). x.vars) trail_is) in
     let is_trail : IsTrail vars (t ++ l ∷ []) = subst (λ (x : TrailValue). IsTrail x.vars x.lits) trail_is c.assign.ensures.is_trail in
     let real : 2 ≤ code_of (opposite l) = let r = c.set.ensures.real in omega arith in
-    same_visits (assigned_by vars (t ++ l ∷ [])) c.assign.result.now (opposite l) c.neg-last.result cs fs ss a_is last (filed_visit vars t l cs fs ss is_trail real c.self.invariant.watched)
-
-pub pass-by_first-requires-clause-known : goal.pass-by_first-requires-clause-known
-pass-by_first-requires-clause-known c =
-    let s = c.self.inside in
-    let vars = s.trail.vars in
-    let t = s.trail.lits in
-    let l = c.args.lit in
-    let cs = s.clauses.clauses in
-    let fs = s.firsts.homes in
-    let ss = s.seconds.homes in
-    let trail_is = c.set.ensures.value in
-    let last : c.neg-last.result ≡ opposite l = c.neg-last.ensures in
-    let a_is : c.assign.result.now ≡ assigned_by vars (t ++ l ∷ []) = c.assign.ensures.value ∙ ap (λ (x : TrailValue). assigned_by x.vars x.lits) trail_is in
-    let many = places c.set.new.self c.assign.result.now vars c.assign.ensures.value (ap (λ (x : TrailValue). x.vars) trail_is) in
-    let is_trail : IsTrail vars (t ++ l ∷ []) = subst (λ (x : TrailValue). IsTrail x.vars x.lits) trail_is c.assign.ensures.is_trail in
-    let real : 2 ≤ code_of (opposite l) = let r = c.set.ensures.real in omega arith in
-    subst (λ (x : Literal). (i : ℕ) → at fs i ≡ code_of x → i < length cs) (sym last) (filed_known vars t (opposite l) cs fs ss real c.self.invariant.watched)
-
-pub pass-by_second-requires-clause-in_range : goal.pass-by_second-requires-clause-in_range
-pass-by_second-requires-clause-in_range c =
-    let s = c.self.inside in
-    let vars = s.trail.vars in
-    let t = s.trail.lits in
-    let l = c.args.lit in
-    let cs = s.clauses.clauses in
-    let fs = s.firsts.homes in
-    let ss = s.seconds.homes in
-    let trail_is = c.set.ensures.value in
-    let last : c.neg-last.result ≡ opposite l = c.neg-last.ensures in
-    let a_is : c.assign.result.now ≡ assigned_by vars (t ++ l ∷ []) = c.assign.ensures.value ∙ ap (λ (x : TrailValue). assigned_by x.vars x.lits) trail_is in
-    let many = places c.set.new.self c.assign.result.now vars c.assign.ensures.value (ap (λ (x : TrailValue). x.vars) trail_is) in
-    let is_trail : IsTrail vars (t ++ l ∷ []) = subst (λ (x : TrailValue). IsTrail x.vars x.lits) trail_is c.assign.ensures.is_trail in
-    let real : 2 ≤ code_of (opposite l) = let r = c.set.ensures.real in omega arith in
-    let a2_is : c.assign-2.result.now ≡ assigned_by vars (t ++ l ∷ []) = c.assign-2.ensures.value ∙ ap (λ (x : TrailValue). assigned_by x.vars x.lits) trail_is in
-    let many2 = places c.set.new.self c.assign-2.result.now vars c.assign-2.ensures.value (ap (λ (x : TrailValue). x.vars) trail_is) in
-    subst (λ (n : ℕ). ClausesBelow n cs) many2 c.self.invariant.in_range
-
-pub pass-by_second-requires-clause-literal : goal.pass-by_second-requires-clause-literal
-pass-by_second-requires-clause-literal c =
-    let s = c.self.inside in
-    let vars = s.trail.vars in
-    let t = s.trail.lits in
-    let l = c.args.lit in
-    let cs = s.clauses.clauses in
-    let fs = s.firsts.homes in
-    let ss = s.seconds.homes in
-    let trail_is = c.set.ensures.value in
-    let last : c.neg-last.result ≡ opposite l = c.neg-last.ensures in
-    let a_is : c.assign.result.now ≡ assigned_by vars (t ++ l ∷ []) = c.assign.ensures.value ∙ ap (λ (x : TrailValue). assigned_by x.vars x.lits) trail_is in
-    let many = places c.set.new.self c.assign.result.now vars c.assign.ensures.value (ap (λ (x : TrailValue). x.vars) trail_is) in
-    let is_trail : IsTrail vars (t ++ l ∷ []) = subst (λ (x : TrailValue). IsTrail x.vars x.lits) trail_is c.assign.ensures.is_trail in
-    let real : 2 ≤ code_of (opposite l) = let r = c.set.ensures.real in omega arith in
-    let a2_is : c.assign-2.result.now ≡ assigned_by vars (t ++ l ∷ []) = c.assign-2.ensures.value ∙ ap (λ (x : TrailValue). assigned_by x.vars x.lits) trail_is in
-    let many2 = places c.set.new.self c.assign-2.result.now vars c.assign-2.ensures.value (ap (λ (x : TrailValue). x.vars) trail_is) in
-    omega (arith, many2, c.requires.in_range, ap (λ (x : Literal). x.var) last, ap (λ (v : StoreValue). v.vars) c.self.view_is)
+    let within : l.var ≤ vars = omega (arith, c.requires.in_range, ap (λ (v : StoreValue). v.vars) c.self.view_is) in
+    same_can_pass (assigned_by vars (t ++ l ∷ [])) c.assign.result.now (opposite l) c.neg-last.result s.clauses.clauses s.firsts.homes s.seconds.homes [] c.clear.new.self.items a_is last c.clear.ensures.items
+    (can_pass_first vars t l s.clauses.clauses s.firsts.homes s.seconds.homes is_trail real within c.self.invariant.in_range c.self.invariant.places_second c.self.invariant.watched)
 
 pub pass-by_second-requires-clause-lists : goal.pass-by_second-requires-clause-lists
 pass-by_second-requires-clause-lists c =
-    let s = c.self.inside in
-    let vars = s.trail.vars in
-    let t = s.trail.lits in
-    let l = c.args.lit in
-    let cs = s.clauses.clauses in
-    let fs = s.firsts.homes in
-    let ss = s.seconds.homes in
-    let trail_is = c.set.ensures.value in
-    let last : c.neg-last.result ≡ opposite l = c.neg-last.ensures in
-    let a_is : c.assign.result.now ≡ assigned_by vars (t ++ l ∷ []) = c.assign.ensures.value ∙ ap (λ (x : TrailValue). assigned_by x.vars x.lits) trail_is in
-    let many = places c.set.new.self c.assign.result.now vars c.assign.ensures.value (ap (λ (x : TrailValue). x.vars) trail_is) in
-    let is_trail : IsTrail vars (t ++ l ∷ []) = subst (λ (x : TrailValue). IsTrail x.vars x.lits) trail_is c.assign.ensures.is_trail in
-    let real : 2 ≤ code_of (opposite l) = let r = c.set.ensures.real in omega arith in
-    let a2_is : c.assign-2.result.now ≡ assigned_by vars (t ++ l ∷ []) = c.assign-2.ensures.value ∙ ap (λ (x : TrailValue). assigned_by x.vars x.lits) trail_is in
-    let many2 = places c.set.new.self c.assign-2.result.now vars c.assign-2.ensures.value (ap (λ (x : TrailValue). x.vars) trail_is) in
-    omega (arith, many2, c.self.invariant.lists_second)
+    omega (arith, places c.set.new.self c.assign-2.result.now c.self.inside.trail.vars c.assign-2.ensures.value (ap (λ (x : TrailValue). x.vars) c.set.ensures.value), c.self.invariant.lists_second)
 
-pub pass-by_second-requires-clause-known : goal.pass-by_second-requires-clause-known
-pass-by_second-requires-clause-known c =
+pub pass-by_second-requires-clause-can_pass : goal.pass-by_second-requires-clause-can_pass
+pass-by_second-requires-clause-can_pass c =
     let s = c.self.inside in
     let vars = s.trail.vars in
     let t = s.trail.lits in
@@ -173,54 +53,16 @@ pass-by_second-requires-clause-known c =
     let trail_is = c.set.ensures.value in
     let last : c.neg-last.result ≡ opposite l = c.neg-last.ensures in
     let a_is : c.assign.result.now ≡ assigned_by vars (t ++ l ∷ []) = c.assign.ensures.value ∙ ap (λ (x : TrailValue). assigned_by x.vars x.lits) trail_is in
-    let many = places c.set.new.self c.assign.result.now vars c.assign.ensures.value (ap (λ (x : TrailValue). x.vars) trail_is) in
     let is_trail : IsTrail vars (t ++ l ∷ []) = subst (λ (x : TrailValue). IsTrail x.vars x.lits) trail_is c.assign.ensures.is_trail in
     let real : 2 ≤ code_of (opposite l) = let r = c.set.ensures.real in omega arith in
-    subst (λ (x : Literal). (i : ℕ) → at ss i ≡ code_of x → i < length cs) (sym last) (filed_known vars t (opposite l) cs ss fs real (swap_tables vars t cs fs ss c.self.invariant.watched))
-
-pub pass-by_second-requires-clause-visit : goal.pass-by_second-requires-clause-visit
-pass-by_second-requires-clause-visit c =
-    let s = c.self.inside in
-    let vars = s.trail.vars in
-    let t = s.trail.lits in
-    let l = c.args.lit in
-    let cs = s.clauses.clauses in
-    let fs = s.firsts.homes in
-    let ss = s.seconds.homes in
-    let trail_is = c.set.ensures.value in
-    let last : c.neg-last.result ≡ opposite l = c.neg-last.ensures in
-    let a_is : c.assign.result.now ≡ assigned_by vars (t ++ l ∷ []) = c.assign.ensures.value ∙ ap (λ (x : TrailValue). assigned_by x.vars x.lits) trail_is in
-    let many = places c.set.new.self c.assign.result.now vars c.assign.ensures.value (ap (λ (x : TrailValue). x.vars) trail_is) in
-    let is_trail : IsTrail vars (t ++ l ∷ []) = subst (λ (x : TrailValue). IsTrail x.vars x.lits) trail_is c.assign.ensures.is_trail in
-    let real : 2 ≤ code_of (opposite l) = let r = c.set.ensures.real in omega arith in
+    let within : l.var ≤ vars = omega (arith, c.requires.in_range, ap (λ (v : StoreValue). v.vars) c.self.view_is) in
     let fs' = c.pass-by_first.new.mine.homes in
     let found = c.pass-by_first.new.found.items in
     let first : IsPassed (assigned_by vars (t ++ l ∷ [])) (opposite l) cs ss fs fs' [] found =
     same_passed c.assign.result.now (assigned_by vars (t ++ l ∷ [])) c.neg-last.result (opposite l) cs ss fs fs' c.clear.new.self.items [] found a_is last c.clear.ensures.items c.pass-by_first.ensures.passed in
     let a2_is : c.assign-2.result.now ≡ assigned_by vars (t ++ l ∷ []) = c.assign-2.ensures.value ∙ ap (λ (x : TrailValue). assigned_by x.vars x.lits) trail_is in
-    let many2 = places c.set.new.self c.assign-2.result.now vars c.assign-2.ensures.value (ap (λ (x : TrailValue). x.vars) trail_is) in
-    same_visits (assigned_by vars (t ++ l ∷ [])) c.assign-2.result.now (opposite l) c.neg-last.result cs ss fs' a2_is last (visit_second vars t l cs fs ss fs' found is_trail real c.self.invariant.watched first)
-
-pub pass-by_second-requires-clause-not_yet : goal.pass-by_second-requires-clause-not_yet
-pass-by_second-requires-clause-not_yet c =
-    let s = c.self.inside in
-    let vars = s.trail.vars in
-    let t = s.trail.lits in
-    let l = c.args.lit in
-    let cs = s.clauses.clauses in
-    let fs = s.firsts.homes in
-    let ss = s.seconds.homes in
-    let trail_is = c.set.ensures.value in
-    let last : c.neg-last.result ≡ opposite l = c.neg-last.ensures in
-    let a_is : c.assign.result.now ≡ assigned_by vars (t ++ l ∷ []) = c.assign.ensures.value ∙ ap (λ (x : TrailValue). assigned_by x.vars x.lits) trail_is in
-    let many = places c.set.new.self c.assign.result.now vars c.assign.ensures.value (ap (λ (x : TrailValue). x.vars) trail_is) in
-    let is_trail : IsTrail vars (t ++ l ∷ []) = subst (λ (x : TrailValue). IsTrail x.vars x.lits) trail_is c.assign.ensures.is_trail in
-    let real : 2 ≤ code_of (opposite l) = let r = c.set.ensures.real in omega arith in
-    let fs' = c.pass-by_first.new.mine.homes in
-    let found = c.pass-by_first.new.found.items in
-    let first : IsPassed (assigned_by vars (t ++ l ∷ [])) (opposite l) cs ss fs fs' [] found =
-    same_passed c.assign.result.now (assigned_by vars (t ++ l ∷ [])) c.neg-last.result (opposite l) cs ss fs fs' c.clear.new.self.items [] found a_is last c.clear.ensures.items c.pass-by_first.ensures.passed in
-    subst (λ (x : Literal). (i : ℕ) → at ss i ≡ code_of x → ¬ (Contains found (i + 1))) (sym last) (not_yet_second vars t l cs fs ss fs' found is_trail real c.self.invariant.watched first)
+    same_can_pass (assigned_by vars (t ++ l ∷ [])) c.assign-2.result.now (opposite l) c.neg-last.result cs ss fs' found found a2_is last refl
+    (can_pass_second vars t l cs fs ss fs' found is_trail real c.self.invariant.watched first within c.self.invariant.in_range c.self.invariant.places_first)
 
 pub invariant_of-self : goal.invariant_of-self
 invariant_of-self c =
@@ -234,7 +76,6 @@ invariant_of-self c =
     let trail_is = c.set.ensures.value in
     let last : c.neg-last.result ≡ opposite l = c.neg-last.ensures in
     let a_is : c.assign.result.now ≡ assigned_by vars (t ++ l ∷ []) = c.assign.ensures.value ∙ ap (λ (x : TrailValue). assigned_by x.vars x.lits) trail_is in
-    let many = places c.set.new.self c.assign.result.now vars c.assign.ensures.value (ap (λ (x : TrailValue). x.vars) trail_is) in
     let is_trail : IsTrail vars (t ++ l ∷ []) = subst (λ (x : TrailValue). IsTrail x.vars x.lits) trail_is c.assign.ensures.is_trail in
     let real : 2 ≤ code_of (opposite l) = let r = c.set.ensures.real in omega arith in
     let fs' = c.pass-by_first.new.mine.homes in
@@ -242,7 +83,6 @@ invariant_of-self c =
     let first : IsPassed (assigned_by vars (t ++ l ∷ [])) (opposite l) cs ss fs fs' [] found =
     same_passed c.assign.result.now (assigned_by vars (t ++ l ∷ [])) c.neg-last.result (opposite l) cs ss fs fs' c.clear.new.self.items [] found a_is last c.clear.ensures.items c.pass-by_first.ensures.passed in
     let a2_is : c.assign-2.result.now ≡ assigned_by vars (t ++ l ∷ []) = c.assign-2.ensures.value ∙ ap (λ (x : TrailValue). assigned_by x.vars x.lits) trail_is in
-    let many2 = places c.set.new.self c.assign-2.result.now vars c.assign-2.ensures.value (ap (λ (x : TrailValue). x.vars) trail_is) in
     let ss' = c.pass-by_second.new.mine.homes in
     let found' = c.pass-by_second.new.found.items in
     let second : IsPassed (assigned_by vars (t ++ l ∷ [])) (opposite l) cs fs' ss ss' found found' =
@@ -270,7 +110,6 @@ returns-clause-found c =
     let trail_is = c.set.ensures.value in
     let last : c.neg-last.result ≡ opposite l = c.neg-last.ensures in
     let a_is : c.assign.result.now ≡ assigned_by vars (t ++ l ∷ []) = c.assign.ensures.value ∙ ap (λ (x : TrailValue). assigned_by x.vars x.lits) trail_is in
-    let many = places c.set.new.self c.assign.result.now vars c.assign.ensures.value (ap (λ (x : TrailValue). x.vars) trail_is) in
     let is_trail : IsTrail vars (t ++ l ∷ []) = subst (λ (x : TrailValue). IsTrail x.vars x.lits) trail_is c.assign.ensures.is_trail in
     let real : 2 ≤ code_of (opposite l) = let r = c.set.ensures.real in omega arith in
     let fs' = c.pass-by_first.new.mine.homes in
@@ -278,7 +117,6 @@ returns-clause-found c =
     let first : IsPassed (assigned_by vars (t ++ l ∷ [])) (opposite l) cs ss fs fs' [] found =
     same_passed c.assign.result.now (assigned_by vars (t ++ l ∷ [])) c.neg-last.result (opposite l) cs ss fs fs' c.clear.new.self.items [] found a_is last c.clear.ensures.items c.pass-by_first.ensures.passed in
     let a2_is : c.assign-2.result.now ≡ assigned_by vars (t ++ l ∷ []) = c.assign-2.ensures.value ∙ ap (λ (x : TrailValue). assigned_by x.vars x.lits) trail_is in
-    let many2 = places c.set.new.self c.assign-2.result.now vars c.assign-2.ensures.value (ap (λ (x : TrailValue). x.vars) trail_is) in
     let ss' = c.pass-by_second.new.mine.homes in
     let found' = c.pass-by_second.new.found.items in
     let second : IsPassed (assigned_by vars (t ++ l ∷ [])) (opposite l) cs fs' ss ss' found found' =

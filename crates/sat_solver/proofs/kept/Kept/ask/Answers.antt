@@ -16,8 +16,8 @@ answered-requires-clause-can_solve g c =
     record {
       vars = old.small;
       clauses_in_range = old.in_range;
-      assumptions_in_range = subst (λ (k : KeptValue). All (IsUpTo k.vars) c.args.assumptions.now) (sym c.self.view_is) c.requires.in_range;
-      apart = c.requires.apart;
+      assumptions_in_range = subst (λ (k : KeptValue). All (IsUpTo k.vars) c.args.question.assumptions.now) (sym c.self.view_is) c.requires.can_assume.in_range;
+      apart = c.requires.can_assume.apart;
     }
 
 pub answered-requires-clause-idle : goal.answered-requires-clause-idle
@@ -29,13 +29,13 @@ invariant_of-self-2 g c =
     let s = c.self.inside.store in
     let ms = c.self.inside.marks.items in
     let old = (kept_from_search c.self.inside.failed s ms c.self.inside.trail c.self.invariant c.if-self.false).0 in
-    let grows = c.in_ok-verdict.ensures.grows in
+    let grows = c.in_ok-verdict.ensures.answered.grows in
     let missing : c.count.result - length ms ≡ length grows.steps =
     omega (arith, c.count.ensures, ap length grows.clauses, length_with_steps s.clauses grows.steps, old.marked) in
     let marks : c.mark.new.marks.items ≡ ms ++ replicate (length grows.steps) true = c.in_ok-learned.ensures ∙ ap (λ n. ms ++ replicate n true) missing in
-    let vars : c.answered.new.store.vars ≡ s.vars = c.in_ok-verdict.ensures.vars in (
-      kept_learned s c.answered.new.store ms c.mark.new.marks.items grows.steps old grows.are_steps grows.clauses vars c.in_ok-verdict.ensures.trail marks,
-      subst (λ (n : ℕ). IsIdle n c.answered.new.trail) (sym vars) c.in_ok-verdict.ensures.idle,
+    let vars : c.answered.new.store.vars ≡ s.vars = c.in_ok-verdict.ensures.answered.vars in (
+      kept_learned s c.answered.new.store ms c.mark.new.marks.items grows.steps old grows.are_steps grows.clauses vars c.in_ok-verdict.ensures.answered.trail marks,
+      subst (λ (n : ℕ). IsIdle n c.answered.new.trail) (sym vars) c.in_ok-verdict.ensures.answered.idle,
     )
 
 pub returns-clause-answer : goal.returns-clause-answer
@@ -43,15 +43,15 @@ returns-clause-answer g c =
     let s = c.self.inside.store in
     let ms = c.self.inside.marks.items in
     let old = (kept_from_search c.self.inside.failed s ms c.self.inside.trail c.self.invariant c.if-self.false).0 in
-    subst (λ (k : KeptValue). IsAnswer c.args.cores k.vars (added_of k.clauses k.marks) c.answered.new.store.clauses c.args.assumptions.now c.in_ok-verdict.verdict) c.self.view_is
-    (answer_from_right c.args.cores s c.answered.new.store.clauses ms c.args.assumptions.now c.in_ok-verdict.verdict old (subst (λ (x : List Bool). IsRight c.args.cores s.vars (added_of s.clauses x) s.clauses c.answered.new.store.clauses c.args.assumptions.now c.in_ok-verdict.verdict) c.deref.ensures.value c.in_ok-verdict.ensures.right))
+    subst (λ (k : KeptValue). IsAnswer c.args.question.cores k.vars (added_of k.clauses k.marks) c.answered.new.store.clauses c.args.question.assumptions.now c.in_ok-verdict.verdict) c.self.view_is
+    (answer_from_right c.args.question.cores s c.answered.new.store.clauses ms c.args.question.assumptions.now c.in_ok-verdict.verdict old (subst (λ (x : List Bool). IsRight c.args.question.cores s.vars (added_of s.clauses x) s.clauses c.answered.new.store.clauses c.args.question.assumptions.now c.in_ok-verdict.verdict) c.deref.ensures.value c.in_ok-verdict.ensures.answered.right))
 
 pub returns-clause-learned : goal.returns-clause-learned
 returns-clause-learned g c =
     let s = c.self.inside.store in
     let ms = c.self.inside.marks.items in
     let old = (kept_from_search c.self.inside.failed s ms c.self.inside.trail c.self.invariant c.if-self.false).0 in
-    let grows = c.in_ok-verdict.ensures.grows in
+    let grows = c.in_ok-verdict.ensures.answered.grows in
     let missing : c.count.result - length ms ≡ length grows.steps =
     omega (arith, c.count.ensures, ap length grows.clauses, length_with_steps s.clauses grows.steps, old.marked) in
     let marks : c.mark.new.marks.items ≡ ms ++ replicate (length grows.steps) true = c.in_ok-learned.ensures ∙ ap (λ n. ms ++ replicate n true) missing in
@@ -59,4 +59,4 @@ returns-clause-learned g c =
     (record { steps = grows.steps; are_steps = grows.are_steps; clauses = grows.clauses; marks = marks; kept = grows.kept })
 
 pub returns-clause-vars : goal.returns-clause-vars
-returns-clause-vars g c = c.in_ok-verdict.ensures.vars ∙ ap (λ (k : KeptValue). k.vars) c.self.view_is
+returns-clause-vars g c = c.in_ok-verdict.ensures.answered.vars ∙ ap (λ (k : KeptValue). k.vars) c.self.view_is

@@ -8,18 +8,17 @@ use Rattle.sat_solver.proofs.ProposedLemmas.{refuted_from_right}
 use Rattle.sat_solver.specs.declared.solve.Verdict.TheVariants.{Unsat}
 use Rattle.sat_solver.proofs.kept.Kept.refute.Goals as goal
 
-pub refuted-requires-clause-small : goal.refuted-requires-clause-small
-refuted-requires-clause-small g c = (kept_from_search c.self.inside.failed c.self.inside.store c.self.inside.marks.items c.self.inside.trail c.self.invariant c.if-self.false).0.small
-
-pub refuted-requires-clause-in_range : goal.refuted-requires-clause-in_range
-refuted-requires-clause-in_range g c =
-    let s = c.self.inside.store in
-    let ms = c.self.inside.marks.items in
-    let old = (kept_from_search c.self.inside.failed s ms c.self.inside.trail c.self.invariant c.if-self.false).0 in
-    old.in_range
-
-pub refuted-requires-clause-asked : goal.refuted-requires-clause-asked
-refuted-requires-clause-asked g c = subst (λ (k : KeptValue). All (IsUpTo k.vars) c.args.assumptions.now) (sym c.self.view_is) c.requires.in_range
+pub refuted-requires : goal.refuted-requires
+refuted-requires g c =
+    let old = (kept_from_search c.self.inside.failed c.self.inside.store c.self.inside.marks.items c.self.inside.trail c.self.invariant c.if-self.false).0 in
+    record {
+      can_solve = record {
+        vars = old.small;
+        clauses_in_range = old.in_range;
+        assumptions_in_range = subst (λ (k : KeptValue). All (IsUpTo k.vars) c.args.question.assumptions.now) (sym c.self.view_is) c.requires.can_assume.in_range;
+        apart = c.requires.can_assume.apart;
+      };
+    }
 
 pub invariant_of-self-2 : goal.invariant_of-self-2
 invariant_of-self-2 g c =
@@ -40,8 +39,8 @@ returns-clause-answer g c =
     let s = c.self.inside.store in
     let ms = c.self.inside.marks.items in
     let old = (kept_from_search c.self.inside.failed s ms c.self.inside.trail c.self.invariant c.if-self.false).0 in
-    subst (λ (k : KeptValue). IfSome c.core_of.result (λ core. IsAnswer c.args.cores k.vars (added_of k.clauses k.marks) c.refuted.new.store.clauses c.args.assumptions.now (Unsat core))) c.self.view_is
-    (refuted_from_right c.args.cores s c.refuted.new.store.clauses ms c.args.assumptions.now c.core_of.result c.in_ok-told.told old c.core_of.ensures (c.in_ok-told.ensures.right (added_of s.clauses ms)))
+    subst (λ (k : KeptValue). IfSome c.core_of.result (λ core. IsAnswer c.args.question.cores k.vars (added_of k.clauses k.marks) c.refuted.new.store.clauses c.args.question.assumptions.now (Unsat core))) c.self.view_is
+    (refuted_from_right c.args.question.cores s c.refuted.new.store.clauses ms c.args.question.assumptions.now c.core_of.result c.in_ok-told.told old c.core_of.ensures (c.in_ok-told.ensures.right (added_of s.clauses ms)))
 
 pub returns-clause-learned : goal.returns-clause-learned
 returns-clause-learned g c =
