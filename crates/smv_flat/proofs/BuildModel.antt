@@ -296,16 +296,22 @@ module _ (s : Scene) (n : Needs) (is : IsScene s) (needs : AreNeeds (program_of 
   pub many_symbols : (xs : List Text) → xs ≡ texts s.symbols.keys → length xs ≡ length (symbols_of (program_of s))
   many_symbols xs e = ap (λ (ys : List Text). length ys) (e ∙ is.set.symbols)
 
-  pub many_definitions : (ds : List FormulaOf) → map told ds ≡ map (asked_definition s n) n.order.items → length ds ≡ length n.order.items
+  many_definitions : (ds : List FormulaOf) → map told ds ≡ map (asked_definition s n) n.order.items → length ds ≡ length n.order.items
   many_definitions ds e = sym (length-map ds told) ∙ ap (λ (ts : List Told). length ts) e ∙ length-map n.order.items (asked_definition s n)
 
   pub ready_within : (v t : ℕ) → v ≡ length (variables_of (program_of s)) → t ≡ length (symbols_of (program_of s)) → AreReady s n v t
   ready_within v t e f = subst (λ v. AreReady s n v t) (sym e) (subst (AreReady s n (length (variables_of (program_of s)))) (sym f) ready)
 
-  pub known_within : (v t d : ℕ) → v ≡ length (variables_of (program_of s)) → t ≡ length (symbols_of (program_of s)) → d ≡ length n.order.items → (a : AskedFormulas) →
+  bounds_known : (v t d : ℕ) → v ≡ length (variables_of (program_of s)) → t ≡ length (symbols_of (program_of s)) → d ≡ length n.order.items → (a : AskedFormulas) →
       AreConditionsKnown s n (record { variables = v; symbols = t; definitions = d }) (conditions_asked a)
-  known_within v t d e f g a =
+  bounds_known v t d e f g a =
       subst (λ (b : Bounds). AreConditionsKnown s n b (conditions_asked a)) same (all_known s n is needs accepted a)
     where
       same : bounds_with (program_of s) (length n.order.items) ≡ bounds_made v t d
       same = cc
+
+  pub known_within : (vs : List Variable) (xs : List Text) (ds : List FormulaOf) (v t d : ℕ) → v ≡ length vs → t ≡ length xs → d ≡ length ds → AreDeclared (program_of s) vs →
+      xs ≡ texts s.symbols.keys → map told ds ≡ map (asked_definition s n) n.order.items → (a : AskedFormulas) →
+      AreConditionsKnown s n (record { variables = v; symbols = t; definitions = d }) (conditions_asked a)
+  known_within vs xs ds v t d e f g declared symbols told_definitions a =
+      bounds_known v t d (e ∙ many_variables vs declared) (f ∙ many_symbols xs symbols) (g ∙ many_definitions ds told_definitions) a

@@ -20,6 +20,7 @@ use Rattle.smv_scope.specs.declared.walk.Meaning.{Meaning as Found}
 use Rattle.smv_scope.specs.declared.walk.Meaning.TheVariants as found
 use Rattle.smv_scope.specs.declared.names.Scene.{Scene}
 use Rattle.smv_scope.specs.declared.needs.Needs.{Needs}
+use Rattle.smv_flat.specs.declared.flattening.Scope.{Scope}
 
 -- a definition has its place in the order as its number
 abbrev pub leaf_placed : Option ℕ → Option FlatLeaf
@@ -38,6 +39,10 @@ leaf_found places found.Loop = None
 -- the leaf of a name at the instance of a number
 abbrev pub leaf_at : Scene → Needs → ℕ → Path → Option FlatLeaf
 leaf_at s n spot name = leaf_found n.places.items (found_at s spot name)
+
+-- the same by the tables of a scope
+abbrev pub leaf_in : Scope → ℕ → Path → Option FlatLeaf
+leaf_in s spot = leaf_at s.scene s.needs spot
 
 -- the number of the first instance of a place, counted on from a number
 abbrev pub number_from : ℕ → List FlatInstance → Place → Option ℕ

@@ -5,7 +5,7 @@
 //! the item and the instance that it comes from, for the faults that the layers above tell.
 //!
 //! `judge` has been called before and has refused nothing, so nothing can be refused here but for want of memory.
-ghost use Rattle.std.specs.Prelude.{◌≡◌, Some, ◌++◌, ◌∷◌, [], true, length, map, flat_map, IfOk, IfErr, OnOk, slice_get};
+ghost use Rattle.std.specs.Prelude.{◌≡◌, Some, ◌++◌, ◌∷◌, [], true, length, map, flat_map, IfOk, IfErr, OnOk};
 ghost use Rattle.smv_language.specs.declared.expr.Op.TheVariants as op;
 ghost use Rattle.smv_language.specs.Tree.{binary, next_of, leaf as leaf_tree};
 ghost use Rattle.smv_language.specs.Trace.{Each};
@@ -16,20 +16,20 @@ ghost use Rattle.smv_flat_laws.specs.Model.{IsFlatOf, now_among, next_among, kep
 ghost use Rattle.smv_flat_laws.specs.Rules.{IsAccepted};
 ghost use Rattle.smv_scope.specs.ClosedModels.{is_within, is_closed, are_closed, are_earlier, AreVariables, IsClosedModel};
 ghost use Rattle.smv_scope.specs.Faults.{IsWant};
-ghost use Rattle.smv_scope.specs.SceneTree.{IsScene, program_of, items_at};
-ghost use Rattle.smv_scope.specs.NeedsTree.{AreNeeds};
+ghost use Rattle.smv_scope.specs.SceneTree.{program_of, items_at};
 ghost use Rattle.smv_scope.specs.WalkFindings.{AreDeclared};
 ghost use Rattle.smv_scope.specs.ItemTree.{item_tree};
-ghost use Rattle.smv_language.specs.BorrowedTexts.{texts};
 ghost use Rattle.smv_language.specs.ModelTree.{instance_tree, leaf_of, model_tree};
-ghost use Rattle.smv_flat.specs.ResolverOf.{leaf_at, told_tree};
+ghost use Rattle.smv_flat.specs.ScopeOf.{IsAnyScope};
+ghost use Rattle.smv_flat.specs.ResolverOf.{leaf_in, told_tree};
 ghost use Rattle.smv_flat.specs.FormulaLists.{told, asked_definition, IsReady, AreReady, conditions_asked, clause_tree, asked_condition};
 ghost use Rattle.smv_flat.specs.FormulaLists.{is_variable_within, IsConditionKnown, AreConditionsKnown, asked_conditions, asked_items};
-ghost use Rattle.smv_flat.specs.FormulaLists.{asked_from, item_listed, instance_in, instance_told};
+ghost use Rattle.smv_flat.specs.FormulaLists.{asked_from, instance_in, instance_told};
 
 use crate::clauses::{AskedFormulas, ItemClause, clause_of};
+use crate::flattening::Scope;
 use crate::resolve::{ExpressionSource, resolve};
-use base_values::{Dotted, Items, Name, NameList, OutOfMemory};
+use base_values::{Dotted, Items, Name, OutOfMemory};
 use smv_language::copy_model::{boxed, copy_path};
 use smv_language::model::{
     Flat, FlatList, FlatModel, Formula, Instance, InstanceList, VariableList,
@@ -40,7 +40,6 @@ use smv_scope::fault::FlatFault;
 use smv_scope::items::{Item, number_of};
 use smv_scope::modules::ModuleNames;
 use smv_scope::names::Scene;
-use smv_scope::needs::Needs;
 use smv_scope::symbols::symbol_names;
 use smv_scope::walk::{Meaning, Spot};
 use std::alloc::Global;
@@ -48,65 +47,31 @@ use std::alloc::Global;
 /// The flat model of a scene with these variables.
 pub(crate) fn build(
     alloc: Global,
-    scene: &Scene<'_>,
-    needs: &Needs,
+    scope: &Scope<'_>,
     variables: VariableList,
 ) -> Result<FlatModel, FlatFault>
-    requires scene { IsScene scene.now }
-    requires needs { AreNeeds (program_of scene.now) needs.now }
-    requires accepted { IsAccepted (program_of scene.now) }
+    requires scope { IsAnyScope scope.now }
+    requires accepted { IsAccepted (program_of scope.now.scene) }
     requires variables { AreVariables variables }
-    requires declared { AreDeclared (program_of scene.now) variables }
+    requires declared { AreDeclared (program_of scope.now.scene) variables }
     ensures closed { IfOk result IsClosedModel }
-    ensures flat { IfOk result (λ model. IsFlatOf (program_of scene.now) (model_tree model)) }
+    ensures flat { IfOk result (λ model. IsFlatOf (program_of scope.now.scene) (model_tree model)) }
     ensures want { IfErr result IsWant }
 {
-    let instances = instances_of(alloc, scene)?;
-    let symbols = symbol_names(alloc, &scene.symbols)?;
-    let definitions = definitions_of(alloc, scene, needs, variables.len(), symbols.len())?;
-    with_formulas(
-        alloc,
-        scene,
-        needs,
-        instances,
-        variables,
-        symbols,
-        definitions,
-    )
-}
-
-/// The model of these lists with all formulas.
-fn with_formulas(
-    alloc: Global,
-    scene: &Scene<'_>,
-    needs: &Needs,
-    instances: InstanceList,
-    variables: VariableList,
-    symbols: NameList,
-    definitions: FlatList,
-) -> Result<FlatModel, FlatFault>
-    requires scene { IsScene scene.now }
-    requires needs { AreNeeds (program_of scene.now) needs.now }
-    requires accepted { IsAccepted (program_of scene.now) }
-    requires instances { map instance_tree instances ≡ flat_map (instance_told scene.now) scene.now.spots.items }
-    requires variables { AreVariables variables }
-    requires declared { AreDeclared (program_of scene.now) variables }
-    requires symbols { symbols ≡ texts scene.now.symbols.keys }
-    requires definitions { map told definitions ≡ map (asked_definition scene.now needs.now) needs.now.order.items }
-    requires earlier { are_earlier (length variables) (length symbols) 0 definitions ≡ true }
-    ensures closed { IfOk result IsClosedModel }
-    ensures flat { IfOk result (λ model. IsFlatOf (program_of scene.now) (model_tree model)) }
-    ensures want { IfErr result IsWant }
-{
+    let instances = instances_of(alloc, &scope.scene)?;
+    let symbols = symbol_names(alloc, &scope.scene.symbols)?;
+    let variable_count = variables.len();
+    let symbol_count = symbols.len();
+    let definitions = definitions_of(alloc, scope, variable_count, symbol_count)?;
     let bounds = Bounds {
-        variables: variables.len(),
-        symbols: symbols.len(),
+        variables: variable_count,
+        symbols: symbol_count,
         definitions: definitions.len(),
     };
-    let init = formulas_of(alloc, scene, needs, bounds, AskedFormulas::First)?;
-    let invar = formulas_of(alloc, scene, needs, bounds, AskedFormulas::Each)?;
-    let mut trans = formulas_of(alloc, scene, needs, bounds, AskedFormulas::Step)?;
-    add_formulas(alloc, scene, needs, bounds, AskedFormulas::Kept, &mut trans)?;
+    let init = formulas_of(alloc, scope, bounds, AskedFormulas::First)?;
+    let invar = formulas_of(alloc, scope, bounds, AskedFormulas::Each)?;
+    let mut trans = formulas_of(alloc, scope, bounds, AskedFormulas::Step)?;
+    add_formulas(alloc, scope, bounds, AskedFormulas::Kept, &mut trans)?;
     Ok(FlatModel {
         instances,
         variables,
@@ -160,24 +125,24 @@ fn push_instance(
 /// The definitions in order, each over those before it.
 fn definitions_of(
     alloc: Global,
-    scene: &Scene<'_>,
-    needs: &Needs,
+    scope: &Scope<'_>,
     variables: usize,
     symbols: usize,
 ) -> Result<FlatList, FlatFault>
-    requires ready { AreReady scene.now needs.now variables symbols }
-    ensures told { IfOk result (λ made. map told made ≡ map (asked_definition scene.now needs.now) needs.now.order.items) }
+    requires ready { AreReady scope.now.scene scope.now.needs variables symbols }
+    ensures told { IfOk result (λ made. map told made
+        ≡ map (asked_definition scope.now.scene scope.now.needs) scope.now.needs.order.items) }
     ensures earlier { IfOk result (λ made. are_earlier variables symbols 0 made ≡ true) }
     ensures want { IfErr result IsWant }
 {
     let mut made = Items::new(alloc);
-    for place in needs.order.as_slice() {
+    for place in scope.needs.order.as_slice() {
         let bounds = Bounds {
             variables,
             symbols,
             definitions: made.len(),
         };
-        add_definition(alloc, scene, needs, bounds, *place, &mut made)?;
+        add_definition(alloc, scope, bounds, *place, &mut made)?;
     }
     Ok(made)
 }
@@ -185,20 +150,19 @@ fn definitions_of(
 /// Appends the definition at a place of the scene, over those that stand before it.
 fn add_definition(
     alloc: Global,
-    scene: &Scene<'_>,
-    needs: &Needs,
+    scope: &Scope<'_>,
     bounds: Bounds,
     place: usize,
     made: &mut FlatList,
 ) -> Result<(), FlatFault>
-    requires ready { IsReady scene.now needs.now bounds place }
+    requires ready { IsReady scope.now.scene scope.now.needs bounds place }
     requires before { are_earlier bounds.variables bounds.symbols 0 made.old ≡ true }
     requires next { bounds.definitions ≡ length made.old }
-    ensures told { OnOk result (map told made.new ≡ map told made.old ++ asked_definition scene.now needs.now place ∷ []) }
+    ensures told { OnOk result (map told made.new ≡ map told made.old ++ asked_definition scope.now.scene scope.now.needs place ∷ []) }
     ensures earlier { OnOk result (are_earlier bounds.variables bounds.symbols 0 made.new ≡ true) }
     ensures want { IfErr result IsWant }
 {
-    let Some(defined) = scene.definitions.as_slice().get(place) else {
+    let Some(defined) = scope.scene.definitions.as_slice().get(place) else {
         unreachable!();
     };
     let source = ExpressionSource {
@@ -206,7 +170,7 @@ fn add_definition(
         item: defined.item,
         bounds,
     };
-    let value = resolve(alloc, scene, needs, source, defined.value)?;
+    let value = resolve(alloc, scope, source, defined.value)?;
     Ok(push_definition(made, source, value)?)
 }
 
@@ -242,42 +206,40 @@ fn formula(source: ExpressionSource, value: Expr<Flat>) -> Result<Formula, OutOf
 /// The formulas that are asked for, by instances and then items.
 fn formulas_of(
     alloc: Global,
-    scene: &Scene<'_>,
-    needs: &Needs,
+    scope: &Scope<'_>,
     bounds: Bounds,
     asked: AskedFormulas,
 ) -> Result<FlatList, FlatFault>
-    requires scene { IsScene scene.now }
-    requires known { AreConditionsKnown scene.now needs.now bounds (conditions_asked asked) }
+    requires scope { IsAnyScope scope.now }
+    requires known { AreConditionsKnown scope.now.scene scope.now.needs bounds (conditions_asked asked) }
     ensures told { IfOk result (λ made. map told made
-        ≡ asked_from scene.now needs.now (conditions_asked asked) 0 (instances_of (program_of scene.now))) }
+        ≡ asked_from scope.now.scene scope.now.needs (conditions_asked asked) 0 (instances_of (program_of scope.now.scene))) }
     ensures closed { IfOk result (λ made. are_closed bounds made ≡ true) }
     ensures want { IfErr result IsWant }
 {
     let mut made = Items::new(alloc);
-    add_formulas(alloc, scene, needs, bounds, asked, &mut made)?;
+    add_formulas(alloc, scope, bounds, asked, &mut made)?;
     Ok(made)
 }
 
 /// Adds the formulas that are asked for.
 fn add_formulas(
     alloc: Global,
-    scene: &Scene<'_>,
-    needs: &Needs,
+    scope: &Scope<'_>,
     bounds: Bounds,
     asked: AskedFormulas,
     list: &mut FlatList,
 ) -> Result<(), FlatFault>
-    requires scene { IsScene scene.now }
-    requires known { AreConditionsKnown scene.now needs.now bounds (conditions_asked asked) }
+    requires scope { IsAnyScope scope.now }
+    requires known { AreConditionsKnown scope.now.scene scope.now.needs bounds (conditions_asked asked) }
     requires closed { are_closed bounds list.old ≡ true }
-    ensures told { OnOk result (map told list.new ≡ map told list.old ++ asked_from scene.now needs.now
-        (conditions_asked asked) 0 (instances_of (program_of scene.now))) }
+    ensures told { OnOk result (map told list.new ≡ map told list.old ++ asked_from scope.now.scene scope.now.needs
+        (conditions_asked asked) 0 (instances_of (program_of scope.now.scene))) }
     ensures closed { OnOk result (are_closed bounds list.new ≡ true) }
     ensures want { IfErr result IsWant }
 {
-    for spot in 0..scene.spots.len() {
-        add_of_instance(alloc, scene, needs, bounds, asked, spot, list)?;
+    for spot in 0..scope.scene.spots.len() {
+        add_of_instance(alloc, scope, bounds, asked, spot, list)?;
     }
     Ok(())
 }
@@ -285,79 +247,53 @@ fn add_formulas(
 /// Adds those of an instance.
 fn add_of_instance(
     alloc: Global,
-    scene: &Scene<'_>,
-    needs: &Needs,
+    scope: &Scope<'_>,
     bounds: Bounds,
     asked: AskedFormulas,
     spot: usize,
     list: &mut FlatList,
 ) -> Result<(), FlatFault>
-    requires scene { IsScene scene.now }
-    requires known { AreConditionsKnown scene.now needs.now bounds (conditions_asked asked) }
+    requires scope { IsAnyScope scope.now }
+    requires known { AreConditionsKnown scope.now.scene scope.now.needs bounds (conditions_asked asked) }
     requires closed { are_closed bounds list.old ≡ true }
-    ensures told { OnOk result (map told list.new ≡ map told list.old ++ asked_items scene.now needs.now
-        (conditions_asked asked) spot (items_at (program_of scene.now) spot)) }
+    ensures told { OnOk result (map told list.new ≡ map told list.old ++ asked_items scope.now.scene scope.now.needs
+        (conditions_asked asked) spot (items_at (program_of scope.now.scene) spot)) }
     ensures closed { OnOk result (are_closed bounds list.new ≡ true) }
     ensures want { IfErr result IsWant }
 {
-    for place in 0..scene.item_count(spot) {
-        add_at(alloc, scene, needs, bounds, asked, spot, place, list)?;
+    for place in 0..scope.scene.item_count(spot) {
+        let Some((item, number)) = scope.scene.item_at(spot, place) else {
+            continue;
+        };
+        let source = ExpressionSource {
+            spot,
+            item: number,
+            bounds,
+        };
+        add_of_item(alloc, scope, source, asked, item, list)?;
     }
     Ok(())
-}
-
-/// Adds what the item at a place of an instance asks.
-fn add_at(
-    alloc: Global,
-    scene: &Scene<'_>,
-    needs: &Needs,
-    bounds: Bounds,
-    asked: AskedFormulas,
-    spot: usize,
-    place: usize,
-    list: &mut FlatList,
-) -> Result<(), FlatFault>
-    requires scene { IsScene scene.now }
-    requires known { AreConditionsKnown scene.now needs.now bounds (conditions_asked asked) }
-    requires closed { are_closed bounds list.old ≡ true }
-    ensures told { OnOk result (map told list.new ≡ map told list.old ++ asked_items scene.now needs.now
-        (conditions_asked asked) spot (item_listed (slice_get (items_at (program_of scene.now) spot) place))) }
-    ensures closed { OnOk result (are_closed bounds list.new ≡ true) }
-    ensures want { IfErr result IsWant }
-{
-    match scene.item_at(spot, place) {
-        Some((item, number)) => {
-            let source = ExpressionSource {
-                spot,
-                item: number,
-                bounds,
-            };
-            add_of_item(alloc, scene, needs, source, asked, item, list)
-        }
-        None => Ok(()),
-    }
 }
 
 /// Adds what an item asks.
 fn add_of_item(
     alloc: Global,
-    scene: &Scene<'_>,
-    needs: &Needs,
+    scope: &Scope<'_>,
     source: ExpressionSource,
     asked: AskedFormulas,
     item: Item<'_>,
     list: &mut FlatList,
 ) -> Result<(), FlatFault>
-    requires known { Each (IsConditionKnown (leaf_at scene.now needs.now source.spot) source.bounds)
+    requires known { Each (IsConditionKnown (leaf_in scope.now source.spot) source.bounds)
         (conditions_asked asked (item_tree item)) }
     requires closed { are_closed source.bounds list.old ≡ true }
     ensures told { OnOk result (map told list.new ≡ map told list.old ++ asked_conditions
-        (leaf_at scene.now needs.now source.spot) source.spot source.item (conditions_asked asked (item_tree item.entry))) }
+        (leaf_in scope.now source.spot) source.spot source.item (conditions_asked asked (item_tree item.entry))) }
     ensures closed { OnOk result (are_closed source.bounds list.new ≡ true) }
     ensures want { IfErr result IsWant }
 {
     match clause_of(asked, item) {
-        Some(clause) => add_clause(alloc, scene, needs, source, clause, list),
+        Some(clause) => add_clause(alloc, scope, source, clause, list),
         None => Ok(()),
     }
 }
@@ -365,20 +301,19 @@ fn add_of_item(
 /// Appends the formula of a condition.
 fn add_clause(
     alloc: Global,
-    scene: &Scene<'_>,
-    needs: &Needs,
+    scope: &Scope<'_>,
     source: ExpressionSource,
     clause: ItemClause<'_>,
     list: &mut FlatList,
 ) -> Result<(), FlatFault>
-    requires known { IsConditionKnown (leaf_at scene.now needs.now source.spot) source.bounds (clause_tree clause) }
+    requires known { IsConditionKnown (leaf_in scope.now source.spot) source.bounds (clause_tree clause) }
     requires closed { are_closed source.bounds list.old ≡ true }
     ensures told { OnOk result (map told list.new ≡ map told list.old ++ asked_conditions
-        (leaf_at scene.now needs.now source.spot) source.spot source.item (clause_tree clause.entry ∷ [])) }
+        (leaf_in scope.now source.spot) source.spot source.item (clause_tree clause.entry ∷ [])) }
     ensures closed { OnOk result (are_closed source.bounds list.new ≡ true) }
     ensures want { IfErr result IsWant }
 {
-    let value = clause_value(alloc, scene, needs, source, clause)?;
+    let value = clause_value(alloc, scope, source, clause)?;
     Ok(push_formula(list, source, value)?)
 }
 
@@ -401,22 +336,21 @@ fn push_formula(
 /// The expression that a condition asks to be TRUE.
 fn clause_value(
     alloc: Global,
-    scene: &Scene<'_>,
-    needs: &Needs,
+    scope: &Scope<'_>,
     source: ExpressionSource,
     clause: ItemClause<'_>,
 ) -> Result<Expr<Flat>, FlatFault>
-    requires known { IsConditionKnown (leaf_at scene.now needs.now source.spot) source.bounds (clause_tree clause) }
+    requires known { IsConditionKnown (leaf_in scope.now source.spot) source.bounds (clause_tree clause) }
     ensures told { IfOk result (λ made. told_tree made
-        ≡ asked_condition (leaf_at scene.now needs.now source.spot) (clause_tree clause.entry)) }
+        ≡ asked_condition (leaf_in scope.now source.spot) (clause_tree clause.entry)) }
     ensures closed { IfOk result (λ made. is_closed source.bounds made ≡ true) }
     ensures want { IfErr result IsWant }
 {
     match clause {
-        ItemClause::Plain(e) => resolve(alloc, scene, needs, source, e),
-        ItemClause::Now(target, e) => now_value(alloc, scene, needs, source, target, e),
-        ItemClause::Next(target, e) => next_value(alloc, scene, needs, source, target, e),
-        ItemClause::Kept(target) => kept_value(alloc, scene, needs, source, target),
+        ItemClause::Plain(e) => resolve(alloc, scope, source, e),
+        ItemClause::Now(target, e) => now_value(alloc, scope, source, target, e),
+        ItemClause::Next(target, e) => next_value(alloc, scope, source, target, e),
+        ItemClause::Kept(target) => kept_value(alloc, scope, source, target),
     }
 }
 
@@ -424,20 +358,19 @@ fn clause_value(
 #[tactic(auto, using(smv_scope::proofs::ClosedLaws::closed_within))]
 fn now_value(
     alloc: Global,
-    scene: &Scene<'_>,
-    needs: &Needs,
+    scope: &Scope<'_>,
     source: ExpressionSource,
     target: &Name,
     e: &Expr<Dotted>,
 ) -> Result<Expr<Flat>, FlatFault>
-    requires known { IsConditionKnown (leaf_at scene.now needs.now source.spot) source.bounds (now_among target.now (tree_of e.now)) }
+    requires known { IsConditionKnown (leaf_in scope.now source.spot) source.bounds (now_among target.now (tree_of e.now)) }
     ensures told { IfOk result (λ made. told_tree made
-        ≡ asked_condition (leaf_at scene.now needs.now source.spot) (now_among target.now (tree_of e.now))) }
+        ≡ asked_condition (leaf_in scope.now source.spot) (now_among target.now (tree_of e.now))) }
     ensures closed { IfOk result (λ made. is_closed source.bounds made ≡ true) }
     ensures want { IfErr result IsWant }
 {
-    let target = target_of(scene, needs, source, target);
-    let value = resolve(alloc, scene, needs, source, e)?;
+    let target = target_of(scope, source, target);
+    let value = resolve(alloc, scope, source, e)?;
     Ok(within(alloc, Expr::Leaf(target), value)?)
 }
 
@@ -445,20 +378,19 @@ fn now_value(
 #[tactic(auto, using(smv_scope::proofs::ClosedLaws::closed_within))]
 fn next_value(
     alloc: Global,
-    scene: &Scene<'_>,
-    needs: &Needs,
+    scope: &Scope<'_>,
     source: ExpressionSource,
     target: &Name,
     e: &Expr<Dotted>,
 ) -> Result<Expr<Flat>, FlatFault>
-    requires known { IsConditionKnown (leaf_at scene.now needs.now source.spot) source.bounds (next_among target.now (tree_of e.now)) }
+    requires known { IsConditionKnown (leaf_in scope.now source.spot) source.bounds (next_among target.now (tree_of e.now)) }
     ensures told { IfOk result (λ made. told_tree made
-        ≡ asked_condition (leaf_at scene.now needs.now source.spot) (next_among target.now (tree_of e.now))) }
+        ≡ asked_condition (leaf_in scope.now source.spot) (next_among target.now (tree_of e.now))) }
     ensures closed { IfOk result (λ made. is_closed source.bounds made ≡ true) }
     ensures want { IfErr result IsWant }
 {
-    let target = target_of(scene, needs, source, target);
-    let value = resolve(alloc, scene, needs, source, e)?;
+    let target = target_of(scope, source, target);
+    let value = resolve(alloc, scope, source, e)?;
     Ok(within_next(alloc, target, value)?)
 }
 
@@ -466,28 +398,26 @@ fn next_value(
 #[tactic(auto, using(smv_scope::proofs::ClosedLaws::closed_within))]
 fn kept_value(
     alloc: Global,
-    scene: &Scene<'_>,
-    needs: &Needs,
+    scope: &Scope<'_>,
     source: ExpressionSource,
     target: &Name,
 ) -> Result<Expr<Flat>, FlatFault>
-    requires known { is_variable_within source.bounds (leaf_at scene.now needs.now source.spot (target.now ∷ [])) ≡ true }
-    ensures told { IfOk result (λ made. told_tree made ≡ asked_condition (leaf_at scene.now needs.now source.spot) (kept target.now)) }
+    requires known { is_variable_within source.bounds (leaf_in scope.now source.spot (target.now ∷ [])) ≡ true }
+    ensures told { IfOk result (λ made. told_tree made ≡ asked_condition (leaf_in scope.now source.spot) (kept target.now)) }
     ensures closed { IfOk result (λ made. is_closed source.bounds made ≡ true) }
     ensures want { IfErr result IsWant }
 {
-    let target = target_of(scene, needs, source, target);
+    let target = target_of(scope, source, target);
     Ok(within_next(alloc, target, Expr::Leaf(target))?)
 }
 
 /// The variable that a condition speaks of.
-fn target_of(scene: &Scene<'_>, needs: &Needs, source: ExpressionSource, target: &Name) -> Flat
-    requires known { is_variable_within source.bounds (leaf_at scene.now needs.now source.spot (target.now ∷ [])) ≡ true }
-    ensures leaf { Some (leaf_of result) ≡ leaf_at scene.now needs.now source.spot (target.now ∷ []) }
+fn target_of(scope: &Scope<'_>, source: ExpressionSource, target: &Name) -> Flat
+    requires known { is_variable_within source.bounds (leaf_in scope.now source.spot (target.now ∷ [])) ≡ true }
+    ensures leaf { Some (leaf_of result) ≡ leaf_in scope.now source.spot (target.now ∷ []) }
     ensures closed { is_within source.bounds result ≡ true }
 {
-    let _order = needs;
-    match scene.part(source.spot, target, true) {
+    match scope.scene.part(source.spot, target, true) {
         Meaning::Variable { number, .. } => Flat::Var(number),
         _ => unreachable!(),
     }

@@ -15,10 +15,9 @@ ghost use Rattle.smv_scope.specs.Faults.{first_of, IsFaultOf};
 ghost use Rattle.std.specs.Prelude.{Some};
 ghost use Rattle.smv_flat_laws.specs.Rules.{IsAccepted};
 ghost use Rattle.smv_flat_laws.specs.Model.{IsFlatOf};
-ghost use Rattle.smv_scope.specs.SceneTree.{module_from, IsScene, program_of};
+ghost use Rattle.smv_scope.specs.SceneTree.{module_from, program_of};
 ghost use Rattle.smv_scope.specs.ClosedModels.{AreVariables};
 ghost use Rattle.smv_scope.specs.WalkFindings.{AreDeclared};
-ghost use Rattle.smv_scope.specs.NeedsTree.{AreNeeds};
 ghost use Rattle.smv_flat.specs.ScopeOf.{IsScopeOf, IsAnyScope};
 ghost use Rattle.smv_flat.specs.ResolvedAt.{ResolvesAt, HasNoNextAt, KeepsAt, TellsAt};
 ghost use Rattle.smv_language.specs.Flat.{FlatModel as ModelTree};
@@ -42,8 +41,8 @@ use std::alloc::Global;
 /// The tables of a program, for expressions at its instances: each costs its own size alone.
 #[derive(Drop)]
 pub struct Scope<'a> {
-    scene: Scene<'a>,
-    needs: Needs,
+    pub(crate) scene: Scene<'a>,
+    pub(crate) needs: Needs,
 }
 
 impl<'a> Scope<'a> {
@@ -52,13 +51,8 @@ impl<'a> Scope<'a> {
         ensures scope { IfOk result (IsScopeOf (program_tree p.now)) }
         ensures fault { IfErr result (IsFaultOf (program_tree p.now)) }
     {
-        match main_place(p.modules.as_slice()) {
-            Some(main) => scope_from(alloc, p, main),
-            None => Err(FlatFault {
-                rule: FlatRule::NoMain,
-                item: 0,
-            }),
-        }
+        let (scope, _variables) = scope_of(alloc, p)?;
+        Ok(scope)
     }
 
     /// An expression as [`resolve_at`] resolves it.
@@ -78,28 +72,45 @@ impl<'a> Scope<'a> {
         ensures kept { (p : ProgramTree) → IsScopeOf p self.now → KeepsAt p (model_tree m.now) «instance» inputs e.now result }
         ensures fault { (p : ProgramTree) → IsScopeOf p self.now → TellsAt p (model_tree m.now) «instance» inputs e.now result }
     {
-        resolve_value(
-            alloc,
-            &self.scene,
-            &self.needs,
-            m,
-            instance as usize,
-            inputs,
-            e,
-        )
+        resolve_value(alloc, self, m, instance as usize, inputs, e)
     }
 }
 
-/// The scope of a program whose module `main` stands at a place.
+/// The scope of a program, and its variables.
+fn scope_of<'a>(alloc: Global, p: &'a Program) -> Result<(Scope<'a>, VariableList), FlatFault>
+    ensures scope { IfOk result (λ made. IsScopeOf (program_tree p.now) made.0) }
+    ensures variables { IfOk result (λ made. AreVariables made.1) }
+    ensures declared { IfOk result (λ made. AreDeclared (program_tree p.now) made.1) }
+    ensures fault { IfErr result (IsFaultOf (program_tree p.now)) }
+    ensures no_main { find_module (program_tree p.now) (codes "main") ≡ None → IsErrOf result (record { rule = NoMain; item = 0 }) }
+{
+    match main_place(p.modules.as_slice()) {
+        Some(main) => scope_from(alloc, p, main),
+        None => Err(FlatFault {
+            rule: FlatRule::NoMain,
+            item: 0,
+        }),
+    }
+}
+
+/// The same of a program whose module `main` stands at a place.
 #[tactic(auto, using(crate::proofs::FlatFaults::want_fault))]
-fn scope_from<'a>(alloc: Global, p: &'a Program, main: usize) -> Result<Scope<'a>, FlatFault>
+fn scope_from<'a>(
+    alloc: Global,
+    p: &'a Program,
+    main: usize,
+) -> Result<(Scope<'a>, VariableList), FlatFault>
     requires main { module_from 0 (program_tree p.now) (codes "main") ≡ Some main }
-    ensures scope { IfOk result (IsScopeOf (program_tree p.now)) }
+    ensures scope { IfOk result (λ made. IsScopeOf (program_tree p.now) made.0) }
+    ensures variables { IfOk result (λ made. AreVariables made.1) }
+    ensures declared { IfOk result (λ made. AreDeclared (program_tree p.now) made.1) }
     ensures fault { IfErr result (IsFaultOf (program_tree p.now)) }
 {
-    let (scene, _variables) = scene_of(alloc, p, main)?;
+    let modules = Modules::read(alloc, p, main)?;
+    let (spots, variables) = Walk::whole(alloc, &modules)?.into_parts();
+    let scene = Scene::of_instances(alloc, modules, spots)?;
     let needs = Needs::of_scene(alloc, &scene)?;
-    Ok(Scope { scene, needs })
+    Ok((Scope { scene, needs }, variables))
 }
 
 /// The flat model of a program, or the first rule that it breaks.
@@ -117,70 +128,29 @@ pub fn flatten(alloc: Global, p: &Program) -> Result<FlatModel, FlatFault>
     ensures fault { IfErr result (IsFaultOf (program_tree p.now)) }
     ensures no_main { IsErrOf result (record { rule = NoMain; item = 0 }) ↔ (find_module (program_tree p.now) (codes "main") ≡ None) }
 {
-    match main_place(p.modules.as_slice()) {
-        Some(main) => flatten_from(alloc, p, main),
-        None => Err(FlatFault {
-            rule: FlatRule::NoMain,
-            item: 0,
-        }),
-    }
-}
-
-/// The flat model of a program whose module `main` stands at a place.
-fn flatten_from(alloc: Global, p: &Program, main: usize) -> Result<FlatModel, FlatFault>
-    requires main { module_from 0 (program_tree p.now) (codes "main") ≡ Some main }
-    ensures closed { IfOk result IsClosedModel }
-    ensures own { IfOk result (λ m. NamesOwn (model_tree m)) }
-    ensures accepted { IfOk result (λ m. IsAccepted (program_tree p.now)) }
-    ensures flat { IfOk result (λ m. IsFlatOf (program_tree p.now) (model_tree m)) }
-    ensures alone { IfOk result (λ m. (k : ModelTree) → IsFlatOf (program_tree p.now) k → k ≡ model_tree m) }
-    ensures meant { OnOk result (ActualsMean (program_tree p.now)) }
-    ensures fault { IfErr result (IsFaultOf (program_tree p.now)) }
-{
-    let (scene, variables) = scene_of(alloc, p, main)?;
-    model_of(alloc, &scene, variables)
-}
-
-/// The tables of a program whose module `main` stands at a place, and its variables.
-#[tactic(auto, using(crate::proofs::FlatFaults::want_fault))]
-fn scene_of<'a>(
-    alloc: Global,
-    p: &'a Program,
-    main: usize,
-) -> Result<(Scene<'a>, VariableList), FlatFault>
-    requires main { module_from 0 (program_tree p.now) (codes "main") ≡ Some main }
-    ensures scene { IfOk result (λ made. IsScene made.0) }
-    ensures program { IfOk result (λ made. program_of made.0 ≡ program_tree p.now) }
-    ensures variables { IfOk result (λ made. AreVariables made.1) }
-    ensures declared { IfOk result (λ made. AreDeclared (program_tree p.now) made.1) }
-    ensures fault { IfErr result (IsFaultOf (program_tree p.now)) }
-{
-    let modules = Modules::read(alloc, p, main)?;
-    let (spots, variables) = Walk::whole(alloc, &modules)?.into_parts();
-    let scene = Scene::of_instances(alloc, modules, spots)?;
-    Ok((scene, variables))
+    let (scope, variables) = scope_of(alloc, p)?;
+    model_of(alloc, &scope, variables)
 }
 
 /// The flat model of a scene with these variables, if no rule of its items is broken.
 #[tactic(auto, using(crate::proofs::FlatFaults::want_fault))]
 fn model_of(
     alloc: Global,
-    scene: &Scene<'_>,
+    scope: &Scope<'_>,
     variables: VariableList,
 ) -> Result<FlatModel, FlatFault>
-    requires scene { IsScene scene.now }
+    requires scope { IsAnyScope scope.now }
     requires variables { AreVariables variables }
-    requires declared { AreDeclared (program_of scene.now) variables }
+    requires declared { AreDeclared (program_of scope.now.scene) variables }
     ensures closed { IfOk result IsClosedModel }
-    ensures accepted { IfOk result (λ m. IsAccepted (program_of scene.now)) }
-    ensures flat { IfOk result (λ m. IsFlatOf (program_of scene.now) (model_tree m)) }
-    ensures alone { IfOk result (λ m. (k : ModelTree) → IsFlatOf (program_of scene.now) k → k ≡ model_tree m) }
-    ensures meant { OnOk result (ActualsMean (program_of scene.now)) }
-    ensures fault { IfErr result (IsFaultOf (program_of scene.now)) }
+    ensures accepted { IfOk result (λ m. IsAccepted (program_of scope.now.scene)) }
+    ensures flat { IfOk result (λ m. IsFlatOf (program_of scope.now.scene) (model_tree m)) }
+    ensures alone { IfOk result (λ m. (k : ModelTree) → IsFlatOf (program_of scope.now.scene) k → k ≡ model_tree m) }
+    ensures meant { OnOk result (ActualsMean (program_of scope.now.scene)) }
+    ensures fault { IfErr result (IsFaultOf (program_of scope.now.scene)) }
 {
-    let needs = Needs::of_scene(alloc, scene)?;
-    judge(alloc, scene, &needs)?;
-    build(alloc, scene, &needs, variables)
+    judge(alloc, scope)?;
+    build(alloc, scope, variables)
 }
 
 /// An expression at `main`, over the numbers of the program's flat model. It may have no `next` and read
@@ -218,81 +188,31 @@ pub fn resolve_at(
     ensures kept { KeepsAt (program_tree p.now) (model_tree m.now) «instance» inputs e.now result }
     ensures fault { TellsAt (program_tree p.now) (model_tree m.now) «instance» inputs e.now result }
 {
-    match main_place(p.modules.as_slice()) {
-        Some(main) => resolve_from(alloc, p, main, m, instance as usize, inputs, e),
-        None => Err(FlatFault {
-            rule: FlatRule::NoMain,
-            item: 0,
-        }),
-    }
-}
-
-/// An expression of a program whose module `main` stands at a place.
-fn resolve_from(
-    alloc: Global,
-    p: &Program,
-    main: usize,
-    m: &FlatModel,
-    spot: usize,
-    inputs: bool,
-    e: &Expr<Dotted>,
-) -> Result<Expr<Flat>, FlatFault>
-    requires main { module_from 0 (program_tree p.now) (codes "main") ≡ Some main }
-    ensures shape { IfOk result (λ made. shape made ≡ shape e.now) }
-    ensures closed { IfOk result (λ made. is_closed (bounds_of m.now) made ≡ true) }
-    ensures resolved { ResolvesAt (program_tree p.now) (model_tree m.now) spot e.now result }
-    ensures no_next { HasNoNextAt (program_tree p.now) (model_tree m.now) spot e.now result }
-    ensures kept { KeepsAt (program_tree p.now) (model_tree m.now) spot inputs e.now result }
-    ensures fault { TellsAt (program_tree p.now) (model_tree m.now) spot inputs e.now result }
-{
-    let (scene, _variables) = scene_of(alloc, p, main)?;
-    resolve_in(alloc, &scene, m, spot, inputs, e)
-}
-
-/// An expression by the tables of a program.
-fn resolve_in(
-    alloc: Global,
-    scene: &Scene<'_>,
-    m: &FlatModel,
-    spot: usize,
-    inputs: bool,
-    e: &Expr<Dotted>,
-) -> Result<Expr<Flat>, FlatFault>
-    requires scene { IsScene scene.now }
-    ensures shape { IfOk result (λ made. shape made ≡ shape e.now) }
-    ensures closed { IfOk result (λ made. is_closed (bounds_of m.now) made ≡ true) }
-    ensures resolved { ResolvesAt (program_of scene.now) (model_tree m.now) spot e.now result }
-    ensures no_next { HasNoNextAt (program_of scene.now) (model_tree m.now) spot e.now result }
-    ensures kept { KeepsAt (program_of scene.now) (model_tree m.now) spot inputs e.now result }
-    ensures fault { TellsAt (program_of scene.now) (model_tree m.now) spot inputs e.now result }
-{
-    let needs = Needs::of_scene(alloc, scene)?;
-    resolve_value(alloc, scene, &needs, m, spot, inputs, e)
+    let scope = Scope::of_program(alloc, p)?;
+    scope.resolve_at(alloc, m, instance, inputs, e)
 }
 
 /// An expression that is judged first.
 fn resolve_value(
     alloc: Global,
-    scene: &Scene<'_>,
-    needs: &Needs,
+    scope: &Scope<'_>,
     m: &FlatModel,
     spot: usize,
     inputs: bool,
     e: &Expr<Dotted>,
 ) -> Result<Expr<Flat>, FlatFault>
-    requires scene { IsScene scene.now }
-    requires needs { AreNeeds (program_of scene.now) needs.now }
+    requires scope { IsAnyScope scope.now }
     ensures shape { IfOk result (λ made. shape made ≡ shape e.now) }
     ensures closed { IfOk result (λ made. is_closed (bounds_of m.now) made ≡ true) }
-    ensures resolved { ResolvesAt (program_of scene.now) (model_tree m.now) spot e.now result }
-    ensures no_next { HasNoNextAt (program_of scene.now) (model_tree m.now) spot e.now result }
-    ensures kept { KeepsAt (program_of scene.now) (model_tree m.now) spot inputs e.now result }
-    ensures fault { TellsAt (program_of scene.now) (model_tree m.now) spot inputs e.now result }
+    ensures resolved { ResolvesAt (program_of scope.now.scene) (model_tree m.now) spot e.now result }
+    ensures no_next { HasNoNextAt (program_of scope.now.scene) (model_tree m.now) spot e.now result }
+    ensures kept { KeepsAt (program_of scope.now.scene) (model_tree m.now) spot inputs e.now result }
+    ensures fault { TellsAt (program_of scope.now.scene) (model_tree m.now) spot inputs e.now result }
 {
-    let judged = judge_value(alloc, scene, needs, spot, e)?;
+    let judged = judge_value(alloc, scope, spot, e)?;
     match rule_at(judged, inputs) {
         Some(rule) => Err(FlatFault { rule, item: 0 }),
-        None => resolve(alloc, scene, needs, source_at(m, spot), e),
+        None => resolve(alloc, scope, source_at(m, spot), e),
     }
 }
 

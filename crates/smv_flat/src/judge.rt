@@ -16,12 +16,13 @@ ghost use Rattle.smv_scope.specs.ItemTree.{item_tree};
 ghost use Rattle.smv_flat.specs.Assignments.{value_rule, assignment_rule, IsItemTold, IsPlaceTold, IsTargetTold, may_assign, local_meant};
 ghost use Rattle.smv_flat.specs.Assignments.{is_met, times_of, with_moment};
 ghost use Rattle.smv_flat_laws.specs.Rules.{IsKept, use_sites};
-ghost use Rattle.smv_scope.specs.SceneTree.{IsScene, program_of};
-ghost use Rattle.smv_scope.specs.NeedsTree.{AreNeeds};
+ghost use Rattle.smv_scope.specs.SceneTree.{program_of};
+ghost use Rattle.smv_flat.specs.ScopeOf.{IsAnyScope};
 ghost use Rattle.smv_flat.specs.Verdicts.{IsToldOf, IsToldHere, IsInstanceTold, AreActuals, instance_in};
 ghost use Rattle.smv_scope.specs.Faults.{first_of, IsFaultOf};
 ghost use Rattle.smv_scope.specs.declared.fault.FlatRule.TheVariants.{NoSuchName, DefineLoop, NextHere, InputHere};
 
+use crate::flattening::Scope;
 use crate::values::{JudgedActual, JudgedValue, is_on_meaning_circle, judge_actuals, judge_value};
 use base_values::{Dotted, Name, OutOfMemory};
 use indexmap::IndexMap;
@@ -31,7 +32,6 @@ use smv_scope::fault::{FlatFault, FlatRule};
 use smv_scope::items::Item;
 use smv_scope::modules::Local;
 use smv_scope::names::Scene;
-use smv_scope::needs::Needs;
 use smv_scope::walk::Meaning;
 use std::alloc::Global;
 
@@ -44,14 +44,13 @@ struct Times {
 }
 
 /// The first fault of the items of all instances, or Ok where there is none.
-pub(crate) fn judge(alloc: Global, scene: &Scene<'_>, needs: &Needs) -> Result<(), FlatFault>
-    requires scene { IsScene scene.now }
-    requires needs { AreNeeds (program_of scene.now) needs.now }
-    ensures kept { IfOk result (λ _. Each (IsKept (program_of scene.now)) (use_sites (program_of scene.now))) }
-    ensures fault { IfErr result (IsFaultOf (program_of scene.now)) }
+pub(crate) fn judge(alloc: Global, scope: &Scope<'_>) -> Result<(), FlatFault>
+    requires scope { IsAnyScope scope.now }
+    ensures kept { IfOk result (λ _. Each (IsKept (program_of scope.now.scene)) (use_sites (program_of scope.now.scene))) }
+    ensures fault { IfErr result (IsFaultOf (program_of scope.now.scene)) }
 {
-    for spot in 0..scene.spots.len() {
-        match judge_instance(alloc, scene, needs, spot) {
+    for spot in 0..scope.scene.spots.len() {
+        match judge_instance(alloc, scope, spot) {
             Ok(None) => {}
             Ok(Some(fault)) => return Err(fault),
             Err(OutOfMemory) => {
@@ -68,17 +67,15 @@ pub(crate) fn judge(alloc: Global, scene: &Scene<'_>, needs: &Needs) -> Result<(
 /// The first fault of the items of an instance.
 fn judge_instance(
     alloc: Global,
-    scene: &Scene<'_>,
-    needs: &Needs,
+    scope: &Scope<'_>,
     spot: usize,
 ) -> Result<Option<FlatFault>, OutOfMemory>
-    requires scene { IsScene scene.now }
-    requires needs { AreNeeds (program_of scene.now) needs.now }
-    ensures { IfOk result (IsInstanceTold (program_of scene.now) spot) }
+    requires scope { IsAnyScope scope.now }
+    ensures { IfOk result (IsInstanceTold (program_of scope.now.scene) spot) }
 {
     let mut assigned = IndexMap::new(alloc);
-    for place in 0..scene.item_count(spot) {
-        let fault = judge_place(alloc, scene, needs, spot, place, &mut assigned)?;
+    for place in 0..scope.scene.item_count(spot) {
+        let fault = judge_place(alloc, scope, spot, place, &mut assigned)?;
         if let Some(fault) = fault {
             return Ok(Some(fault));
         }
@@ -89,20 +86,18 @@ fn judge_instance(
 /// The fault of the item at a place of an instance, after the assignments that stand in `assigned`.
 fn judge_place<'a>(
     alloc: Global,
-    scene: &Scene<'a>,
-    needs: &Needs,
+    scope: &Scope<'a>,
     spot: usize,
     place: usize,
     assigned: &mut IndexMap<&'a [u8], Times>,
 ) -> Result<Option<FlatFault>, OutOfMemory>
-    requires scene { IsScene scene.now }
-    requires needs { AreNeeds (program_of scene.now) needs.now }
-    ensures { IfOk result (IsPlaceTold (program_of scene.now) spot place assigned.old.entries assigned.new.entries) }
+    requires scope { IsAnyScope scope.now }
+    ensures { IfOk result (IsPlaceTold (program_of scope.now.scene) spot place assigned.old.entries assigned.new.entries) }
 {
-    let Some((item, number)) = scene.item_at(spot, place) else {
+    let Some((item, number)) = scope.scene.item_at(spot, place) else {
         return Ok(None);
     };
-    let Some(rule) = judge_item(alloc, scene, needs, spot, place, item, assigned)? else {
+    let Some(rule) = judge_item(alloc, scope, spot, place, item, assigned)? else {
         return Ok(None);
     };
     Ok(Some(FlatFault { rule, item: number }))
@@ -111,51 +106,48 @@ fn judge_place<'a>(
 /// The first rule that an item breaks at an instance.
 fn judge_item<'a>(
     alloc: Global,
-    scene: &Scene<'_>,
-    needs: &Needs,
+    scope: &Scope<'_>,
     spot: usize,
     place: usize,
     item: Item<'a>,
     assigned: &mut IndexMap<&'a [u8], Times>,
 ) -> Result<Option<FlatRule>, OutOfMemory>
-    requires scene { IsScene scene.now }
-    requires needs { AreNeeds (program_of scene.now) needs.now }
-    ensures { IfOk result (IsItemTold (program_of scene.now) spot place assigned.old.entries assigned.new.entries (item_tree item.entry)) }
+    requires scope { IsAnyScope scope.now }
+    ensures { IfOk result
+        (IsItemTold (program_of scope.now.scene) spot place assigned.old.entries assigned.new.entries (item_tree item.entry)) }
 {
     match item {
-        Item::Declared(_, decl) => judge_declaration(alloc, scene, needs, spot, place, decl),
-        Item::Defined(define) => judge_definition(alloc, scene, needs, spot, place, define),
+        Item::Declared(_, decl) => judge_declaration(alloc, scope, spot, place, decl),
+        Item::Defined(define) => judge_definition(alloc, scope, spot, place, define),
         Item::Assigned(assignment) => {
-            judge_assignment(alloc, scene, needs, spot, place, assignment, assigned)
+            judge_assignment(alloc, scope, spot, place, assignment, assigned)
         }
         Item::Constants(_) => Ok(None),
-        Item::Init(e) => judge_moment(alloc, scene, needs, spot, e),
-        Item::Invar(e) => judge_moment(alloc, scene, needs, spot, e),
-        Item::Trans(e) => judge_step(alloc, scene, needs, spot, e),
+        Item::Init(e) => judge_moment(alloc, scope, spot, e),
+        Item::Invar(e) => judge_moment(alloc, scope, spot, e),
+        Item::Trans(e) => judge_step(alloc, scope, spot, e),
     }
 }
 
 /// The first rule that the declaration of an instance breaks by its actuals; that of a variable breaks none.
 fn judge_declaration(
     alloc: Global,
-    scene: &Scene<'_>,
-    needs: &Needs,
+    scope: &Scope<'_>,
     spot: usize,
     place: usize,
     decl: &Decl,
 ) -> Result<Option<FlatRule>, OutOfMemory>
-    requires scene { IsScene scene.now }
-    requires needs { AreNeeds (program_of scene.now) needs.now }
+    requires scope { IsAnyScope scope.now }
     ensures { IfOk result (λ o. (role : RoleOf) →
-        IsToldHere (program_of scene.now) spot place (a_declaration role (decl_tree decl.now)) o) }
+        IsToldHere (program_of scope.now.scene) spot place (a_declaration role (decl_tree decl.now)) o) }
 {
     let Some(actuals) = actuals_of(&decl.what) else {
         return Ok(None);
     };
-    let Some(inner) = instance_in(scene.own(spot, place)) else {
+    let Some(inner) = instance_in(scope.scene.own(spot, place)) else {
         return Ok(None);
     };
-    let judged = judge_actuals(alloc, scene, needs, spot, inner, actuals)?;
+    let judged = judge_actuals(alloc, scope, spot, inner, actuals)?;
     Ok(rule_of_actuals(judged))
 }
 
@@ -182,51 +174,45 @@ fn instance_in(meaning: Meaning) -> Option<usize>
 /// The first rule that a define breaks at an instance.
 fn judge_definition(
     alloc: Global,
-    scene: &Scene<'_>,
-    needs: &Needs,
+    scope: &Scope<'_>,
     spot: usize,
     place: usize,
     define: &Define,
 ) -> Result<Option<FlatRule>, OutOfMemory>
-    requires scene { IsScene scene.now }
-    requires needs { AreNeeds (program_of scene.now) needs.now }
-    ensures { IfOk result (IsToldHere (program_of scene.now) spot place (a_definition (define_tree define.now))) }
+    requires scope { IsAnyScope scope.now }
+    ensures { IfOk result (IsToldHere (program_of scope.now.scene) spot place (a_definition (define_tree define.now))) }
 {
-    let judged = judge_value(alloc, scene, needs, spot, &define.value)?;
-    let circle = is_on_meaning_circle(needs, scene.own(spot, place));
+    let judged = judge_value(alloc, scope, spot, &define.value)?;
+    let circle = is_on_meaning_circle(&scope.needs, scope.scene.own(spot, place));
     Ok(rule_of_definition(judged, circle))
 }
 
 /// The first rule that an expression of one moment breaks at an instance.
 fn judge_moment(
     alloc: Global,
-    scene: &Scene<'_>,
-    needs: &Needs,
+    scope: &Scope<'_>,
     spot: usize,
     e: &Expr<Dotted>,
 ) -> Result<Option<FlatRule>, OutOfMemory>
-    requires scene { IsScene scene.now }
-    requires needs { AreNeeds (program_of scene.now) needs.now }
-    ensures first { IfOk result (IsToldOf (program_of scene.now) spot (an_init (tree_of e.now))) }
-    ensures each { IfOk result (IsToldOf (program_of scene.now) spot (an_invar (tree_of e.now))) }
+    requires scope { IsAnyScope scope.now }
+    ensures first { IfOk result (IsToldOf (program_of scope.now.scene) spot (an_init (tree_of e.now))) }
+    ensures each { IfOk result (IsToldOf (program_of scope.now.scene) spot (an_invar (tree_of e.now))) }
 {
-    let judged = judge_value(alloc, scene, needs, spot, e)?;
+    let judged = judge_value(alloc, scope, spot, e)?;
     Ok(rule_of_now(judged))
 }
 
 /// The first rule that an expression of a moment and the next one breaks at an instance.
 fn judge_step(
     alloc: Global,
-    scene: &Scene<'_>,
-    needs: &Needs,
+    scope: &Scope<'_>,
     spot: usize,
     e: &Expr<Dotted>,
 ) -> Result<Option<FlatRule>, OutOfMemory>
-    requires scene { IsScene scene.now }
-    requires needs { AreNeeds (program_of scene.now) needs.now }
-    ensures { IfOk result (IsToldOf (program_of scene.now) spot (a_trans (tree_of e.now))) }
+    requires scope { IsAnyScope scope.now }
+    ensures { IfOk result (IsToldOf (program_of scope.now.scene) spot (a_trans (tree_of e.now))) }
 {
-    let judged = judge_value(alloc, scene, needs, spot, e)?;
+    let judged = judge_value(alloc, scope, spot, e)?;
     Ok(rule_of_step(judged))
 }
 
@@ -315,24 +301,22 @@ fn rule_of_assignment(met: bool, when: Moment, value: JudgedValue) -> Option<Fla
 /// The first rule that an assignment breaks at an instance, after those that stand in `assigned`.
 fn judge_assignment<'a>(
     alloc: Global,
-    scene: &Scene<'_>,
-    needs: &Needs,
+    scope: &Scope<'_>,
     spot: usize,
     place: usize,
     assignment: &'a Assignment,
     assigned: &mut IndexMap<&'a [u8], Times>,
 ) -> Result<Option<FlatRule>, OutOfMemory>
-    requires scene { IsScene scene.now }
-    requires needs { AreNeeds (program_of scene.now) needs.now }
+    requires scope { IsAnyScope scope.now }
     ensures { IfOk result
-        (IsItemTold (program_of scene.now) spot place assigned.old.entries assigned.new.entries
+        (IsItemTold (program_of scope.now.scene) spot place assigned.old.entries assigned.new.entries
         (an_assignment (assignment_tree assignment.now))) }
 {
-    let judged = judge_value(alloc, scene, needs, spot, &assignment.value)?;
+    let judged = judge_value(alloc, scope, spot, &assignment.value)?;
     if judged.no_value {
         return Ok(Some(FlatRule::NoSuchName));
     }
-    let Some(target) = target_of(scene, spot, assignment) else {
+    let Some(target) = target_of(&scope.scene, spot, assignment) else {
         return Ok(Some(FlatRule::NotATarget));
     };
     let met = note_assigned(assigned, target, assignment.when)?;

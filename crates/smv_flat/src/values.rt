@@ -7,17 +7,18 @@ ghost use Rattle.smv_language.specs.Scope.{plain_name};
 ghost use Rattle.smv_language.specs.ExpressionTree.{tree_of};
 ghost use Rattle.smv_language.specs.Flat.{FlatInstance};
 ghost use Rattle.smv_flat_laws.specs.Items.{instances_of};
-ghost use Rattle.smv_scope.specs.SceneTree.{IsScene, program_of};
-ghost use Rattle.smv_scope.specs.NeedsTree.{AreNeeds};
+ghost use Rattle.smv_scope.specs.SceneTree.{program_of};
+ghost use Rattle.smv_flat.specs.ScopeOf.{IsAnyScope};
 ghost use Rattle.smv_flat.specs.ValueJudgement.{IsJudged};
 ghost use Rattle.smv_scope.specs.Links.{is_marked as is_marked_in};
 ghost use Rattle.smv_flat.specs.Verdicts.{is_without_value, is_input_found, is_circle_found, with_flags, AreJudged, is_nothing_known};
 ghost use Rattle.smv_flat.specs.Verdicts.{is_circle_known, is_circle_meant, JudgesActual, JudgesActuals, joined_actual};
 
+use crate::flattening::Scope;
 use base_values::{Dotted, OutOfMemory};
 use smv_language::Expr;
 use smv_language::model::Role;
-use smv_scope::names::{Formal, Scene};
+use smv_scope::names::Formal;
 use smv_scope::needs::Needs;
 use smv_scope::uses::{Use, Uses};
 use smv_scope::walk::Meaning;
@@ -46,15 +47,13 @@ pub(crate) struct JudgedActual {
 /// What is wrong with the actuals that an instance is handed.
 pub(crate) fn judge_actuals(
     alloc: Global,
-    scene: &Scene<'_>,
-    needs: &Needs,
+    scope: &Scope<'_>,
     spot: usize,
     inner: usize,
     actuals: &[Expr<Dotted>],
 ) -> Result<JudgedActual, OutOfMemory>
-    requires scene { IsScene scene.now }
-    requires needs { AreNeeds (program_of scene.now) needs.now }
-    ensures { IfOk result (JudgesActuals (program_of scene.now) spot inner (map tree_of actuals.now) (map tree_of actuals.now)) }
+    requires scope { IsAnyScope scope.now }
+    ensures { IfOk result (JudgesActuals (program_of scope.now.scene) spot inner (map tree_of actuals.now) (map tree_of actuals.now)) }
 {
     let mut judged = JudgedActual {
         no_value: false,
@@ -62,7 +61,7 @@ pub(crate) fn judge_actuals(
         next: false,
     };
     for (formal, actual) in actuals.iter().enumerate() {
-        let one = judge_actual(alloc, scene, needs, spot, inner, formal, actual)?;
+        let one = judge_actual(alloc, scope, spot, inner, formal, actual)?;
         judged = judged.joined(one);
     }
     Ok(judged)
@@ -72,18 +71,16 @@ pub(crate) fn judge_actuals(
 /// other one has a definition of its own.
 fn judge_actual(
     alloc: Global,
-    scene: &Scene<'_>,
-    needs: &Needs,
+    scope: &Scope<'_>,
     spot: usize,
     inner: usize,
     formal: usize,
     actual: &Expr<Dotted>,
 ) -> Result<JudgedActual, OutOfMemory>
-    requires scene { IsScene scene.now }
-    requires needs { AreNeeds (program_of scene.now) needs.now }
-    ensures { IfOk result (JudgesActual (program_of scene.now) spot inner formal (tree_of actual.now)) }
+    requires scope { IsAnyScope scope.now }
+    ensures { IfOk result (JudgesActual (program_of scope.now.scene) spot inner formal (tree_of actual.now)) }
 {
-    let known = scene.formal(inner, formal);
+    let known = scope.scene.formal(inner, formal);
     if is_plain(actual) {
         return Ok(JudgedActual {
             no_value: is_nothing(known),
@@ -91,10 +88,10 @@ fn judge_actual(
             next: false,
         });
     }
-    let judged = judge_value(alloc, scene, needs, spot, actual)?;
+    let judged = judge_value(alloc, scope, spot, actual)?;
     Ok(JudgedActual {
         no_value: judged.no_value,
-        circle: is_on_formal_circle(needs, known),
+        circle: is_on_formal_circle(&scope.needs, known),
         next: judged.next,
     })
 }
@@ -145,20 +142,17 @@ fn is_circle(known: Formal) -> bool
 /// What is wrong with a value at an instance.
 pub(crate) fn judge_value(
     alloc: Global,
-    scene: &Scene<'_>,
-    needs: &Needs,
+    scope: &Scope<'_>,
     spot: usize,
     value: &Expr<Dotted>,
 ) -> Result<JudgedValue, OutOfMemory>
-    requires scene { IsScene scene.now }
-    requires needs { AreNeeds (program_of scene.now) needs.now }
-    ensures judged { (at : FlatInstance) → slice_get (instances_of (program_of scene.now)) spot ≡ Some at →
-        IfOk result (IsJudged (program_of scene.now) at.place (tree_of value.now)) }
+    requires scope { IsAnyScope scope.now }
+    ensures judged { (at : FlatInstance) → slice_get (instances_of (program_of scope.now.scene)) spot ≡ Some at →
+        IfOk result (IsJudged (program_of scope.now.scene) at.place (tree_of value.now)) }
 {
     let uses = Uses::of_value(alloc, value)?;
     Ok(judge_names(
-        scene,
-        needs,
+        scope,
         spot,
         uses.names.as_slice(),
         uses.has_next,
@@ -168,16 +162,14 @@ pub(crate) fn judge_value(
 
 /// What is wrong with a value that has these names, and that has `next`, also under another, or not.
 fn judge_names(
-    scene: &Scene<'_>,
-    needs: &Needs,
+    scope: &Scope<'_>,
     spot: usize,
     names: &[Use<'_>],
     next: bool,
     nested_next: bool,
 ) -> JudgedValue
-    requires scene { IsScene scene.now }
-    requires needs { AreNeeds (program_of scene.now) needs.now }
-    ensures { AreJudged (program_of scene.now) spot names.now next nested_next result }
+    requires scope { IsAnyScope scope.now }
+    ensures { AreJudged (program_of scope.now.scene) spot names.now next nested_next result }
 {
     let mut judged = JudgedValue {
         no_value: false,
@@ -187,23 +179,22 @@ fn judge_names(
         next_input: false,
     };
     for each in names {
-        judged = judged.with_name(scene, needs, spot, each);
+        judged = judged.with_name(scope, spot, each);
     }
     judged
 }
 
 impl JudgedValue {
     /// The value judged by one name more.
-    fn with_name(self, scene: &Scene<'_>, needs: &Needs, spot: usize, each: &Use<'_>) -> JudgedValue
-        requires scene { IsScene scene.now }
-        requires needs { AreNeeds (program_of scene.now) needs.now }
-        ensures { (us : List (Path × Bool)) (next nested : Bool) → AreJudged (program_of scene.now) spot us next nested self →
-            AreJudged (program_of scene.now) spot (us ++ each.now ∷ []) next nested result }
+    fn with_name(self, scope: &Scope<'_>, spot: usize, each: &Use<'_>) -> JudgedValue
+        requires scope { IsAnyScope scope.now }
+        ensures { (us : List (Path × Bool)) (next nested : Bool) → AreJudged (program_of scope.now.scene) spot us next nested self →
+            AreJudged (program_of scope.now.scene) spot (us ++ each.now ∷ []) next nested result }
     {
-        let meaning = scene.meaning(spot, each.name());
+        let meaning = scope.scene.meaning(spot, each.name());
         self.with_flags(
             is_no_value(meaning),
-            is_input(needs, meaning),
+            is_input(&scope.needs, meaning),
             each.is_next(),
         )
     }

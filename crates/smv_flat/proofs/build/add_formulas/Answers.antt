@@ -8,8 +8,8 @@ use Rattle.smv_flat.proofs.build.add_formulas.Goals as goal
 
 pub loop-spot-preserved : goal.loop-spot-preserved
 loop-spot-preserved c =
-    let s = c.args.scene.now in let n = c.args.needs.now in
-    let many : length (instances_of (program_of s)) ≡ length s.spots.items = many_spots s c.requires.scene in
+    let s = c.args.scope.now.scene in let n = c.args.scope.now.needs in
+    let many : length (instances_of (program_of s)) ≡ length s.spots.items = many_spots s c.requires.scope.1.scene in
     let within : c.loop-spot.spot < length s.spots.items = search rules in
     let less : c.loop-spot.spot < length (instances_of (program_of s)) = omega (arith, many, within) in
     record {
@@ -24,8 +24,8 @@ loop-spot-preserved c =
 
 pub returns-clause-told : goal.returns-clause-told
 returns-clause-told c =
-    let s = c.args.scene.now in let n = c.args.needs.now in
-    let many : length (instances_of (program_of s)) ≡ length s.spots.items = many_spots s c.requires.scene in
+    let s = c.args.scope.now.scene in let n = c.args.scope.now.needs in
+    let many : length (instances_of (program_of s)) ≡ length s.spots.items = many_spots s c.requires.scope.1.scene in
     let past : length s.spots.items ≤ c.loop-spot.spot = search rules in
     let none : asked_from s n (conditions_asked c.args.asked) c.loop-spot.spot (drop c.loop-spot.spot (instances_of (program_of s))) ≡ [] =
     spots_end s n (conditions_asked c.args.asked) c.loop-spot.spot (omega (arith, many, past)) in

@@ -8,7 +8,7 @@ use Rattle.smv_flat.proofs.build.add_formulas.Given as goal
 
 abbrev pub invariant-loop-spot : goal.invariant-loop-spot
 invariant-loop-spot l = record {
-  told : map told l.list ++ asked_from l.scene l.needs (conditions_asked l.asked) l.spot (drop l.spot (instances_of (program_of l.scene)))
-      ≡ map told l.initial.list ++ asked_from l.scene l.needs (conditions_asked l.asked) 0 (instances_of (program_of l.scene));
+  told : map told l.list ++ asked_from l.scope.scene l.scope.needs (conditions_asked l.asked) l.spot (drop l.spot (instances_of (program_of l.scope.scene)))
+      ≡ map told l.initial.list ++ asked_from l.scope.scene l.scope.needs (conditions_asked l.asked) 0 (instances_of (program_of l.scope.scene));
   closed : are_closed l.bounds l.list ≡ true;
 }

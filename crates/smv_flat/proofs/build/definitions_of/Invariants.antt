@@ -6,7 +6,7 @@ use Rattle.smv_flat.proofs.build.definitions_of.Given as goal
 
 abbrev pub invariant-loop-place : goal.invariant-loop-place
 invariant-loop-place l = record {
-  told : map told l.made ≡ map (asked_definition l.scene l.needs) (take l.place-index l.needs.order.items);
+  told : map told l.made ≡ map (asked_definition l.scope.scene l.scope.needs) (take l.place-index l.scope.needs.order.items);
   many : length l.made ≡ l.place-index;
   earlier : are_earlier l.variables l.symbols 0 l.made ≡ true;
 }

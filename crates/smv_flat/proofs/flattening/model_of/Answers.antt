@@ -15,12 +15,12 @@ use Rattle.smv_flat.proofs.flattening.model_of.Goals as goal
 
 pub returns-clause-alone : goal.returns-clause-alone
 returns-clause-alone c =
-    let p = program_of c.args.scene.now in
-    let accepted : IsAccepted p = walkable_accepted p c.requires.scene.set.walkable c.in_ok-judge.ensures.kept in
+    let p = program_of c.args.scope.now.scene in
+    let accepted : IsAccepted p = walkable_accepted p c.requires.scope.1.scene.set.walkable c.in_ok-judge.ensures.kept in
     IfOk-weaker c.build.result (λ m. IsFlatOf p (model_tree m)) (λ m. (k : ModelTree) → IsFlatOf p k → k ≡ model_tree m)
-    (λ m is k also. only_model c.args.scene.now c.in_ok-needs.needs c.requires.scene c.in_ok-needs.ensures.needs accepted (model_tree m) k is also) c.build.ensures.flat
+    (λ m is k also. only_model c.args.scope.now.scene c.args.scope.now.needs c.requires.scope.1.scene c.requires.scope.1.needs accepted (model_tree m) k is also) c.build.ensures.flat
 
 pub returns-clause-meant : goal.returns-clause-meant
 returns-clause-meant c =
-    let p = program_of c.args.scene.now in
-    ok_always c.build.result (ActualsMean p) (actuals_mean c.args.scene.now c.requires.scene (walkable_accepted p c.requires.scene.set.walkable c.in_ok-judge.ensures.kept))
+    let p = program_of c.args.scope.now.scene in
+    ok_always c.build.result (ActualsMean p) (actuals_mean c.args.scope.now.scene c.requires.scope.1.scene (walkable_accepted p c.requires.scope.1.scene.set.walkable c.in_ok-judge.ensures.kept))

@@ -24,37 +24,37 @@ use Rattle.smv_flat_laws.specs.ValueRules.{KeepsValue}
 
 pub returns-in-None-clause-resolved : goal.returns-in-None-clause-resolved
 returns-in-None-clause-resolved c = λ at is.
-    let s : Scene = c.args.scene.now in let n : Needs = c.args.needs.now in
+    let s : Scene = c.args.scope.now.scene in let n : Needs = c.args.scope.now.needs in
     IfOk-weaker c.resolve.result (λ made. told_tree made ≡ asked_tree (leaf_at s n c.args.spot) c.args.e.now)
     (λ made. IsResolvedAt (program_of s) (model_tree c.args.m.now) at.place (tree_of c.args.e.now) (flat_tree made))
-    (λ made h. resolved_at s n c.requires.scene c.requires.needs is.accepted (model_tree c.args.m.now) c.args.spot at is (tree_of c.args.e.now) (flat_tree made) h)
+    (λ made h. resolved_at s n c.requires.scope.1.scene c.requires.scope.1.needs is.accepted (model_tree c.args.m.now) c.args.spot at is (tree_of c.args.e.now) (flat_tree made) h)
     (subst (λ (q : ExpressionSource). IfOk c.resolve.result (λ made. told_tree made ≡ asked_tree (leaf_at s n q.spot) c.args.e.now)) c.source_at.ensures c.resolve.ensures.resolved)
 
 pub returns-in-None-clause-fault : goal.returns-in-None-clause-fault
 returns-in-None-clause-fault c = λ at is.
-    let s : Scene = c.args.scene.now in let n : Needs = c.args.needs.now in
+    let s : Scene = c.args.scope.now.scene in let n : Needs = c.args.scope.now.needs in
     let judged : IsJudged (program_of s) at.place (tree_of c.args.e.now) c.in_ok-judged.judged =
-    c.in_ok-judged.ensures.judged at (there s n c.requires.scene c.requires.needs is.accepted (model_tree c.args.m.now) c.args.spot at is) in
+    c.in_ok-judged.ensures.judged at (there s n c.requires.scope.1.scene c.requires.scope.1.needs is.accepted (model_tree c.args.m.now) c.args.spot at is) in
     let value : SomeHasNoValue (program_of s) at.place (tree_of c.args.e.now) → ⊥ =
     none_told (program_of s) at.place c.args.inputs (tree_of c.args.e.now) c.in_ok-judged.judged judged (sym c.rule_at.ensures ∙ c.in-None.is) in
     let known : IsKnown (leaf_at s n c.args.spot) (bounds_of c.args.m.now) c.args.e.now =
-    known_at s n c.requires.scene c.requires.needs is.accepted c.args.m.now c.args.spot at is (tree_of c.args.e.now) value in
+    known_at s n c.requires.scope.1.scene c.requires.scope.1.needs is.accepted c.args.m.now c.args.spot at is (tree_of c.args.e.now) value in
     err_weaker c.resolve.result IsWant (IsValueFault (program_of s) at.place c.args.inputs (tree_of c.args.e.now))
     (λ f want. want_value (program_of s) at.place c.args.inputs (tree_of c.args.e.now) f want)
     (subst (λ (q : ExpressionSource). IsKnown (leaf_at s n q.spot) q.bounds c.args.e.now → IfErr c.resolve.result IsWant) c.source_at.ensures c.resolve.ensures.want known)
 
 pub returns-in-None-clause-no_next : goal.returns-in-None-clause-no_next
 returns-in-None-clause-no_next c = λ at is.
-    let s : Scene = c.args.scene.now in let n : Needs = c.args.needs.now in
+    let s : Scene = c.args.scope.now.scene in let n : Needs = c.args.scope.now.needs in
     let judged : IsJudged (program_of s) at.place (tree_of c.args.e.now) c.in_ok-judged.judged =
-    c.in_ok-judged.ensures.judged at (there s n c.requires.scene c.requires.needs is.accepted (model_tree c.args.m.now) c.args.spot at is) in
+    c.in_ok-judged.ensures.judged at (there s n c.requires.scope.1.scene c.requires.scope.1.needs is.accepted (model_tree c.args.m.now) c.args.spot at is) in
     ok_always c.resolve.result (has_next (tree_of c.args.e.now) ≡ false)
     (sym judged.next ∙ second_not c.in_ok-judged.judged.no_value c.in_ok-judged.judged.next (c.in_ok-judged.judged.input && not c.args.inputs) NoSuchName NextHere InputHere (sym c.rule_at.ensures ∙ c.in-None.is))
 
 pub returns-in-None-clause-kept : goal.returns-in-None-clause-kept
 returns-in-None-clause-kept c = λ at is.
-    let s : Scene = c.args.scene.now in let n : Needs = c.args.needs.now in
+    let s : Scene = c.args.scope.now.scene in let n : Needs = c.args.scope.now.needs in
     let judged : IsJudged (program_of s) at.place (tree_of c.args.e.now) c.in_ok-judged.judged =
-    c.in_ok-judged.ensures.judged at (there s n c.requires.scene c.requires.needs is.accepted (model_tree c.args.m.now) c.args.spot at is) in
+    c.in_ok-judged.ensures.judged at (there s n c.requires.scope.1.scene c.requires.scope.1.needs is.accepted (model_tree c.args.m.now) c.args.spot at is) in
     ok_always c.resolve.result (KeepsValue (program_of s) at.place c.args.inputs (tree_of c.args.e.now))
     (none_broken (program_of s) at.place c.args.inputs (tree_of c.args.e.now) c.in_ok-judged.judged judged (sym c.rule_at.ensures ∙ c.in-None.is))

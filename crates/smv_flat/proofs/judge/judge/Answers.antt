@@ -7,20 +7,20 @@ use Rattle.smv_flat.proofs.judge.judge.Goals as goal
 
 pub loop-spot-preserved : goal.loop-spot-preserved
 loop-spot-preserved c =
-    let within : c.loop-spot.spot < length c.args.scene.now.spots.items = search rules in
-    one_more_instance c.args.scene.now c.requires.scene c.loop-spot.spot within
-    (subst (IsInstanceTold (program_of c.args.scene.now) c.loop-spot.spot) c.in-Ok-None.field-0-is c.in-Ok-None.ensures) c.loop-spot.invariant
+    let within : c.loop-spot.spot < length c.args.scope.now.scene.spots.items = search rules in
+    one_more_instance c.args.scope.now.scene c.requires.scope.1.scene c.loop-spot.spot within
+    (subst (IsInstanceTold (program_of c.args.scope.now.scene) c.loop-spot.spot) c.in-Ok-None.field-0-is c.in-Ok-None.ensures) c.loop-spot.invariant
 
 pub returns-in-Ok-Some : goal.returns-in-Ok-Some
 returns-in-Ok-Some c =
-    let within : c.loop-spot.spot < length c.args.scene.now.spots.items = search rules in
+    let within : c.loop-spot.spot < length c.args.scope.now.scene.spots.items = search rules in
     record {
       kept = tt;
-      fault = first_instance c.args.scene.now c.requires.scene c.loop-spot.spot within c.in-Ok-Some.fault
-          (subst (IsInstanceTold (program_of c.args.scene.now) c.loop-spot.spot) c.in-Ok-Some.field-0-is c.in-Ok-Some.ensures) c.loop-spot.invariant;
+      fault = first_instance c.args.scope.now.scene c.requires.scope.1.scene c.loop-spot.spot within c.in-Ok-Some.fault
+          (subst (IsInstanceTold (program_of c.args.scope.now.scene) c.loop-spot.spot) c.in-Ok-Some.field-0-is c.in-Ok-Some.ensures) c.loop-spot.invariant;
     }
 
 pub returns-clause-kept : goal.returns-clause-kept
 returns-clause-kept c =
-    let past : length c.args.scene.now.spots.items ≤ c.loop-spot.spot = search rules in
-    all_instances c.args.scene.now c.requires.scene c.loop-spot.spot past c.loop-spot.invariant
+    let past : length c.args.scope.now.scene.spots.items ≤ c.loop-spot.spot = search rules in
+    all_instances c.args.scope.now.scene c.requires.scope.1.scene c.loop-spot.spot past c.loop-spot.invariant

@@ -4,4 +4,4 @@ use Rattle.smv_flat.proofs.JudgeInstances.{InstancesSoFar}
 use Rattle.smv_flat.proofs.judge.judge.Given as goal
 
 abbrev pub invariant-loop-spot : goal.invariant-loop-spot
-invariant-loop-spot l = InstancesSoFar (program_of l.scene) l.spot
+invariant-loop-spot l = InstancesSoFar (program_of l.scope.scene) l.spot

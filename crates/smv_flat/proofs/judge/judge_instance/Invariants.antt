@@ -4,4 +4,4 @@ use Rattle.smv_flat.proofs.JudgeInstances.{InstanceSoFar}
 use Rattle.smv_flat.proofs.judge.judge_instance.Given as goal
 
 abbrev pub invariant-loop-place : goal.invariant-loop-place
-invariant-loop-place l = InstanceSoFar (program_of l.scene) l.spot l.place l.assigned.entries
+invariant-loop-place l = InstanceSoFar (program_of l.scope.scene) l.spot l.place l.assigned.entries

@@ -6,4 +6,4 @@ use Rattle.smv_flat.proofs.judge.judge_step.Goals as goal
 
 pub returns : goal.returns
 returns c =
-    trans_told (program_of c.args.scene.now) c.args.spot (tree_of c.args.e.now) c.in_ok-judged.judged c.rule_of_step.result c.in_ok-judged.ensures.judged c.rule_of_step.ensures
+    trans_told (program_of c.args.scope.now.scene) c.args.spot (tree_of c.args.e.now) c.in_ok-judged.judged c.rule_of_step.result c.in_ok-judged.ensures.judged c.rule_of_step.ensures
