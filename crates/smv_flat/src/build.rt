@@ -14,13 +14,12 @@ ghost use Rattle.smv_language.specs.declared.program.Moment.TheVariants.{First};
 ghost use Rattle.smv_flat_laws.specs.Items.{instances_of};
 ghost use Rattle.smv_flat_laws.specs.Model.{IsFlatOf, now_among, next_among, kept};
 ghost use Rattle.smv_flat_laws.specs.Rules.{IsAccepted};
-ghost use Rattle.smv_scope.specs.ClosedModels.{is_within, is_closed, are_closed, are_earlier, AreVariables, IsClosedModel};
+ghost use Rattle.smv_scope.specs.ClosedModels.{is_within, is_closed, are_closed, are_earlier, IsClosedModel};
 ghost use Rattle.smv_scope.specs.Faults.{IsWant};
 ghost use Rattle.smv_scope.specs.SceneTree.{program_of, items_at};
-ghost use Rattle.smv_scope.specs.WalkFindings.{AreDeclared};
 ghost use Rattle.smv_scope.specs.ItemTree.{item_tree};
 ghost use Rattle.smv_language.specs.ModelTree.{instance_tree, leaf_of, model_tree};
-ghost use Rattle.smv_flat.specs.ScopeOf.{IsAnyScope};
+ghost use Rattle.smv_flat.specs.ScopeOf.{IsAnyScope, AreVariablesOf};
 ghost use Rattle.smv_flat.specs.ResolverOf.{leaf_in, told_tree};
 ghost use Rattle.smv_flat.specs.FormulaLists.{told, asked_definition, IsReady, AreReady, conditions_asked, clause_tree, asked_condition};
 ghost use Rattle.smv_flat.specs.FormulaLists.{is_variable_within, IsConditionKnown, AreConditionsKnown, asked_conditions, asked_items};
@@ -52,8 +51,7 @@ pub(crate) fn build(
 ) -> Result<FlatModel, FlatFault>
     requires scope { IsAnyScope scope.now }
     requires accepted { IsAccepted (program_of scope.now.scene) }
-    requires variables { AreVariables variables }
-    requires declared { AreDeclared (program_of scope.now.scene) variables }
+    requires variables { AreVariablesOf (program_of scope.now.scene) variables }
     ensures closed { IfOk result IsClosedModel }
     ensures flat { IfOk result (λ model. IsFlatOf (program_of scope.now.scene) (model_tree model)) }
     ensures want { IfErr result IsWant }

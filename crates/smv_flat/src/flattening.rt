@@ -16,9 +16,7 @@ ghost use Rattle.std.specs.Prelude.{Some};
 ghost use Rattle.smv_flat_laws.specs.Rules.{IsAccepted};
 ghost use Rattle.smv_flat_laws.specs.Model.{IsFlatOf};
 ghost use Rattle.smv_scope.specs.SceneTree.{module_from, program_of};
-ghost use Rattle.smv_scope.specs.ClosedModels.{AreVariables};
-ghost use Rattle.smv_scope.specs.WalkFindings.{AreDeclared};
-ghost use Rattle.smv_flat.specs.ScopeOf.{IsScopeOf, IsAnyScope};
+ghost use Rattle.smv_flat.specs.ScopeOf.{IsScopeOf, IsAnyScope, AreVariablesOf};
 ghost use Rattle.smv_flat.specs.ResolvedAt.{ResolvesAt, HasNoNextAt, KeepsAt, TellsAt};
 ghost use Rattle.smv_language.specs.Flat.{FlatModel as ModelTree};
 ghost use Rattle.smv_flat_laws.specs.Looks.{ActualsMean};
@@ -79,8 +77,7 @@ impl<'a> Scope<'a> {
 /// The scope of a program, and its variables.
 fn scope_of<'a>(alloc: Global, p: &'a Program) -> Result<(Scope<'a>, VariableList), FlatFault>
     ensures scope { IfOk result (λ made. IsScopeOf (program_tree p.now) made.0) }
-    ensures variables { IfOk result (λ made. AreVariables made.1) }
-    ensures declared { IfOk result (λ made. AreDeclared (program_tree p.now) made.1) }
+    ensures variables { IfOk result (λ made. AreVariablesOf (program_tree p.now) made.1) }
     ensures fault { IfErr result (IsFaultOf (program_tree p.now)) }
     ensures no_main { find_module (program_tree p.now) (codes "main") ≡ None → IsErrOf result (record { rule = NoMain; item = 0 }) }
 {
@@ -102,8 +99,7 @@ fn scope_from<'a>(
 ) -> Result<(Scope<'a>, VariableList), FlatFault>
     requires main { module_from 0 (program_tree p.now) (codes "main") ≡ Some main }
     ensures scope { IfOk result (λ made. IsScopeOf (program_tree p.now) made.0) }
-    ensures variables { IfOk result (λ made. AreVariables made.1) }
-    ensures declared { IfOk result (λ made. AreDeclared (program_tree p.now) made.1) }
+    ensures variables { IfOk result (λ made. AreVariablesOf (program_tree p.now) made.1) }
     ensures fault { IfErr result (IsFaultOf (program_tree p.now)) }
 {
     let modules = Modules::read(alloc, p, main)?;
@@ -140,8 +136,7 @@ fn model_of(
     variables: VariableList,
 ) -> Result<FlatModel, FlatFault>
     requires scope { IsAnyScope scope.now }
-    requires variables { AreVariables variables }
-    requires declared { AreDeclared (program_of scope.now.scene) variables }
+    requires variables { AreVariablesOf (program_of scope.now.scene) variables }
     ensures closed { IfOk result IsClosedModel }
     ensures accepted { IfOk result (λ m. IsAccepted (program_of scope.now.scene)) }
     ensures flat { IfOk result (λ m. IsFlatOf (program_of scope.now.scene) (model_tree m)) }
