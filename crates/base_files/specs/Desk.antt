@@ -4,6 +4,38 @@ use Rattle.std.specs.Option.{option_map}
 use Rattle.base_files.specs.declared.files.NamedFile.{NamedFile}
 use Rattle.base_files.specs.Files.{file_of, content_of, with_file}
 
+-- what a desk tells: its files and what was said, where it tells them; how often a call has failed, up to the end of a 64-bit number;
+-- and that no call fails from here on
+pub record Told : Type 1 where
+  pub files : Option (List NamedFile)
+  pub said : Option (List ℕ)
+  pub faults : ℕ
+  pub quiet : Type 0
+
+-- what calls that only read leave of it: files and what was said; and where no call fails any more, none has failed
+pub record OnlyReads (old new : Told) : Type 0 where
+  pub files : new.files ≡ old.files
+  pub said : new.said ≡ old.said
+  pub later : old.faults ≤ new.faults
+  pub quiet : old.quiet → new.quiet × (new.faults ≡ old.faults)
+
+-- what calls leave that write to files and say nothing
+pub record OnlyWrites (old new : Told) : Type 0 where
+  pub said : new.said ≡ old.said
+  pub later : old.faults ≤ new.faults
+  pub quiet : old.quiet → new.quiet × (new.faults ≡ old.faults)
+
+-- what calls leave that say something and write to no file
+pub record OnlySays (old new : Told) : Type 0 where
+  pub files : new.files ≡ old.files
+  pub later : old.faults ≤ new.faults
+  pub quiet : old.quiet → new.quiet × (new.faults ≡ old.faults)
+
+-- what calls of any kind leave: it tells of no fewer failures than before, and where no call fails any more, of no more
+pub record IsLater (old new : Told) : Type 0 where
+  pub later : old.faults ≤ new.faults
+  pub quiet : old.quiet → new.quiet × (new.faults ≡ old.faults)
+
 -- the count rose, or stands at the end of its type
 abbrev pub Rose : ℕ → ℕ → Type 0
 Rose before now = min (before + 1) (2 ^ 64 - 1) ≤ now

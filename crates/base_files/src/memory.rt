@@ -88,13 +88,7 @@ impl MemoryDesk {
 // Each call counts itself first, and fails exactly where a `Fail` names it. A call that finds no memory
 // is counted as a call and not as a failure, and leaves the files and the text as they were.
 impl Desk for MemoryDesk {
-    ghost files = { λ desk. Some desk.files };
-
-    ghost said = { λ desk. Some desk.said };
-
-    ghost faults = { λ desk. desk.faults };
-
-    ghost quiet = { λ desk. desk.fails ≡ [] };
+    ghost told = { λ desk. record { files = Some desk.files; said = Some desk.said; faults = desk.faults; quiet = desk.fails ≡ [] } };
 
     fn read(&mut self, name: &str, at: u64, into: &mut [u8]) -> Result<usize, ReadStop>
         // It fails exactly where a `Fail` names it, and takes no memory.

@@ -2,9 +2,9 @@
 //!
 //! A call of a desk moves as much as it likes, so each of these repeats it until all is read, written or said, and stops at
 //! the first call that failed.
-ghost use Rattle.std.specs.Prelude.{◌≡◌, ◌<◌, ◌≤◌, Some, length, IfOk, OnOk, OnErr, IfSome, IsErrOf};
+ghost use Rattle.std.specs.Prelude.{◌≡◌, ◌<◌, Some, length, IfOk, OnOk, OnErr, IfSome, IsErrOf};
 ghost use Rattle.base_files.specs.Files.{file_of, content_of};
-ghost use Rattle.base_files.specs.Desk.{Rose, HasNoFile, told_with, WritesPrefix, said_more, SaysPrefix};
+ghost use Rattle.base_files.specs.Desk.{OnlyReads, OnlyWrites, OnlySays, Rose, HasNoFile, told_with, WritesPrefix, said_more, SaysPrefix};
 ghost use Rattle.base_files.specs.Whole.{fault_of};
 ghost use Rattle.base_files.specs.declared.whole.DeskFault.TheVariants as fault;
 
@@ -59,17 +59,13 @@ pub fn read_whole<D: Desk>(
     name: &str,
     limit: u64,
 ) -> Result<Vec<u8>, DeskFault>
-    ensures whole { IfOk result (λ bytes. IfSome (D.files desk.old) (λ files. file_of files name.now ≡ Some bytes.items)) }
+    ensures whole { IfOk result (λ bytes. IfSome (D.told desk.old).files (λ files. file_of files name.now ≡ Some bytes.items)) }
     ensures short { IfOk result (λ bytes. length bytes.items ≤ limit) }
     ensures too_long { IsErrOf result DeskFault.TooLong →
-        IfSome (D.files desk.old) (λ files. limit < length (content_of files name.now)) }
-    ensures absent { IsErrOf result DeskFault.Absent → HasNoFile (D.files desk.old) name.now }
-    ensures failed { IsErrOf result DeskFault.Failed → Rose (D.faults desk.old) (D.faults desk.new) }
-
-    ensures files { D.files desk.new ≡ D.files desk.old }
-    ensures said { D.said desk.new ≡ D.said desk.old }
-    ensures later { D.faults desk.old ≤ D.faults desk.new }
-    ensures quiet { D.quiet desk.old → D.quiet desk.new × (D.faults desk.new ≡ D.faults desk.old) }
+        IfSome (D.told desk.old).files (λ files. limit < length (content_of files name.now)) }
+    ensures absent { IsErrOf result DeskFault.Absent → HasNoFile (D.told desk.old).files name.now }
+    ensures failed { IsErrOf result DeskFault.Failed → Rose (D.told desk.old).faults (D.told desk.new).faults }
+    ensures stays { OnlyReads (D.told desk.old) (D.told desk.new) }
 {
     let mut bytes = Vec::new(alloc);
     let mut buffer = [0u8; READ_PIECE];
@@ -89,12 +85,10 @@ pub fn read_whole<D: Desk>(
 /// Writes the whole file: one start, then appends of pieces of at most 65,536 bytes in order. After a
 /// refusal the file is as before or holds a prefix of the bytes; all else stays.
 pub fn write_whole<D: Desk>(desk: &mut D, name: &str, bytes: &[u8]) -> Result<(), WriteStop>
-    ensures ok { OnOk result (D.files desk.new ≡ told_with (D.files desk.old) name.now bytes.now) }
-    ensures err { OnErr result (WritesPrefix (D.files desk.old) (D.files desk.new) name.now bytes.now) }
-    ensures said { D.said desk.new ≡ D.said desk.old }
-    ensures later { D.faults desk.old ≤ D.faults desk.new }
-    ensures failed { IsErrOf result WriteStop.Failed → Rose (D.faults desk.old) (D.faults desk.new) }
-    ensures quiet { D.quiet desk.old → D.quiet desk.new × (D.faults desk.new ≡ D.faults desk.old) }
+    ensures ok { OnOk result ((D.told desk.new).files ≡ told_with (D.told desk.old).files name.now bytes.now) }
+    ensures err { OnErr result (WritesPrefix (D.told desk.old).files (D.told desk.new).files name.now bytes.now) }
+    ensures failed { IsErrOf result WriteStop.Failed → Rose (D.told desk.old).faults (D.told desk.new).faults }
+    ensures stays { OnlyWrites (D.told desk.old) (D.told desk.new) }
 {
     desk.start(name)?;
     let mut rest = bytes;
@@ -109,12 +103,10 @@ pub fn write_whole<D: Desk>(desk: &mut D, name: &str, bytes: &[u8]) -> Result<()
 /// Says all of the bytes in pieces of at most 65,536, in order. After a refusal a prefix was said; all
 /// else stays.
 pub fn say_whole<D: Desk>(desk: &mut D, bytes: &[u8]) -> Result<(), WriteStop>
-    ensures ok { OnOk result (D.said desk.new ≡ said_more (D.said desk.old) bytes.now) }
-    ensures err { OnErr result (SaysPrefix (D.said desk.old) (D.said desk.new) bytes.now) }
-    ensures files { D.files desk.new ≡ D.files desk.old }
-    ensures later { D.faults desk.old ≤ D.faults desk.new }
-    ensures failed { IsErrOf result WriteStop.Failed → Rose (D.faults desk.old) (D.faults desk.new) }
-    ensures quiet { D.quiet desk.old → D.quiet desk.new × (D.faults desk.new ≡ D.faults desk.old) }
+    ensures ok { OnOk result ((D.told desk.new).said ≡ said_more (D.told desk.old).said bytes.now) }
+    ensures err { OnErr result (SaysPrefix (D.told desk.old).said (D.told desk.new).said bytes.now) }
+    ensures failed { IsErrOf result WriteStop.Failed → Rose (D.told desk.old).faults (D.told desk.new).faults }
+    ensures stays { OnlySays (D.told desk.old) (D.told desk.new) }
 {
     let mut rest = bytes;
     while !rest.is_empty() {

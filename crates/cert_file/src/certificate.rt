@@ -2,7 +2,7 @@
 //!
 //! The main function is [`load_certificate`]: it reads the file through the desk, and its bytes by `cert_text`.
 ghost use Rattle.std.specs.Prelude.{◌≡◌, ◌≤◌, ◌++◌, codes, length, IfOk, IfSome, IsErrOf};
-ghost use Rattle.base_files.specs.Desk.{Rose};
+ghost use Rattle.base_files.specs.Desk.{OnlyReads, Rose};
 ghost use Rattle.cert_text.specs.CertificateView.{seen};
 ghost use Rattle.cert_check.specs.Fit.{IsCheckable};
 ghost use Rattle.cut_text_laws.specs.AnalysisText.{size_line};
@@ -31,15 +31,12 @@ pub fn load_certificate<D: Desk>(
     desk: &mut D,
     name: &str,
 ) -> Result<Certificate, Stop>
-    ensures ok { IfOk result (λ a. IfSome (D.files desk.old) (λ files. HoldsCertificate files name.now (seen a))) }
+    ensures ok { IfOk result (λ a. IfSome (D.told desk.old).files (λ files. HoldsCertificate files name.now (seen a))) }
     ensures checkable { IfOk result (λ a. IsCheckable (seen a)) }
     ensures refused { (r : Refusal) → IsErrOf result (stop.Refused r) →
-        IfSome (D.files desk.old) (λ files. RefusesCertificate files name.now r) }
-    ensures failed { IsErrOf result stop.Desk → Rose (D.faults desk.old) (D.faults desk.new) }
-    ensures files { D.files desk.new ≡ D.files desk.old }
-    ensures said { D.said desk.new ≡ D.said desk.old }
-    ensures later { D.faults desk.old ≤ D.faults desk.new }
-    ensures quiet { D.quiet desk.old → D.quiet desk.new × (D.faults desk.new ≡ D.faults desk.old) }
+        IfSome (D.told desk.old).files (λ files. RefusesCertificate files name.now r) }
+    ensures failed { IsErrOf result stop.Desk → Rose (D.told desk.old).faults (D.told desk.new).faults }
+    ensures stays { OnlyReads (D.told desk.old) (D.told desk.new) }
 {
     let bytes = read_certificate_file(alloc, desk, name)?;
     // The law by which what is read can be judged.
@@ -54,16 +51,13 @@ pub fn load_certificate<D: Desk>(
 
 /// The bytes of the file of a certificate.
 fn read_certificate_file<D: Desk>(alloc: Global, desk: &mut D, name: &str) -> Result<Vec<u8>, Stop>
-    ensures bytes { IfOk result (λ bytes. IfSome (D.files desk.old) (λ files. HasAtMost 268435456 files name.now bytes.items)) }
+    ensures bytes { IfOk result (λ bytes. IfSome (D.told desk.old).files (λ files. HasAtMost 268435456 files name.now bytes.items)) }
     ensures short { IfOk result (λ bytes. length bytes.items ≤ 268435456) }
     ensures refused { (r : Refusal) → IsErrOf result (stop.Refused r) →
         (fault : InputFault) × (r ≡ refusal.NotAccepted (objection.Cert fault))
-        × IfSome (D.files desk.old) (λ files. IsRefusedAbove 268435456 files name.now fault) }
-    ensures failed { IsErrOf result stop.Desk → Rose (D.faults desk.old) (D.faults desk.new) }
-    ensures files { D.files desk.new ≡ D.files desk.old }
-    ensures said { D.said desk.new ≡ D.said desk.old }
-    ensures later { D.faults desk.old ≤ D.faults desk.new }
-    ensures quiet { D.quiet desk.old → D.quiet desk.new × (D.faults desk.new ≡ D.faults desk.old) }
+        × IfSome (D.told desk.old).files (λ files. IsRefusedAbove 268435456 files name.now fault) }
+    ensures failed { IsErrOf result stop.Desk → Rose (D.told desk.old).faults (D.told desk.new).faults }
+    ensures stays { OnlyReads (D.told desk.old) (D.told desk.new) }
 {
     match read_whole(alloc, desk, name, CERT_LIMIT) {
         Ok(bytes) => Ok(bytes),

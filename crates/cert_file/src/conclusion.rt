@@ -2,7 +2,7 @@
 //!
 //! The main function is [`conclude`], which all verbs that search for one top event end with.
 ghost use Rattle.std.specs.Prelude.{◌≡◌, ◌≤◌, OnOk, OnErr, IsErrOf};
-ghost use Rattle.base_files.specs.Desk.{Rose, said_more};
+ghost use Rattle.base_files.specs.Desk.{OnlyWrites, IsLater, Rose, said_more};
 ghost use Rattle.base_files.specs.declared.desk.WriteStop.TheVariants as write_stop;
 ghost use Rattle.verb_loading.specs.CaseAnswers.{told_maybe, WritesPrefixMaybe};
 ghost use Rattle.cert_file.specs.Conclusions.{ConcludesInPart};
@@ -20,12 +20,11 @@ pub struct Conclusion {
 
 /// Writes the certificate, where there is one, and says the report.
 pub fn conclude<D: Desk>(desk: &mut D, name: &str, found: &Conclusion) -> Result<(), WriteStop>
-    ensures ok { OnOk result ((D.files desk.new ≡ told_maybe (D.files desk.old) name.now found.now.cert)
-        × (D.said desk.new ≡ said_more (D.said desk.old) found.now.report)) }
-    ensures part { ConcludesInPart name.now found.now (D.files desk.old) (D.files desk.new) (D.said desk.old) (D.said desk.new) }
-    ensures later { D.faults desk.old ≤ D.faults desk.new }
-    ensures failed { IsErrOf result write_stop.Failed → Rose (D.faults desk.old) (D.faults desk.new) }
-    ensures quiet { D.quiet desk.old → D.quiet desk.new × (D.faults desk.new ≡ D.faults desk.old) }
+    ensures ok { OnOk result (((D.told desk.new).files ≡ told_maybe (D.told desk.old).files name.now found.now.cert)
+        × ((D.told desk.new).said ≡ said_more (D.told desk.old).said found.now.report)) }
+    ensures part { ConcludesInPart name.now found.now (D.told desk.old).files (D.told desk.new).files (D.told desk.old).said (D.told desk.new).said }
+    ensures failed { IsErrOf result write_stop.Failed → Rose (D.told desk.old).faults (D.told desk.new).faults }
+    ensures stays { IsLater (D.told desk.old) (D.told desk.new) }
 {
     write_maybe(desk, name, &found.cert)?;
     say_whole(desk, found.report.as_slice())
@@ -33,12 +32,10 @@ pub fn conclude<D: Desk>(desk: &mut D, name: &str, found: &Conclusion) -> Result
 
 /// Writes the text, where there is one.
 fn write_maybe<D: Desk>(desk: &mut D, name: &str, text: &Option<ByteList>) -> Result<(), WriteStop>
-    ensures ok { OnOk result (D.files desk.new ≡ told_maybe (D.files desk.old) name.now text.now) }
-    ensures err { OnErr result (WritesPrefixMaybe (D.files desk.old) (D.files desk.new) name.now text.now) }
-    ensures said { D.said desk.new ≡ D.said desk.old }
-    ensures later { D.faults desk.old ≤ D.faults desk.new }
-    ensures failed { IsErrOf result write_stop.Failed → Rose (D.faults desk.old) (D.faults desk.new) }
-    ensures quiet { D.quiet desk.old → D.quiet desk.new × (D.faults desk.new ≡ D.faults desk.old) }
+    ensures ok { OnOk result ((D.told desk.new).files ≡ told_maybe (D.told desk.old).files name.now text.now) }
+    ensures err { OnErr result (WritesPrefixMaybe (D.told desk.old).files (D.told desk.new).files name.now text.now) }
+    ensures failed { IsErrOf result write_stop.Failed → Rose (D.told desk.old).faults (D.told desk.new).faults }
+    ensures stays { OnlyWrites (D.told desk.old) (D.told desk.new) }
 {
     match text {
         Some(bytes) => write_whole(desk, name, bytes.as_slice()),

@@ -2,7 +2,7 @@
 //!
 //! The main functions are [`find_causes`] and [`check_causes`], one for each verb. What both load stands in `staged`.
 ghost use Rattle.std.specs.Prelude.{◌≡◌, ◌<◌, ◌≤◌, ◌^◌, ℕ, length, map, IfOk, IsOk, OnOk, IfSome, IsErrOf};
-ghost use Rattle.base_files.specs.Desk.{Rose};
+ghost use Rattle.base_files.specs.Desk.{OnlyReads, OnlySays, IsLater, Rose};
 ghost use Rattle.smv_language.specs.ModelTree.{flat_tree};
 ghost use Rattle.cert_text.specs.CertificateView.{seen};
 ghost use Rattle.cert_check.specs.Fit.{IsCheckable};
@@ -47,23 +47,22 @@ pub fn find_causes<D: Desk>(
     panel: &mut Panel,
 ) -> Result<Status, Stop>
     requires { asked.now.depth ≤ 1000000000 }
-    ensures ok { IfOk result (λ s. IfSome (D.files desk.old) (λ files.
+    ensures ok { IfOk result (λ s. IfSome (D.told desk.old).files (λ files.
         HasFoundCauses files asked.now.model.now asked.now.faults.now asked.now.causes.now asked.now.top.now asked.now.cert.now
         asked.now.depth s
-        (D.files desk.old) (D.files desk.new) (D.said desk.old) (D.said desk.new))) }
+        (D.told desk.old).files (D.told desk.new).files (D.told desk.old).said (D.told desk.new).said)) }
     ensures finished { IfOk result IsFinished }
     ensures depth { IfOk result (IsBoundedAt asked.now.depth) }
     ensures refused { (r : Refusal) → IsErrOf result (stop.Refused r) →
-        IfSome (D.files desk.old)
+        IfSome (D.told desk.old).files
         (λ files. RefusesStaged files asked.now.model.now asked.now.faults.now asked.now.causes.now asked.now.top.now r) }
     ensures untouched { (r : Refusal) → IsErrOf result (stop.Refused r) →
-        (D.files desk.new ≡ D.files desk.old) × (D.said desk.new ≡ D.said desk.old) }
+        ((D.told desk.new).files ≡ (D.told desk.old).files) × ((D.told desk.new).said ≡ (D.told desk.old).said) }
     ensures left { LeavesCauses asked.now.model.now asked.now.faults.now asked.now.causes.now asked.now.top.now asked.now.cert.now
         asked.now.depth
-        (D.files desk.old) (D.files desk.new) (D.said desk.old) (D.said desk.new) }
-    ensures failed { IsErrOf result stop.Desk → Rose (D.faults desk.old) (D.faults desk.new) }
-    ensures later { D.faults desk.old ≤ D.faults desk.new }
-    ensures quiet { D.quiet desk.old → D.quiet desk.new × (D.faults desk.new ≡ D.faults desk.old) }
+        (D.told desk.old).files (D.told desk.new).files (D.told desk.old).said (D.told desk.new).said }
+    ensures failed { IsErrOf result stop.Desk → Rose (D.told desk.old).faults (D.told desk.new).faults }
+    ensures stays { IsLater (D.told desk.old) (D.told desk.new) }
 {
     let found = prepare_causes(alloc, desk, asked, panel)?;
     conclude(desk, asked.cert, &found)?;
@@ -76,23 +75,21 @@ pub fn check_causes<D: Desk>(
     desk: &mut D,
     asked: &CheckCauses,
 ) -> Result<Status, Stop>
-    ensures ok { IfOk result (λ s. IfSome (D.files desk.old) (λ files.
+    ensures ok { IfOk result (λ s. IfSome (D.told desk.old).files (λ files.
         HasCheckedCauses files asked.now.model.now asked.now.faults.now asked.now.causes.now asked.now.top.now asked.now.cert.now
-        (D.said desk.old) (D.said desk.new))) }
+        (D.told desk.old).said (D.told desk.new).said)) }
     ensures ends { IfOk result (λ s. s ≡ Status.Done) }
     ensures finished { IfOk result IsFinished }
     ensures refused { (r : Refusal) → IsErrOf result (stop.Refused r) →
-        IfSome (D.files desk.old)
+        IfSome (D.told desk.old).files
         (λ files. RefusesCauseCheck files asked.now.model.now asked.now.faults.now asked.now.causes.now asked.now.top.now
         asked.now.cert.now r) }
     ensures untouched { (r : Refusal) → IsErrOf result (stop.Refused r) →
-        (D.files desk.new ≡ D.files desk.old) × (D.said desk.new ≡ D.said desk.old) }
+        ((D.told desk.new).files ≡ (D.told desk.old).files) × ((D.told desk.new).said ≡ (D.told desk.old).said) }
     ensures left { LeavesCheck asked.now.model.now asked.now.faults.now asked.now.causes.now asked.now.top.now asked.now.cert.now
-        (D.files desk.old) (D.said desk.old) (D.said desk.new) }
-    ensures failed { IsErrOf result stop.Desk → Rose (D.faults desk.old) (D.faults desk.new) }
-    ensures files { D.files desk.new ≡ D.files desk.old }
-    ensures later { D.faults desk.old ≤ D.faults desk.new }
-    ensures quiet { D.quiet desk.old → D.quiet desk.new × (D.faults desk.new ≡ D.faults desk.old) }
+        (D.told desk.old).files (D.told desk.old).said (D.told desk.new).said }
+    ensures failed { IsErrOf result stop.Desk → Rose (D.told desk.old).faults (D.told desk.new).faults }
+    ensures stays { OnlySays (D.told desk.old) (D.told desk.new) }
 {
     let report = prepare_check(alloc, desk, asked)?;
     say_whole(desk, report.as_slice())?;
@@ -106,17 +103,14 @@ fn prepare_causes<D: Desk>(
     asked: &FindCauses,
     panel: &mut Panel,
 ) -> Result<Conclusion, Stop>
-    ensures ok { IfOk result (λ found. IfSome (D.files desk.old) (λ files.
+    ensures ok { IfOk result (λ found. IfSome (D.told desk.old).files (λ files.
         FindsCauses files asked.now.model.now asked.now.faults.now asked.now.causes.now asked.now.top.now asked.now.depth found)) }
     ensures depth { IfOk result (λ found. IsBoundedAt asked.now.depth (ended_with (told_ending found.ending))) }
     ensures refused { (r : Refusal) → IsErrOf result (stop.Refused r) →
-        IfSome (D.files desk.old)
+        IfSome (D.told desk.old).files
         (λ files. RefusesStaged files asked.now.model.now asked.now.faults.now asked.now.causes.now asked.now.top.now r) }
-    ensures failed { IsErrOf result stop.Desk → Rose (D.faults desk.old) (D.faults desk.new) }
-    ensures files { D.files desk.new ≡ D.files desk.old }
-    ensures said { D.said desk.new ≡ D.said desk.old }
-    ensures later { D.faults desk.old ≤ D.faults desk.new }
-    ensures quiet { D.quiet desk.old → D.quiet desk.new × (D.faults desk.new ≡ D.faults desk.old) }
+    ensures failed { IsErrOf result stop.Desk → Rose (D.told desk.old).faults (D.told desk.new).faults }
+    ensures stays { OnlyReads (D.told desk.old) (D.told desk.new) }
 {
     let staged = load_staged(
         alloc,
@@ -140,17 +134,14 @@ fn prepare_check<D: Desk>(
     desk: &mut D,
     asked: &CheckCauses,
 ) -> Result<ByteList, Stop>
-    ensures ok { IfOk result (λ report. IfSome (D.files desk.old) (λ files.
+    ensures ok { IfOk result (λ report. IfSome (D.told desk.old).files (λ files.
         AcceptsCauses files asked.now.model.now asked.now.faults.now asked.now.causes.now asked.now.top.now asked.now.cert.now report)) }
     ensures refused { (r : Refusal) → IsErrOf result (stop.Refused r) →
-        IfSome (D.files desk.old)
+        IfSome (D.told desk.old).files
         (λ files. RefusesCauseCheck files asked.now.model.now asked.now.faults.now asked.now.causes.now asked.now.top.now
         asked.now.cert.now r) }
-    ensures failed { IsErrOf result stop.Desk → Rose (D.faults desk.old) (D.faults desk.new) }
-    ensures files { D.files desk.new ≡ D.files desk.old }
-    ensures said { D.said desk.new ≡ D.said desk.old }
-    ensures later { D.faults desk.old ≤ D.faults desk.new }
-    ensures quiet { D.quiet desk.old → D.quiet desk.new × (D.faults desk.new ≡ D.faults desk.old) }
+    ensures failed { IsErrOf result stop.Desk → Rose (D.told desk.old).faults (D.told desk.new).faults }
+    ensures stays { OnlyReads (D.told desk.old) (D.told desk.new) }
 {
     let staged = load_staged(
         alloc,
@@ -173,15 +164,12 @@ fn judge_file<D: Desk>(
     name: &str,
 ) -> Result<ByteList, Stop>
     requires { IsStagedEvent staged.now }
-    ensures ok { IfOk result (λ report. IfSome (D.files desk.old) (λ files. AcceptsStaged files staged.now name.now report)) }
+    ensures ok { IfOk result (λ report. IfSome (D.told desk.old).files (λ files. AcceptsStaged files staged.now name.now report)) }
     ensures refused { (r : Refusal) → IsErrOf result (stop.Refused r) →
-        IfSome (D.files desk.old)
+        IfSome (D.told desk.old).files
         (λ files. RefusesJudged files (staged_in staged.now) (events_in staged.now) (flat_tree staged.now.loaded.top) name.now r) }
-    ensures failed { IsErrOf result stop.Desk → Rose (D.faults desk.old) (D.faults desk.new) }
-    ensures files { D.files desk.new ≡ D.files desk.old }
-    ensures said { D.said desk.new ≡ D.said desk.old }
-    ensures later { D.faults desk.old ≤ D.faults desk.new }
-    ensures quiet { D.quiet desk.old → D.quiet desk.new × (D.faults desk.new ≡ D.faults desk.old) }
+    ensures failed { IsErrOf result stop.Desk → Rose (D.told desk.old).faults (D.told desk.new).faults }
+    ensures stays { OnlyReads (D.told desk.old) (D.told desk.new) }
 {
     let certificate = load_certificate(alloc, desk, name)?;
     judge(alloc, staged, &certificate)?;

@@ -2,7 +2,7 @@
 //!
 //! The main function is [`load_staged`]: the model and the instructions are read first, then the causes, and the top event last.
 ghost use Rattle.std.specs.Prelude.{◌≡◌, ◌≤◌, List, ℕ, length, map, IfOk, IfErr, IfSome, IsErrOf};
-ghost use Rattle.base_files.specs.Desk.{Rose};
+ghost use Rattle.base_files.specs.Desk.{OnlyReads, Rose};
 ghost use Rattle.fault_staging.specs.CauseOf.{cause_of};
 ghost use Rattle.verb_loading.specs.Cases.{HoldsCase};
 ghost use Rattle.verb_loading.specs.Tasks.{HasAtMost};
@@ -81,18 +81,15 @@ pub(crate) fn load_staged<'a, D: Desk>(
     causes: &str,
     word: &'a str,
 ) -> Result<StagedEvent<'a>, Stop>
-    ensures case { IfOk result (λ l. IfSome (D.files desk.old) (λ files. HoldsCase files model.now faults.now (case_in l.loaded))) }
+    ensures case { IfOk result (λ l. IfSome (D.told desk.old).files (λ files. HoldsCase files model.now faults.now (case_in l.loaded))) }
     ensures causes { IfOk result
-        (λ l. IfSome (D.files desk.old) (λ files. HasCauses files causes.now (case_in l.loaded) (map cause_of l.causes))) }
+        (λ l. IfSome (D.told desk.old).files (λ files. HasCauses files causes.now (case_in l.loaded) (map cause_of l.causes))) }
     ensures asked { IfOk result (λ l. l.word.now ≡ word.now) }
     ensures staged { IfOk result IsStagedEvent }
     ensures refused { (r : Refusal) → IsErrOf result (stop.Refused r) →
-        IfSome (D.files desk.old) (λ files. RefusesStaged files model.now faults.now causes.now word.now r) }
-    ensures failed { IsErrOf result stop.Desk → Rose (D.faults desk.old) (D.faults desk.new) }
-    ensures files { D.files desk.new ≡ D.files desk.old }
-    ensures said { D.said desk.new ≡ D.said desk.old }
-    ensures later { D.faults desk.old ≤ D.faults desk.new }
-    ensures quiet { D.quiet desk.old → D.quiet desk.new × (D.faults desk.new ≡ D.faults desk.old) }
+        IfSome (D.told desk.old).files (λ files. RefusesStaged files model.now faults.now causes.now word.now r) }
+    ensures failed { IsErrOf result stop.Desk → Rose (D.told desk.old).faults (D.told desk.new).faults }
+    ensures stays { OnlyReads (D.told desk.old) (D.told desk.new) }
 {
     let model = load_model(alloc, desk, model)?;
     let case = load_case(alloc, desk, faults, &model)?;
@@ -128,18 +125,15 @@ fn load_causes_and_top<D: Desk>(
 ) -> Result<StagedTop, Stop>
     requires lawful { IsLawful (program_tree model.now.program) (model_tree model.now.typed.model) }
     requires loaded { IsLoaded (program_tree model.now.program) case.now }
-    ensures causes { IfOk result (λ l. IfSome (D.files desk.old) (λ files.
+    ensures causes { IfOk result (λ l. IfSome (D.told desk.old).files (λ files.
         HoldsCauses files name.now (faults_in case.now) (extension_in case.now) (map cause_of l.staged.causes))) }
     ensures staged { IfOk result (λ l. IsStagedCase case.now l.staged) }
     ensures top { IfOk result (λ l. IsTopIn (case_of (program_tree model.now.program) case.now) word.now (flat_tree l.top)) }
     ensures refused { (r : Refusal) → IsErrOf result (stop.Refused r) → (of_model : Text) → (of_faults : Text) →
-        IfSome (D.files desk.old) (λ files. HoldsCase files of_model of_faults (case_of (program_tree model.now.program) case.now)) →
-        IfSome (D.files desk.old) (λ files. RefusesStaged files of_model of_faults name.now word.now r) }
-    ensures failed { IsErrOf result stop.Desk → Rose (D.faults desk.old) (D.faults desk.new) }
-    ensures files { D.files desk.new ≡ D.files desk.old }
-    ensures said { D.said desk.new ≡ D.said desk.old }
-    ensures later { D.faults desk.old ≤ D.faults desk.new }
-    ensures quiet { D.quiet desk.old → D.quiet desk.new × (D.faults desk.new ≡ D.faults desk.old) }
+        IfSome (D.told desk.old).files (λ files. HoldsCase files of_model of_faults (case_of (program_tree model.now.program) case.now)) →
+        IfSome (D.told desk.old).files (λ files. RefusesStaged files of_model of_faults name.now word.now r) }
+    ensures failed { IsErrOf result stop.Desk → Rose (D.told desk.old).faults (D.told desk.new).faults }
+    ensures stays { OnlyReads (D.told desk.old) (D.told desk.new) }
 {
     let staged = load_causes(alloc, desk, name, case)?;
     match load_top(alloc, word, model, case) {
@@ -162,18 +156,15 @@ fn load_causes<D: Desk>(
     case: &LoadedCase,
 ) -> Result<CausesCase, Stop>
     requires { IsSomeCase case.now }
-    ensures ok { IfOk result (λ l. IfSome (D.files desk.old) (λ files.
+    ensures ok { IfOk result (λ l. IfSome (D.told desk.old).files (λ files.
         HoldsCauses files name.now (faults_in case.now) (extension_in case.now) (map cause_of l.causes))) }
     ensures staged { IfOk result (IsStagedCase case.now) }
     ensures refused { (r : Refusal) → IsErrOf result (stop.Refused r) →
-        IfSome (D.files desk.old)
+        IfSome (D.told desk.old).files
         (λ files. RefusesCauses files name.now (faults_in case.now) (extension_in case.now) (flat_in case.now) (modes_in case.now)
         r) }
-    ensures failed { IsErrOf result stop.Desk → Rose (D.faults desk.old) (D.faults desk.new) }
-    ensures files { D.files desk.new ≡ D.files desk.old }
-    ensures said { D.said desk.new ≡ D.said desk.old }
-    ensures later { D.faults desk.old ≤ D.faults desk.new }
-    ensures quiet { D.quiet desk.old → D.quiet desk.new × (D.faults desk.new ≡ D.faults desk.old) }
+    ensures failed { IsErrOf result stop.Desk → Rose (D.told desk.old).faults (D.told desk.new).faults }
+    ensures stays { OnlyReads (D.told desk.old) (D.told desk.new) }
 {
     let bytes = read_causes_file(alloc, desk, name)?;
     let causes = causes_of(alloc, &bytes, case)?;
@@ -185,15 +176,12 @@ fn load_causes<D: Desk>(
 
 /// The bytes of a causes file.
 fn read_causes_file<D: Desk>(alloc: Global, desk: &mut D, name: &str) -> Result<Vec<u8>, Stop>
-    ensures bytes { IfOk result (λ bytes. IfSome (D.files desk.old) (λ files. HasAtMost 1048576 files name.now bytes.items)) }
+    ensures bytes { IfOk result (λ bytes. IfSome (D.told desk.old).files (λ files. HasAtMost 1048576 files name.now bytes.items)) }
     ensures short { IfOk result (λ bytes. length bytes.items ≤ 1048576) }
     ensures refused { (r : Refusal) → IsErrOf result (stop.Refused r) →
-        (told : InputFault) × (r ≡ refusal.Causes told) × IfSome (D.files desk.old) (λ files. IsRefusedCausesFile files name.now told) }
-    ensures failed { IsErrOf result stop.Desk → Rose (D.faults desk.old) (D.faults desk.new) }
-    ensures files { D.files desk.new ≡ D.files desk.old }
-    ensures said { D.said desk.new ≡ D.said desk.old }
-    ensures later { D.faults desk.old ≤ D.faults desk.new }
-    ensures quiet { D.quiet desk.old → D.quiet desk.new × (D.faults desk.new ≡ D.faults desk.old) }
+        (told : InputFault) × (r ≡ refusal.Causes told) × IfSome (D.told desk.old).files (λ files. IsRefusedCausesFile files name.now told) }
+    ensures failed { IsErrOf result stop.Desk → Rose (D.told desk.old).faults (D.told desk.new).faults }
+    ensures stays { OnlyReads (D.told desk.old) (D.told desk.new) }
 {
     match read_whole(alloc, desk, name, LIMIT) {
         Ok(bytes) => Ok(bytes),

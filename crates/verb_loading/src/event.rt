@@ -1,7 +1,7 @@
 //! A model, its extension and a top event, as the work on them has them in memory ([`load_event`]): the three loads one
 //! after the other, each with its refusal.
 ghost use Rattle.std.specs.Prelude.{◌≡◌, ◌≤◌, IfOk, IfSome, IsErrOf};
-ghost use Rattle.base_files.specs.Desk.{Rose};
+ghost use Rattle.base_files.specs.Desk.{OnlyReads, Rose};
 ghost use Rattle.verb_loading.specs.Cases.{HoldsCase};
 ghost use Rattle.verb_loading.specs.Events.{RefusesEvent};
 ghost use Rattle.verb_loading.specs.LoadedEvents.{case_in, IsEvent};
@@ -33,15 +33,12 @@ pub fn load_event<D: Desk>(
     faults: &str,
     word: &str,
 ) -> Result<LoadedEvent, Stop>
-    ensures ok { IfOk result (λ l. IfSome (D.files desk.old) (λ files. HoldsCase files model.now faults.now (case_in l))) }
+    ensures ok { IfOk result (λ l. IfSome (D.told desk.old).files (λ files. HoldsCase files model.now faults.now (case_in l))) }
     ensures event { IfOk result (IsEvent word.now) }
     ensures refused { (r : Refusal) → IsErrOf result (stop.Refused r) →
-        IfSome (D.files desk.old) (λ files. RefusesEvent files model.now faults.now word.now r) }
-    ensures failed { IsErrOf result stop.Desk → Rose (D.faults desk.old) (D.faults desk.new) }
-    ensures files { D.files desk.new ≡ D.files desk.old }
-    ensures said { D.said desk.new ≡ D.said desk.old }
-    ensures later { D.faults desk.old ≤ D.faults desk.new }
-    ensures quiet { D.quiet desk.old → D.quiet desk.new × (D.faults desk.new ≡ D.faults desk.old) }
+        IfSome (D.told desk.old).files (λ files. RefusesEvent files model.now faults.now word.now r) }
+    ensures failed { IsErrOf result stop.Desk → Rose (D.told desk.old).faults (D.told desk.new).faults }
+    ensures stays { OnlyReads (D.told desk.old) (D.told desk.new) }
 {
     let model = load_model(alloc, desk, model)?;
     let case = load_case(alloc, desk, faults, &model)?;

@@ -1,7 +1,7 @@
 //! An instruction file as the extension of a model: the text that is written, and what is said ([`load_extension`]). Before
 //! anything is written, the whole is flattened and typed once more, for the limits that neither file passes alone.
 ghost use Rattle.std.specs.Prelude.{◌≡◌, ◌≤◌, ◌++◌, codes, length, map, IfOk, OnOk, IfErr, IfSome, IsErrOf};
-ghost use Rattle.base_files.specs.Desk.{Rose};
+ghost use Rattle.base_files.specs.Desk.{OnlyReads, Rose};
 ghost use Rattle.smv_language.specs.ProgramTree.{program_tree};
 ghost use Rattle.smv_language.specs.ModelTree.{model_tree, name_of_fault};
 ghost use Rattle.smv_flat_laws.specs.Rules.{IsAccepted};
@@ -48,14 +48,11 @@ pub fn load_extension<D: Desk>(
     requires lawful { IsLawful (program_tree model.now.program) (model_tree model.now.typed.model) }
     requires in_var { HasInstancesInVar (program_tree model.now.program) }
     ensures ok { IfOk result
-        (λ made. IfSome (D.files desk.old) (λ files. HoldsExtension files name.now (program_tree model.now.program) made)) }
+        (λ made. IfSome (D.told desk.old).files (λ files. HoldsExtension files name.now (program_tree model.now.program) made)) }
     ensures refused { (r : Refusal) → IsErrOf result (stop.Refused r) →
-        IfSome (D.files desk.old) (λ files. RefusesFaults files name.now (program_tree model.now.program) r) }
-    ensures failed { IsErrOf result stop.Desk → Rose (D.faults desk.old) (D.faults desk.new) }
-    ensures files { D.files desk.new ≡ D.files desk.old }
-    ensures said { D.said desk.new ≡ D.said desk.old }
-    ensures later { D.faults desk.old ≤ D.faults desk.new }
-    ensures quiet { D.quiet desk.old → D.quiet desk.new × (D.faults desk.new ≡ D.faults desk.old) }
+        IfSome (D.told desk.old).files (λ files. RefusesFaults files name.now (program_tree model.now.program) r) }
+    ensures failed { IsErrOf result stop.Desk → Rose (D.told desk.old).faults (D.told desk.new).faults }
+    ensures stays { OnlyReads (D.told desk.old) (D.told desk.new) }
 {
     let bytes = read_input(alloc, desk, Input::Faults, name)?;
     match extension_of(alloc, &bytes, model) {

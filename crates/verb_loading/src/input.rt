@@ -1,7 +1,7 @@
 //! The input files, as bytes ([`read_input`]), and why work stops: a refusal of a file, a call of the desk that failed, or
 //! want of memory ([`Stop`]).
 ghost use Rattle.std.specs.Prelude.{◌≡◌, ◌≤◌, length, IfOk, IfSome, IsErrOf};
-ghost use Rattle.base_files.specs.Desk.{Rose};
+ghost use Rattle.base_files.specs.Desk.{OnlyReads, Rose};
 ghost use Rattle.verb_loading.specs.Inputs.{refusal_at, stop_at, stop_of_write, IsRefusedFile, HasBytes};
 ghost use Rattle.verb_loading.specs.declared.status.InputFault.{InputFault};
 ghost use Rattle.verb_loading.specs.declared.status.Refusal.{Refusal};
@@ -79,15 +79,12 @@ pub(crate) fn read_input<D: Desk>(
     input: Input,
     name: &str,
 ) -> Result<Vec<u8>, Stop>
-    ensures bytes { IfOk result (λ bytes. IfSome (D.files desk.old) (λ files. HasBytes files name.now bytes.items)) }
+    ensures bytes { IfOk result (λ bytes. IfSome (D.told desk.old).files (λ files. HasBytes files name.now bytes.items)) }
     ensures short { IfOk result (λ bytes. length bytes.items ≤ 1048576) }
     ensures refused { (r : Refusal) → IsErrOf result (stop.Refused r) →
-        (fault : InputFault) × (r ≡ refusal_at input fault) × IfSome (D.files desk.old) (λ files. IsRefusedFile files name.now fault) }
-    ensures failed { IsErrOf result stop.Desk → Rose (D.faults desk.old) (D.faults desk.new) }
-    ensures files { D.files desk.new ≡ D.files desk.old }
-    ensures said { D.said desk.new ≡ D.said desk.old }
-    ensures later { D.faults desk.old ≤ D.faults desk.new }
-    ensures quiet { D.quiet desk.old → D.quiet desk.new × (D.faults desk.new ≡ D.faults desk.old) }
+        (fault : InputFault) × (r ≡ refusal_at input fault) × IfSome (D.told desk.old).files (λ files. IsRefusedFile files name.now fault) }
+    ensures failed { IsErrOf result stop.Desk → Rose (D.told desk.old).faults (D.told desk.new).faults }
+    ensures stays { OnlyReads (D.told desk.old) (D.told desk.new) }
 {
     match read_whole(alloc, desk, name, LIMIT) {
         Ok(bytes) => Ok(bytes),

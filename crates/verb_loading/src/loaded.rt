@@ -1,7 +1,7 @@
 //! An instruction file as the extension of a model in memory, with its faults and its flat model ([`load_case`]), for the
 //! work that reads and searches it. The same rules are tried as where an extension is written.
 ghost use Rattle.std.specs.Prelude.{◌≡◌, ◌≤◌, length, map, IfOk, OnOk, IfErr, IfSome, IsErrOf};
-ghost use Rattle.base_files.specs.Desk.{Rose};
+ghost use Rattle.base_files.specs.Desk.{OnlyReads, Rose};
 ghost use Rattle.smv_language.specs.ProgramTree.{program_tree};
 ghost use Rattle.smv_language.specs.ModelTree.{model_tree};
 ghost use Rattle.fault_extend.specs.InstanceLaws.{HasInstancesInVar};
@@ -56,15 +56,12 @@ pub fn load_case<D: Desk>(
     requires lawful { IsLawful (program_tree model.now.program) (model_tree model.now.typed.model) }
     requires in_var { HasInstancesInVar (program_tree model.now.program) }
     requires spelled { IsSpelled (program_tree model.now.program) }
-    ensures ok { IfOk result (λ l. IfSome (D.files desk.old) (λ files. HoldsLoaded files name.now (program_tree model.now.program) l)) }
+    ensures ok { IfOk result (λ l. IfSome (D.told desk.old).files (λ files. HoldsLoaded files name.now (program_tree model.now.program) l)) }
     ensures loaded { IfOk result (IsLoaded (program_tree model.now.program)) }
     ensures refused { (r : Refusal) → IsErrOf result (stop.Refused r) →
-        IfSome (D.files desk.old) (λ files. RefusesFaults files name.now (program_tree model.now.program) r) }
-    ensures failed { IsErrOf result stop.Desk → Rose (D.faults desk.old) (D.faults desk.new) }
-    ensures files { D.files desk.new ≡ D.files desk.old }
-    ensures said { D.said desk.new ≡ D.said desk.old }
-    ensures later { D.faults desk.old ≤ D.faults desk.new }
-    ensures quiet { D.quiet desk.old → D.quiet desk.new × (D.faults desk.new ≡ D.faults desk.old) }
+        IfSome (D.told desk.old).files (λ files. RefusesFaults files name.now (program_tree model.now.program) r) }
+    ensures failed { IsErrOf result stop.Desk → Rose (D.told desk.old).faults (D.told desk.new).faults }
+    ensures stays { OnlyReads (D.told desk.old) (D.told desk.new) }
 {
     let bytes = read_input(alloc, desk, Input::Faults, name)?;
     match case_of(alloc, &bytes, model) {

@@ -1,7 +1,7 @@
 //! A model file as a program, and that as a flat model with its kinds ([`load_model`]). The first reader or layer that
 //! refuses it is told.
 ghost use Rattle.std.specs.Prelude.{◌≡◌, ◌≤◌, length, IfOk, IfErr, IfSome, IsErrOf};
-ghost use Rattle.base_files.specs.Desk.{Rose};
+ghost use Rattle.base_files.specs.Desk.{OnlyReads, Rose};
 ghost use Rattle.smv_language.specs.ProgramTree.{program_tree};
 ghost use Rattle.smv_language.specs.ModelTree.{model_tree};
 ghost use Rattle.fault_extend.specs.InstanceLaws.{HasInstancesInVar};
@@ -29,16 +29,13 @@ pub struct LoadedModel {
 
 /// The model of a file.
 pub fn load_model<D: Desk>(alloc: Global, desk: &mut D, name: &str) -> Result<LoadedModel, Stop>
-    ensures ok { IfOk result (λ l. IfSome (D.files desk.old) (λ files. HoldsModel files name.now (program_tree l.program))) }
+    ensures ok { IfOk result (λ l. IfSome (D.told desk.old).files (λ files. HoldsModel files name.now (program_tree l.program))) }
     ensures lawful { IfOk result (λ l. IsLawful (program_tree l.program) (model_tree l.typed.model)) }
     ensures in_var { IfOk result (λ l. HasInstancesInVar (program_tree l.program)) }
     ensures spelled { IfOk result (λ l. IsSpelled (program_tree l.program)) }
-    ensures refused { (r : Refusal) → IsErrOf result (stop.Refused r) → IfSome (D.files desk.old) (λ files. RefusesModel files name.now r) }
-    ensures failed { IsErrOf result stop.Desk → Rose (D.faults desk.old) (D.faults desk.new) }
-    ensures files { D.files desk.new ≡ D.files desk.old }
-    ensures said { D.said desk.new ≡ D.said desk.old }
-    ensures later { D.faults desk.old ≤ D.faults desk.new }
-    ensures quiet { D.quiet desk.old → D.quiet desk.new × (D.faults desk.new ≡ D.faults desk.old) }
+    ensures refused { (r : Refusal) → IsErrOf result (stop.Refused r) → IfSome (D.told desk.old).files (λ files. RefusesModel files name.now r) }
+    ensures failed { IsErrOf result stop.Desk → Rose (D.told desk.old).faults (D.told desk.new).faults }
+    ensures stays { OnlyReads (D.told desk.old) (D.told desk.new) }
 {
     let bytes = read_input(alloc, desk, Input::Model, name)?;
     match model_of(alloc, &bytes) {

@@ -2,7 +2,7 @@
 //!
 //! The main function is [`find_odds`]. All files are read and judged in [`prepare_odds`], which also searches; then the report is said.
 ghost use Rattle.std.specs.Prelude.{◌≡◌, ◌≤◌, ◌<◌, ◌++◌, ◌⊎◌, All, length, map, IfOk, IfSome, IsErrOf};
-ghost use Rattle.base_files.specs.Desk.{Rose};
+ghost use Rattle.base_files.specs.Desk.{OnlyReads, OnlySays, Rose};
 ghost use Rattle.smv_language.specs.ProgramTree.{ProgramTree};
 ghost use Rattle.smv_language.specs.ModelTree.{model_tree, name_of_fault};
 ghost use Rattle.fault_instructions.specs.Instructions.{instruction_tree};
@@ -63,21 +63,19 @@ pub fn find_odds<D: Desk>(
     panel: &mut Panel,
 ) -> Result<Status, Stop>
     requires { asked.now.depth ≤ 1000000000 }
-    ensures ok { IfOk result (λ s. IfSome (D.files desk.old) (λ files.
-        HasOdds files asked.now.model.now asked.now.faults.now asked.now.top.now asked.now.depth s (D.said desk.old) (D.said desk.new))) }
+    ensures ok { IfOk result (λ s. IfSome (D.told desk.old).files (λ files.
+        HasOdds files asked.now.model.now asked.now.faults.now asked.now.top.now asked.now.depth s (D.told desk.old).said (D.told desk.new).said)) }
     ensures finished { IfOk result IsFinished }
     ensures depth { IfOk result (IsBoundedAt asked.now.depth) }
     ensures refused { (r : Refusal) → IsErrOf result (stop.Refused r) →
-        IfSome (D.files desk.old) (λ files. RefusesOdds files asked.now.model.now asked.now.faults.now asked.now.top.now r) }
-    ensures silent { (r : Refusal) → IsErrOf result (stop.Refused r) → D.said desk.new ≡ D.said desk.old }
+        IfSome (D.told desk.old).files (λ files. RefusesOdds files asked.now.model.now asked.now.faults.now asked.now.top.now r) }
+    ensures silent { (r : Refusal) → IsErrOf result (stop.Refused r) → (D.told desk.new).said ≡ (D.told desk.old).said }
     // However it ends, nothing was said, or a part of that.
-    ensures left { (D.said desk.new ≡ D.said desk.old) ⊎ IfSome (D.files desk.old) (λ files.
-        SaysOddsInPart files asked.now.model.now asked.now.faults.now asked.now.top.now asked.now.depth (D.said desk.old)
-        (D.said desk.new)) }
-    ensures failed { IsErrOf result stop.Desk → Rose (D.faults desk.old) (D.faults desk.new) }
-    ensures files { D.files desk.new ≡ D.files desk.old }
-    ensures later { D.faults desk.old ≤ D.faults desk.new }
-    ensures quiet { D.quiet desk.old → D.quiet desk.new × (D.faults desk.new ≡ D.faults desk.old) }
+    ensures left { ((D.told desk.new).said ≡ (D.told desk.old).said) ⊎ IfSome (D.told desk.old).files (λ files.
+        SaysOddsInPart files asked.now.model.now asked.now.faults.now asked.now.top.now asked.now.depth (D.told desk.old).said
+        (D.told desk.new).said) }
+    ensures failed { IsErrOf result stop.Desk → Rose (D.told desk.old).faults (D.told desk.new).faults }
+    ensures stays { OnlySays (D.told desk.old) (D.told desk.new) }
 {
     let found = prepare_odds(alloc, desk, asked, panel)?;
     say_whole(desk, found.report.as_slice())?;
@@ -91,16 +89,13 @@ fn prepare_odds<D: Desk>(
     asked: &FindOdds,
     panel: &mut Panel,
 ) -> Result<FoundOdds, Stop>
-    ensures ok { IfOk result (λ found. IfSome (D.files desk.old) (λ files.
+    ensures ok { IfOk result (λ found. IfSome (D.told desk.old).files (λ files.
         FindsOdds files asked.now.model.now asked.now.faults.now asked.now.top.now asked.now.depth found)) }
     ensures depth { IfOk result (λ found. IsBoundedAt asked.now.depth (ended_with (told_ending found.ending))) }
     ensures refused { (r : Refusal) → IsErrOf result (stop.Refused r) →
-        IfSome (D.files desk.old) (λ files. RefusesOdds files asked.now.model.now asked.now.faults.now asked.now.top.now r) }
-    ensures failed { IsErrOf result stop.Desk → Rose (D.faults desk.old) (D.faults desk.new) }
-    ensures files { D.files desk.new ≡ D.files desk.old }
-    ensures said { D.said desk.new ≡ D.said desk.old }
-    ensures later { D.faults desk.old ≤ D.faults desk.new }
-    ensures quiet { D.quiet desk.old → D.quiet desk.new × (D.faults desk.new ≡ D.faults desk.old) }
+        IfSome (D.told desk.old).files (λ files. RefusesOdds files asked.now.model.now asked.now.faults.now asked.now.top.now r) }
+    ensures failed { IsErrOf result stop.Desk → Rose (D.told desk.old).faults (D.told desk.new).faults }
+    ensures stays { OnlyReads (D.told desk.old) (D.told desk.new) }
 {
     let marked = load_marked(alloc, desk, asked)?;
     let found = search_marked(alloc, &marked, panel);
@@ -121,16 +116,13 @@ fn load_marked<'a, D: Desk>(
     asked: &FindOdds<'a>,
 ) -> Result<MarkedCase<'a>, Stop>
     ensures ok { IfOk result
-        (λ l. IfSome (D.files desk.old) (λ files. HoldsCase files asked.now.model.now asked.now.faults.now (case_in l.loaded))) }
+        (λ l. IfSome (D.told desk.old).files (λ files. HoldsCase files asked.now.model.now asked.now.faults.now (case_in l.loaded))) }
     ensures marked { IfOk result IsMarked }
     ensures asked { IfOk result (λ l. (l.word.now ≡ asked.now.top.now) × (l.depth ≡ asked.now.depth)) }
     ensures refused { (r : Refusal) → IsErrOf result (stop.Refused r) →
-        IfSome (D.files desk.old) (λ files. RefusesOdds files asked.now.model.now asked.now.faults.now asked.now.top.now r) }
-    ensures failed { IsErrOf result stop.Desk → Rose (D.faults desk.old) (D.faults desk.new) }
-    ensures files { D.files desk.new ≡ D.files desk.old }
-    ensures said { D.said desk.new ≡ D.said desk.old }
-    ensures later { D.faults desk.old ≤ D.faults desk.new }
-    ensures quiet { D.quiet desk.old → D.quiet desk.new × (D.faults desk.new ≡ D.faults desk.old) }
+        IfSome (D.told desk.old).files (λ files. RefusesOdds files asked.now.model.now asked.now.faults.now asked.now.top.now r) }
+    ensures failed { IsErrOf result stop.Desk → Rose (D.told desk.old).faults (D.told desk.new).faults }
+    ensures stays { OnlyReads (D.told desk.old) (D.told desk.new) }
 {
     let model = load_model(alloc, desk, asked.model)?;
     let case = load_case(alloc, desk, asked.faults, &model)?;

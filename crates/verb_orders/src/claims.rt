@@ -2,7 +2,7 @@
 //!
 //! The main function is [`check_orders`]. A certificate of an order lists no set: it shows that no trace speaks against the claim.
 ghost use Rattle.std.specs.Prelude.{◌≡◌, ◌≤◌, ◌⊎◌, [], codes, IfOk, IfSome, IsErrOf, OnOk};
-ghost use Rattle.base_files.specs.Desk.{Rose, SaysPrefix};
+ghost use Rattle.base_files.specs.Desk.{OnlyReads, OnlySays, Rose, SaysPrefix};
 ghost use Rattle.smv_language.specs.ModelTree.{model_tree, flat_tree};
 ghost use Rattle.cut_search_laws.specs.Searchable.{IsSearchable};
 ghost use Rattle.cert_text.specs.CertificateView.{seen};
@@ -39,27 +39,25 @@ pub fn check_orders<D: Desk>(
     desk: &mut D,
     asked: &CheckOrders,
 ) -> Result<Status, Stop>
-    ensures ok { IfOk result (λ s. IsAskedPair asked.now.set.now asked.now.first asked.now.second → IfSome (D.files desk.old) (λ files.
+    ensures ok { IfOk result (λ s. IsAskedPair asked.now.set.now asked.now.first asked.now.second → IfSome (D.told desk.old).files (λ files.
         HasCheckedOrder files asked.now.model.now asked.now.faults.now asked.now.top.now
         (numbers_of asked.now.set.now) asked.now.first asked.now.second asked.now.claim.now asked.now.cert.now
-        s (D.said desk.old) (D.said desk.new))) }
+        s (D.told desk.old).said (D.told desk.new).said)) }
     ensures ends { IfOk result (λ s. s ≡ Status.Done) }
     ensures finished { IfOk result IsFinished }
     ensures refused { (r : Refusal) → IsErrOf result (stop.Refused r) →
-        IsAskedPair asked.now.set.now asked.now.first asked.now.second → IfSome (D.files desk.old) (λ files.
+        IsAskedPair asked.now.set.now asked.now.first asked.now.second → IfSome (D.told desk.old).files (λ files.
         RefusesCheck files asked.now.model.now asked.now.faults.now asked.now.top.now
         (numbers_of asked.now.set.now) asked.now.first asked.now.second asked.now.claim.now asked.now.cert.now r) }
     ensures untouched { (r : Refusal) → IsErrOf result (stop.Refused r) →
-        (D.files desk.new ≡ D.files desk.old) × (D.said desk.new ≡ D.said desk.old) }
-    ensures files { D.files desk.new ≡ D.files desk.old }
-    ensures failed { IsErrOf result stop.Desk → Rose (D.faults desk.old) (D.faults desk.new) }
-    ensures later { D.faults desk.old ≤ D.faults desk.new }
-    ensures quiet { D.quiet desk.old → D.quiet desk.new × (D.faults desk.new ≡ D.faults desk.old) }
+        ((D.told desk.new).files ≡ (D.told desk.old).files) × ((D.told desk.new).said ≡ (D.told desk.old).said) }
+    ensures failed { IsErrOf result stop.Desk → Rose (D.told desk.old).faults (D.told desk.new).faults }
     // However it ends, nothing was said, or the certificate is accepted, and a part of that was said.
-    ensures left { (D.said desk.new ≡ D.said desk.old) ⊎ (SaysPrefix (D.said desk.old) (D.said desk.new) (codes "accepted\n")
-        × (IsAskedPair asked.now.set.now asked.now.first asked.now.second → IfSome (D.files desk.old) (λ files.
+    ensures left { ((D.told desk.new).said ≡ (D.told desk.old).said) ⊎ (SaysPrefix (D.told desk.old).said (D.told desk.new).said (codes "accepted\n")
+        × (IsAskedPair asked.now.set.now asked.now.first asked.now.second → IfSome (D.told desk.old).files (λ files.
         AcceptsOrder files asked.now.model.now asked.now.faults.now asked.now.top.now
         (numbers_of asked.now.set.now) asked.now.first asked.now.second asked.now.claim.now asked.now.cert.now))) }
+    ensures stays { OnlySays (D.told desk.old) (D.told desk.new) }
 {
     prepare(alloc, desk, asked)?;
     say_whole(desk, b"accepted\n")?;
@@ -68,18 +66,15 @@ pub fn check_orders<D: Desk>(
 
 /// Reads the model, the instructions and the certificate, and judges it. Nothing is written or said.
 fn prepare<D: Desk>(alloc: Global, desk: &mut D, asked: &CheckOrders) -> Result<(), Stop>
-    ensures ok { OnOk result (IsAskedPair asked.now.set.now asked.now.first asked.now.second → IfSome (D.files desk.old) (λ files.
+    ensures ok { OnOk result (IsAskedPair asked.now.set.now asked.now.first asked.now.second → IfSome (D.told desk.old).files (λ files.
         AcceptsOrder files asked.now.model.now asked.now.faults.now asked.now.top.now
         (numbers_of asked.now.set.now) asked.now.first asked.now.second asked.now.claim.now asked.now.cert.now)) }
     ensures refused { (r : Refusal) → IsErrOf result (stop.Refused r) →
-        IsAskedPair asked.now.set.now asked.now.first asked.now.second → IfSome (D.files desk.old) (λ files.
+        IsAskedPair asked.now.set.now asked.now.first asked.now.second → IfSome (D.told desk.old).files (λ files.
         RefusesCheck files asked.now.model.now asked.now.faults.now asked.now.top.now
         (numbers_of asked.now.set.now) asked.now.first asked.now.second asked.now.claim.now asked.now.cert.now r) }
-    ensures failed { IsErrOf result stop.Desk → Rose (D.faults desk.old) (D.faults desk.new) }
-    ensures files { D.files desk.new ≡ D.files desk.old }
-    ensures said { D.said desk.new ≡ D.said desk.old }
-    ensures later { D.faults desk.old ≤ D.faults desk.new }
-    ensures quiet { D.quiet desk.old → D.quiet desk.new × (D.faults desk.new ≡ D.faults desk.old) }
+    ensures failed { IsErrOf result stop.Desk → Rose (D.told desk.old).faults (D.told desk.new).faults }
+    ensures stays { OnlyReads (D.told desk.old) (D.told desk.new) }
 {
     let words = PairWords {
         model: asked.model,
@@ -104,16 +99,13 @@ fn judge_file<D: Desk>(
     cert: &str,
 ) -> Result<(), Stop>
     requires { IsStagedCase staged.now }
-    ensures ok { OnOk result (IfSome (D.files desk.old) (λ files.
+    ensures ok { OnOk result (IfSome (D.told desk.old).files (λ files.
         AcceptsFile files cert.now (staged_in staged.now) (against_in staged.now (claim_in claim.now)))) }
     ensures refused { (r : Refusal) → IsErrOf result (stop.Refused r) →
-        IfSome (D.files desk.old)
+        IfSome (D.told desk.old).files
         (λ files. RefusesFile files cert.now (staged_in staged.now) (against_in staged.now (claim_in claim.now)) r) }
-    ensures failed { IsErrOf result stop.Desk → Rose (D.faults desk.old) (D.faults desk.new) }
-    ensures files { D.files desk.new ≡ D.files desk.old }
-    ensures said { D.said desk.new ≡ D.said desk.old }
-    ensures later { D.faults desk.old ≤ D.faults desk.new }
-    ensures quiet { D.quiet desk.old → D.quiet desk.new × (D.faults desk.new ≡ D.faults desk.old) }
+    ensures failed { IsErrOf result stop.Desk → Rose (D.told desk.old).faults (D.told desk.new).faults }
+    ensures stays { OnlyReads (D.told desk.old) (D.told desk.new) }
 {
     let certificate = load_certificate(alloc, desk, cert)?;
     judge(alloc, staged, claim_of(claim), &certificate)

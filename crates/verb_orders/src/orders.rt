@@ -3,7 +3,7 @@
 //! The main function is [`find_orders`]: a first search looks for a trace that reaches the top event with exactly the set, and a second
 //! for one that speaks against the order that the first shows.
 ghost use Rattle.std.specs.Prelude.{◌≡◌, ◌≤◌, ◌⊎◌, ℕ, Some, None, IfOk, IfSome, IsErrOf, length};
-ghost use Rattle.base_files.specs.Desk.{Rose};
+ghost use Rattle.base_files.specs.Desk.{OnlyReads, IsLater, Rose};
 ghost use Rattle.smv_language.specs.ModelTree.{flat_tree};
 ghost use Rattle.cut_search.specs.declared.answer.End.TheVariants as ends;
 ghost use Rattle.cut_text_laws.specs.Analysis.{told_ending};
@@ -40,27 +40,26 @@ pub fn find_orders<D: Desk>(
     asked: &FindOrders,
     panel: &mut Panel,
 ) -> Result<Status, Stop>
-    ensures ok { IfOk result (λ s. IsAskedPair asked.now.set.now asked.now.first asked.now.second → IfSome (D.files desk.old) (λ files.
+    ensures ok { IfOk result (λ s. IsAskedPair asked.now.set.now asked.now.first asked.now.second → IfSome (D.told desk.old).files (λ files.
         HasOrder files asked.now.model.now asked.now.faults.now asked.now.top.now
         (numbers_of asked.now.set.now) asked.now.first asked.now.second asked.now.depth asked.now.cert.now
-        s (D.files desk.old) (D.files desk.new) (D.said desk.old) (D.said desk.new))) }
+        s (D.told desk.old).files (D.told desk.new).files (D.told desk.old).said (D.told desk.new).said)) }
     ensures finished { IfOk result IsFinished }
     ensures depth { IfOk result (IsBoundedAt asked.now.depth) }
     ensures refused { (r : Refusal) → IsErrOf result (stop.Refused r) →
-        IsAskedPair asked.now.set.now asked.now.first asked.now.second → IfSome (D.files desk.old) (λ files.
+        IsAskedPair asked.now.set.now asked.now.first asked.now.second → IfSome (D.told desk.old).files (λ files.
         RefusesPair files asked.now.model.now asked.now.faults.now asked.now.top.now (numbers_of asked.now.set.now) asked.now.first
         asked.now.second r) }
     ensures untouched { (r : Refusal) → IsErrOf result (stop.Refused r) →
-        (D.files desk.new ≡ D.files desk.old) × (D.said desk.new ≡ D.said desk.old) }
-    ensures failed { IsErrOf result stop.Desk → Rose (D.faults desk.old) (D.faults desk.new) }
-    ensures later { D.faults desk.old ≤ D.faults desk.new }
-    ensures quiet { D.quiet desk.old → D.quiet desk.new × (D.faults desk.new ≡ D.faults desk.old) }
+        ((D.told desk.new).files ≡ (D.told desk.old).files) × ((D.told desk.new).said ≡ (D.told desk.old).said) }
+    ensures failed { IsErrOf result stop.Desk → Rose (D.told desk.old).faults (D.told desk.new).faults }
     // However it ends, nothing was done, or a part of that stands: a prefix of what would be written and said.
-    ensures left { ((D.files desk.new ≡ D.files desk.old) × (D.said desk.new ≡ D.said desk.old))
-        ⊎ (IsAskedPair asked.now.set.now asked.now.first asked.now.second → IfSome (D.files desk.old) (λ files.
+    ensures left { (((D.told desk.new).files ≡ (D.told desk.old).files) × ((D.told desk.new).said ≡ (D.told desk.old).said))
+        ⊎ (IsAskedPair asked.now.set.now asked.now.first asked.now.second → IfSome (D.told desk.old).files (λ files.
         OrdersInPart files asked.now.model.now asked.now.faults.now asked.now.top.now
         (numbers_of asked.now.set.now) asked.now.first asked.now.second asked.now.depth asked.now.cert.now
-        (D.files desk.old) (D.files desk.new) (D.said desk.old) (D.said desk.new))) }
+        (D.told desk.old).files (D.told desk.new).files (D.told desk.old).said (D.told desk.new).said)) }
+    ensures stays { IsLater (D.told desk.old) (D.told desk.new) }
 {
     let found = prepare(alloc, desk, asked, panel)?;
     conclude(desk, asked.cert, &found)?;
@@ -74,19 +73,16 @@ fn prepare<D: Desk>(
     asked: &FindOrders,
     panel: &mut Panel,
 ) -> Result<Conclusion, Stop>
-    ensures ok { IfOk result (λ k. IsAskedPair asked.now.set.now asked.now.first asked.now.second → IfSome (D.files desk.old) (λ files.
+    ensures ok { IfOk result (λ k. IsAskedPair asked.now.set.now asked.now.first asked.now.second → IfSome (D.told desk.old).files (λ files.
         ConcludesFrom files asked.now.model.now asked.now.faults.now asked.now.top.now
         (numbers_of asked.now.set.now) asked.now.first asked.now.second asked.now.depth k)) }
     ensures depth { IfOk result (λ k. IsBoundedAt asked.now.depth (ended_with (told_ending k.ending))) }
     ensures refused { (r : Refusal) → IsErrOf result (stop.Refused r) →
-        IsAskedPair asked.now.set.now asked.now.first asked.now.second → IfSome (D.files desk.old) (λ files.
+        IsAskedPair asked.now.set.now asked.now.first asked.now.second → IfSome (D.told desk.old).files (λ files.
         RefusesPair files asked.now.model.now asked.now.faults.now asked.now.top.now (numbers_of asked.now.set.now) asked.now.first
         asked.now.second r) }
-    ensures failed { IsErrOf result stop.Desk → Rose (D.faults desk.old) (D.faults desk.new) }
-    ensures files { D.files desk.new ≡ D.files desk.old }
-    ensures said { D.said desk.new ≡ D.said desk.old }
-    ensures later { D.faults desk.old ≤ D.faults desk.new }
-    ensures quiet { D.quiet desk.old → D.quiet desk.new × (D.faults desk.new ≡ D.faults desk.old) }
+    ensures failed { IsErrOf result stop.Desk → Rose (D.told desk.old).faults (D.told desk.new).faults }
+    ensures stays { OnlyReads (D.told desk.old) (D.told desk.new) }
 {
     let words = PairWords {
         model: asked.model,

@@ -2,7 +2,7 @@
 //!
 //! The main function is [`load_pair`]: it reads the files, refuses a set with a number that is none of a fault, and stages the model.
 ghost use Rattle.std.specs.Prelude.{◌≡◌, ◌≢◌, ◌≤◌, ℕ, false, IsTrue, length, map, IfOk, IfSome, IsErrOf, OnOk};
-ghost use Rattle.base_files.specs.Desk.{Rose};
+ghost use Rattle.base_files.specs.Desk.{OnlyReads, Rose};
 ghost use Rattle.smv_language.specs.ModelTree.{model_tree};
 ghost use Rattle.smv_flat_laws.specs.FaultModes.{mode_of};
 ghost use Rattle.smv_type_laws.specs.Models.{IsTyped};
@@ -69,17 +69,14 @@ pub(crate) fn load_pair<'a, D: Desk>(
     asked: &PairWords<'a>,
 ) -> Result<PairCase<'a>, Stop>
     ensures ok { IfOk result
-        (λ s. IfSome (D.files desk.old) (λ files. HoldsCase files asked.now.model.now asked.now.faults.now (case_in s.loaded))) }
+        (λ s. IfSome (D.told desk.old).files (λ files. HoldsCase files asked.now.model.now asked.now.faults.now (case_in s.loaded))) }
     ensures staged { IfOk result IsStagedCase }
     ensures asked { IfOk result (λ s. s.asked ≡ asked.now) }
     ensures numbers { IfOk result (λ s. IsAsked asked.now → s.set.items ≡ numbers_of asked.now.set.now) }
     ensures refused { (r : Refusal) → IsErrOf result (stops.Refused r) → IsAsked asked.now →
-        IfSome (D.files desk.old) (λ files. RefusesAsked files asked.now r) }
-    ensures failed { IsErrOf result stops.Desk → Rose (D.faults desk.old) (D.faults desk.new) }
-    ensures files { D.files desk.new ≡ D.files desk.old }
-    ensures said { D.said desk.new ≡ D.said desk.old }
-    ensures later { D.faults desk.old ≤ D.faults desk.new }
-    ensures quiet { D.quiet desk.old → D.quiet desk.new × (D.faults desk.new ≡ D.faults desk.old) }
+        IfSome (D.told desk.old).files (λ files. RefusesAsked files asked.now r) }
+    ensures failed { IsErrOf result stops.Desk → Rose (D.told desk.old).faults (D.told desk.new).faults }
+    ensures stays { OnlyReads (D.told desk.old) (D.told desk.new) }
 {
     let set = pair_set(alloc, asked)?;
     let model = load_model(alloc, desk, asked.model)?;

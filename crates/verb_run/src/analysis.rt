@@ -2,7 +2,7 @@
 //!
 //! The main function is [`deliver_analysis`]: the extension is written first, and the report said last.
 ghost use Rattle.std.specs.Prelude.{◌≡◌, ◌≤◌, IfOk, IsErrOf};
-ghost use Rattle.base_files.specs.Desk.{Rose};
+ghost use Rattle.base_files.specs.Desk.{IsLater, Rose};
 ghost use Rattle.base_files.specs.declared.desk.WriteStop.TheVariants as write_stop;
 ghost use Rattle.verb_run.specs.Analyses.{HasAnalysed, AnalysesInPart};
 ghost use Rattle.verb_loading.specs.LoadedEvents.{IsEvent};
@@ -38,13 +38,12 @@ pub(crate) fn deliver_analysis<D: Desk>(
     requires { IsEvent asked.now.word.now asked.now.loaded }
     ensures ok { IfOk result (λ s. HasAnalysed (analysed_case asked.now) asked.now.word.now asked.now.depth
         (analysed_size asked.now) asked.now.extended.now asked.now.cert.now
-        s (D.files desk.old) (D.files desk.new) (D.said desk.old) (D.said desk.new)) }
+        s (D.told desk.old).files (D.told desk.new).files (D.told desk.old).said (D.told desk.new).said) }
     ensures part { AnalysesInPart (analysed_case asked.now) asked.now.word.now asked.now.depth (analysed_size asked.now)
         asked.now.extended.now asked.now.cert.now
-        (D.files desk.old) (D.files desk.new) (D.said desk.old) (D.said desk.new) }
-    ensures later { D.faults desk.old ≤ D.faults desk.new }
-    ensures failed { IsErrOf result write_stop.Failed → Rose (D.faults desk.old) (D.faults desk.new) }
-    ensures quiet { D.quiet desk.old → D.quiet desk.new × (D.faults desk.new ≡ D.faults desk.old) }
+        (D.told desk.old).files (D.told desk.new).files (D.told desk.old).said (D.told desk.new).said }
+    ensures failed { IsErrOf result write_stop.Failed → Rose (D.told desk.old).faults (D.told desk.new).faults }
+    ensures stays { IsLater (D.told desk.old) (D.told desk.new) }
 {
     let text = print_program(alloc, &asked.loaded.case.limited.woven.program)?;
     write_whole(desk, asked.extended, &text)?;

@@ -2,7 +2,7 @@
 //!
 //! The main function is [`check_file`]: `cert_file` reads the certificate, and `cert_check` judges it.
 ghost use Rattle.std.specs.Prelude.{◌≡◌, ◌≤◌, ◌<◌, ◌^◌, length, IfOk, IsOk, OnOk, IfSome, IsErrOf};
-ghost use Rattle.base_files.specs.Desk.{Rose};
+ghost use Rattle.base_files.specs.Desk.{OnlyReads, Rose};
 ghost use Rattle.smv_language.specs.ModelTree.{flat_tree};
 ghost use Rattle.cert_text.specs.CertificateView.{seen};
 ghost use Rattle.cert_check.specs.Fit.{IsCheckable};
@@ -32,15 +32,12 @@ pub fn check_file<D: Desk>(
     loaded: &LoadedEvent,
 ) -> Result<ByteList, Stop>
     requires { IsSomeEvent loaded.now }
-    ensures ok { IfOk result (λ report. IfSome (D.files desk.old) (λ files.
+    ensures ok { IfOk result (λ report. IfSome (D.told desk.old).files (λ files.
         CertSays files (case_in loaded.now) (flat_tree loaded.now.top) name.now report)) }
     ensures refused { (r : Refusal) → IsErrOf result (stop.Refused r) →
-        IfSome (D.files desk.old) (λ files. CertRefuses files (case_in loaded.now) (flat_tree loaded.now.top) name.now r) }
-    ensures failed { IsErrOf result stop.Desk → Rose (D.faults desk.old) (D.faults desk.new) }
-    ensures files { D.files desk.new ≡ D.files desk.old }
-    ensures said { D.said desk.new ≡ D.said desk.old }
-    ensures later { D.faults desk.old ≤ D.faults desk.new }
-    ensures quiet { D.quiet desk.old → D.quiet desk.new × (D.faults desk.new ≡ D.faults desk.old) }
+        IfSome (D.told desk.old).files (λ files. CertRefuses files (case_in loaded.now) (flat_tree loaded.now.top) name.now r) }
+    ensures failed { IsErrOf result stop.Desk → Rose (D.told desk.old).faults (D.told desk.new).faults }
+    ensures stays { OnlyReads (D.told desk.old) (D.told desk.new) }
 {
     let certificate = load_certificate(alloc, desk, name)?;
     judge_certificate(alloc, loaded, &certificate)?;

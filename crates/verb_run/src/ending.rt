@@ -3,7 +3,7 @@
 //! [`stopped`] ends a run that can't go on and says the line of a refusal; [`finished`] and [`ended`] end one that wrote and said,
 //! and [`concluded`] one whose work did so in another crate.
 ghost use Rattle.std.specs.Prelude.{◌≡◌, ◌≤◌, ◌⊎◌, IfOk, OnOk, IsErrOf};
-ghost use Rattle.base_files.specs.Desk.{Rose, told_with, WritesPrefix, said_more, SaysPrefix};
+ghost use Rattle.base_files.specs.Desk.{OnlySays, IsLater, Rose, told_with, WritesPrefix, said_more, SaysPrefix};
 ghost use Rattle.base_files.specs.declared.desk.WriteStop.TheVariants as write_stop;
 ghost use Rattle.verb_loading.specs.declared.input.Stop.TheVariants as stops;
 ghost use Rattle.verb_loading.specs.Statuses.{IsFinished, status_of, refusal_text, words_text};
@@ -20,10 +20,9 @@ use verb_loading::status::{Refusal, Status, words_line};
 
 /// Ends a run that can't go on: a refusal says its line.
 pub fn stopped<D: Desk>(alloc: Global, desk: &mut D, stop: Stop) -> Status
-    ensures stopped { Stopped stop result (D.files desk.old) (D.files desk.new) (D.said desk.old) (D.said desk.new) }
-    ensures failed { result ≡ Status.Desk → (stop ≡ stops.Desk) ⊎ Rose (D.faults desk.old) (D.faults desk.new) }
-    ensures later { D.faults desk.old ≤ D.faults desk.new }
-    ensures quiet { D.quiet desk.old → D.quiet desk.new × (D.faults desk.new ≡ D.faults desk.old) }
+    ensures stopped { Stopped stop result (D.told desk.old).files (D.told desk.new).files (D.told desk.old).said (D.told desk.new).said }
+    ensures failed { result ≡ Status.Desk → (stop ≡ stops.Desk) ⊎ Rose (D.told desk.old).faults (D.told desk.new).faults }
+    ensures stays { IsLater (D.told desk.old) (D.told desk.new) }
 {
     match stop {
         Stop::Refused(refusal) => refuse(alloc, desk, refusal),
@@ -35,10 +34,9 @@ pub fn stopped<D: Desk>(alloc: Global, desk: &mut D, stop: Stop) -> Status
 /// Ends a run by what its work came to, which has written and said all but a refusal.
 pub(crate) fn concluded<D: Desk>(alloc: Global, desk: &mut D, done: Result<Status, Stop>) -> Status
     requires { IfOk done IsFinished }
-    ensures concluded { Concluded done result (D.files desk.old) (D.files desk.new) (D.said desk.old) (D.said desk.new) }
-    ensures failed { result ≡ Status.Desk → IsErrOf done stops.Desk ⊎ Rose (D.faults desk.old) (D.faults desk.new) }
-    ensures later { D.faults desk.old ≤ D.faults desk.new }
-    ensures quiet { D.quiet desk.old → D.quiet desk.new × (D.faults desk.new ≡ D.faults desk.old) }
+    ensures concluded { Concluded done result (D.told desk.old).files (D.told desk.new).files (D.told desk.old).said (D.told desk.new).said }
+    ensures failed { result ≡ Status.Desk → IsErrOf done stops.Desk ⊎ Rose (D.told desk.old).faults (D.told desk.new).faults }
+    ensures stays { IsLater (D.told desk.old) (D.told desk.new) }
 {
     match done {
         Ok(status) => status,
@@ -70,14 +68,13 @@ pub(crate) fn ended(status: Status, done: Result<(), WriteStop>) -> Status
 
 /// Writes an extension to its file, and says its report.
 pub(crate) fn write_and_say<D: Desk>(desk: &mut D, file: &str, made: &Made) -> Result<(), WriteStop>
-    ensures ok { OnOk result ((D.files desk.new ≡ told_with (D.files desk.old) file.now made.now.text.items)
-        × (D.said desk.new ≡ said_more (D.said desk.old) made.now.report)) }
-    ensures part { (WritesPrefix (D.files desk.old) (D.files desk.new) file.now made.now.text.items × (D.said desk.new ≡ D.said desk.old)) ⊎
-        ((D.files desk.new ≡ told_with (D.files desk.old) file.now made.now.text.items)
-        × SaysPrefix (D.said desk.old) (D.said desk.new) made.now.report) }
-    ensures failed { IsErrOf result write_stop.Failed → Rose (D.faults desk.old) (D.faults desk.new) }
-    ensures later { D.faults desk.old ≤ D.faults desk.new }
-    ensures quiet { D.quiet desk.old → D.quiet desk.new × (D.faults desk.new ≡ D.faults desk.old) }
+    ensures ok { OnOk result (((D.told desk.new).files ≡ told_with (D.told desk.old).files file.now made.now.text.items)
+        × ((D.told desk.new).said ≡ said_more (D.told desk.old).said made.now.report)) }
+    ensures part { (WritesPrefix (D.told desk.old).files (D.told desk.new).files file.now made.now.text.items × ((D.told desk.new).said ≡ (D.told desk.old).said)) ⊎
+        (((D.told desk.new).files ≡ told_with (D.told desk.old).files file.now made.now.text.items)
+        × SaysPrefix (D.told desk.old).said (D.told desk.new).said made.now.report) }
+    ensures failed { IsErrOf result write_stop.Failed → Rose (D.told desk.old).faults (D.told desk.new).faults }
+    ensures stays { IsLater (D.told desk.old) (D.told desk.new) }
 {
     write_whole(desk, file, &made.text)?;
     say_whole(desk, made.report.as_slice())
@@ -85,13 +82,11 @@ pub(crate) fn write_and_say<D: Desk>(desk: &mut D, file: &str, made: &Made) -> R
 
 /// Says the line of a refusal.
 pub(crate) fn refuse<D: Desk>(alloc: Global, desk: &mut D, refusal: Refusal) -> Status
-    ensures said { result ≡ status_of refusal → D.said desk.new ≡ said_more (D.said desk.old) (refusal_text refusal) }
-    ensures part { SaysPrefix (D.said desk.old) (D.said desk.new) (refusal_text refusal) }
+    ensures said { result ≡ status_of refusal → (D.told desk.new).said ≡ said_more (D.told desk.old).said (refusal_text refusal) }
+    ensures part { SaysPrefix (D.told desk.old).said (D.told desk.new).said (refusal_text refusal) }
     ensures ends { (result ≡ status_of refusal) ⊎ ((result ≡ Status.Desk) ⊎ (result ≡ Status.Memory)) }
-    ensures files { D.files desk.new ≡ D.files desk.old }
-    ensures failed { result ≡ Status.Desk → Rose (D.faults desk.old) (D.faults desk.new) }
-    ensures later { D.faults desk.old ≤ D.faults desk.new }
-    ensures quiet { D.quiet desk.old → D.quiet desk.new × (D.faults desk.new ≡ D.faults desk.old) }
+    ensures failed { result ≡ Status.Desk → Rose (D.told desk.old).faults (D.told desk.new).faults }
+    ensures stays { OnlySays (D.told desk.old) (D.told desk.new) }
 {
     match refusal.line(alloc) {
         Ok(line) => ended(refusal.status(), say_whole(desk, line.as_slice())),
@@ -101,13 +96,11 @@ pub(crate) fn refuse<D: Desk>(alloc: Global, desk: &mut D, refusal: Refusal) -> 
 
 /// Says the line of words that mean no command.
 pub fn reject<D: Desk>(alloc: Global, desk: &mut D, fault: WordFault) -> Status
-    ensures said { result ≡ Status.Words fault → D.said desk.new ≡ said_more (D.said desk.old) (words_text fault) }
-    ensures part { SaysPrefix (D.said desk.old) (D.said desk.new) (words_text fault) }
+    ensures said { result ≡ Status.Words fault → (D.told desk.new).said ≡ said_more (D.told desk.old).said (words_text fault) }
+    ensures part { SaysPrefix (D.told desk.old).said (D.told desk.new).said (words_text fault) }
     ensures ends { (result ≡ Status.Words fault) ⊎ ((result ≡ Status.Desk) ⊎ (result ≡ Status.Memory)) }
-    ensures files { D.files desk.new ≡ D.files desk.old }
-    ensures failed { result ≡ Status.Desk → Rose (D.faults desk.old) (D.faults desk.new) }
-    ensures later { D.faults desk.old ≤ D.faults desk.new }
-    ensures quiet { D.quiet desk.old → D.quiet desk.new × (D.faults desk.new ≡ D.faults desk.old) }
+    ensures failed { result ≡ Status.Desk → Rose (D.told desk.old).faults (D.told desk.new).faults }
+    ensures stays { OnlySays (D.told desk.old) (D.told desk.new) }
 {
     match words_line(alloc, fault) {
         Ok(line) => ended(Status::Words(fault), say_whole(desk, line.as_slice())),

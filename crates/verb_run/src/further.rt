@@ -2,7 +2,7 @@
 //!
 //! Each function here calls the crate of its verb, which reads, searches, writes and says, and says the line of what that refuses.
 ghost use Rattle.std.specs.Prelude.{◌≡◌, ◌≤◌};
-ghost use Rattle.base_files.specs.Desk.{Rose};
+ghost use Rattle.base_files.specs.Desk.{IsLater, Rose};
 ghost use Rattle.verb_command_line.specs.declared.command.Command.TheVariants as ask;
 ghost use Rattle.verb_command_line.specs.CommandView.{seen};
 ghost use Rattle.verb_orders.specs.Pairs.{IsAskedPair};
@@ -28,13 +28,12 @@ pub(crate) fn causes<D: Desk>(
     panel: &mut Panel,
 ) -> Status
     requires { asked.now.depth ≤ 1000000000 }
-    ensures answered { IsCarriedOut (seen (ask.Causes asked.now)) result (D.files desk.old) (D.files desk.new) (D.said desk.old)
-        (D.said desk.new) }
-    ensures left { IsLeftInPart (seen (ask.Causes asked.now)) (D.files desk.old) (D.files desk.new) (D.said desk.old) (D.said desk.new) }
+    ensures answered { IsCarriedOut (seen (ask.Causes asked.now)) result (D.told desk.old).files (D.told desk.new).files (D.told desk.old).said
+        (D.told desk.new).said }
+    ensures left { IsLeftInPart (seen (ask.Causes asked.now)) (D.told desk.old).files (D.told desk.new).files (D.told desk.old).said (D.told desk.new).said }
     ensures status { IsOfCommand (seen (ask.Causes asked.now)) result }
-    ensures failed { result ≡ Status.Desk → Rose (D.faults desk.old) (D.faults desk.new) }
-    ensures later { D.faults desk.old ≤ D.faults desk.new }
-    ensures quiet { D.quiet desk.old → D.quiet desk.new × (D.faults desk.new ≡ D.faults desk.old) }
+    ensures failed { result ≡ Status.Desk → Rose (D.told desk.old).faults (D.told desk.new).faults }
+    ensures stays { IsLater (D.told desk.old) (D.told desk.new) }
 {
     let done = find_causes(alloc, desk, asked, panel);
     concluded(alloc, desk, done)
@@ -42,14 +41,13 @@ pub(crate) fn causes<D: Desk>(
 
 /// Judges a certificate of faults and common causes.
 pub(crate) fn checked_causes<D: Desk>(alloc: Global, desk: &mut D, asked: &CheckCauses) -> Status
-    ensures answered { IsCarriedOut (seen (ask.CheckCauses asked.now)) result (D.files desk.old) (D.files desk.new) (D.said desk.old)
-        (D.said desk.new) }
-    ensures left { IsLeftInPart (seen (ask.CheckCauses asked.now)) (D.files desk.old) (D.files desk.new) (D.said desk.old)
-        (D.said desk.new) }
+    ensures answered { IsCarriedOut (seen (ask.CheckCauses asked.now)) result (D.told desk.old).files (D.told desk.new).files (D.told desk.old).said
+        (D.told desk.new).said }
+    ensures left { IsLeftInPart (seen (ask.CheckCauses asked.now)) (D.told desk.old).files (D.told desk.new).files (D.told desk.old).said
+        (D.told desk.new).said }
     ensures status { IsOfCommand (seen (ask.CheckCauses asked.now)) result }
-    ensures failed { result ≡ Status.Desk → Rose (D.faults desk.old) (D.faults desk.new) }
-    ensures later { D.faults desk.old ≤ D.faults desk.new }
-    ensures quiet { D.quiet desk.old → D.quiet desk.new × (D.faults desk.new ≡ D.faults desk.old) }
+    ensures failed { result ≡ Status.Desk → Rose (D.told desk.old).faults (D.told desk.new).faults }
+    ensures stays { IsLater (D.told desk.old) (D.told desk.new) }
 {
     let done = check_causes(alloc, desk, asked);
     concluded(alloc, desk, done)
@@ -63,13 +61,12 @@ pub(crate) fn orders<D: Desk>(
     panel: &mut Panel,
 ) -> Status
     requires { IsAskedPair asked.now.set.now asked.now.first asked.now.second }
-    ensures answered { IsCarriedOut (seen (ask.Orders asked.now)) result (D.files desk.old) (D.files desk.new) (D.said desk.old)
-        (D.said desk.new) }
-    ensures left { IsLeftInPart (seen (ask.Orders asked.now)) (D.files desk.old) (D.files desk.new) (D.said desk.old) (D.said desk.new) }
+    ensures answered { IsCarriedOut (seen (ask.Orders asked.now)) result (D.told desk.old).files (D.told desk.new).files (D.told desk.old).said
+        (D.told desk.new).said }
+    ensures left { IsLeftInPart (seen (ask.Orders asked.now)) (D.told desk.old).files (D.told desk.new).files (D.told desk.old).said (D.told desk.new).said }
     ensures status { IsOfCommand (seen (ask.Orders asked.now)) result }
-    ensures failed { result ≡ Status.Desk → Rose (D.faults desk.old) (D.faults desk.new) }
-    ensures later { D.faults desk.old ≤ D.faults desk.new }
-    ensures quiet { D.quiet desk.old → D.quiet desk.new × (D.faults desk.new ≡ D.faults desk.old) }
+    ensures failed { result ≡ Status.Desk → Rose (D.told desk.old).faults (D.told desk.new).faults }
+    ensures stays { IsLater (D.told desk.old) (D.told desk.new) }
 {
     let done = find_orders(alloc, desk, asked, panel);
     concluded(alloc, desk, done)
@@ -78,14 +75,13 @@ pub(crate) fn orders<D: Desk>(
 /// Judges a certificate of such an order.
 pub(crate) fn checked_orders<D: Desk>(alloc: Global, desk: &mut D, asked: &CheckOrders) -> Status
     requires { IsAskedPair asked.now.set.now asked.now.first asked.now.second }
-    ensures answered { IsCarriedOut (seen (ask.CheckOrders asked.now)) result (D.files desk.old) (D.files desk.new) (D.said desk.old)
-        (D.said desk.new) }
-    ensures left { IsLeftInPart (seen (ask.CheckOrders asked.now)) (D.files desk.old) (D.files desk.new) (D.said desk.old)
-        (D.said desk.new) }
+    ensures answered { IsCarriedOut (seen (ask.CheckOrders asked.now)) result (D.told desk.old).files (D.told desk.new).files (D.told desk.old).said
+        (D.told desk.new).said }
+    ensures left { IsLeftInPart (seen (ask.CheckOrders asked.now)) (D.told desk.old).files (D.told desk.new).files (D.told desk.old).said
+        (D.told desk.new).said }
     ensures status { IsOfCommand (seen (ask.CheckOrders asked.now)) result }
-    ensures failed { result ≡ Status.Desk → Rose (D.faults desk.old) (D.faults desk.new) }
-    ensures later { D.faults desk.old ≤ D.faults desk.new }
-    ensures quiet { D.quiet desk.old → D.quiet desk.new × (D.faults desk.new ≡ D.faults desk.old) }
+    ensures failed { result ≡ Status.Desk → Rose (D.told desk.old).faults (D.told desk.new).faults }
+    ensures stays { IsLater (D.told desk.old) (D.told desk.new) }
 {
     let done = check_orders(alloc, desk, asked);
     concluded(alloc, desk, done)
@@ -99,13 +95,12 @@ pub(crate) fn odds<D: Desk>(
     panel: &mut Panel,
 ) -> Status
     requires { asked.now.depth ≤ 1000000000 }
-    ensures answered { IsCarriedOut (seen (ask.Odds asked.now)) result (D.files desk.old) (D.files desk.new) (D.said desk.old)
-        (D.said desk.new) }
-    ensures left { IsLeftInPart (seen (ask.Odds asked.now)) (D.files desk.old) (D.files desk.new) (D.said desk.old) (D.said desk.new) }
+    ensures answered { IsCarriedOut (seen (ask.Odds asked.now)) result (D.told desk.old).files (D.told desk.new).files (D.told desk.old).said
+        (D.told desk.new).said }
+    ensures left { IsLeftInPart (seen (ask.Odds asked.now)) (D.told desk.old).files (D.told desk.new).files (D.told desk.old).said (D.told desk.new).said }
     ensures status { IsOfCommand (seen (ask.Odds asked.now)) result }
-    ensures failed { result ≡ Status.Desk → Rose (D.faults desk.old) (D.faults desk.new) }
-    ensures later { D.faults desk.old ≤ D.faults desk.new }
-    ensures quiet { D.quiet desk.old → D.quiet desk.new × (D.faults desk.new ≡ D.faults desk.old) }
+    ensures failed { result ≡ Status.Desk → Rose (D.told desk.old).faults (D.told desk.new).faults }
+    ensures stays { IsLater (D.told desk.old) (D.told desk.new) }
 {
     let done = find_odds(alloc, desk, asked, panel);
     concluded(alloc, desk, done)

@@ -3,7 +3,7 @@
 //! The case is read back from the two texts that are written, so that all that is known of a case from files is known of it, and
 //! the files hold it. The reading refuses none of them, so that it ends for want of memory alone.
 ghost use Rattle.std.specs.Prelude.{◌≡◌, ◌≤◌, ◌++◌, IfOk, OnOk, IsErrOf};
-ghost use Rattle.base_files.specs.Desk.{Rose};
+ghost use Rattle.base_files.specs.Desk.{IsLater, Rose};
 ghost use Rattle.base_files.specs.declared.desk.WriteStop.TheVariants as write_stop;
 ghost use Rattle.smv_language.specs.ProgramTree.{program_tree};
 ghost use Rattle.smv_language.specs.Text.{program_text};
@@ -195,12 +195,11 @@ pub(crate) fn deliver_made<D: Desk>(
 ) -> Result<Status, WriteStop>
     requires { IsMaking asked.now }
     ensures ok { IfOk result (λ s. HasMade (made_case asked.now) asked.now.stages asked.now.depth asked.now.model.now asked.now.faults.now
-        s (D.files desk.old) (D.files desk.new) (D.said desk.old) (D.said desk.new)) }
+        s (D.told desk.old).files (D.told desk.new).files (D.told desk.old).said (D.told desk.new).said) }
     ensures part { MakesInPart (made_case asked.now) asked.now.stages asked.now.depth asked.now.model.now asked.now.faults.now
-        (D.files desk.old) (D.files desk.new) (D.said desk.old) (D.said desk.new) }
-    ensures later { D.faults desk.old ≤ D.faults desk.new }
-    ensures failed { IsErrOf result write_stop.Failed → Rose (D.faults desk.old) (D.faults desk.new) }
-    ensures quiet { D.quiet desk.old → D.quiet desk.new × (D.faults desk.new ≡ D.faults desk.old) }
+        (D.told desk.old).files (D.told desk.new).files (D.told desk.old).said (D.told desk.new).said }
+    ensures failed { IsErrOf result write_stop.Failed → Rose (D.told desk.old).faults (D.told desk.new).faults }
+    ensures stays { IsLater (D.told desk.old) (D.told desk.new) }
 {
     write_whole(desk, asked.model, &asked.made.program)?;
     write_whole(desk, asked.faults, &asked.made.instructions)?;

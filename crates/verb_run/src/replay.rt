@@ -11,7 +11,7 @@ ghost use Rattle.smv_evaluation.specs.EvaluableModels.{IsEvaluable};
 ghost use Rattle.smv_evaluation.specs.Replay.{IsReaching};
 ghost use Rattle.fault_extend.specs.WovenFaults.{fault_tree};
 ghost use Rattle.fault_extend.specs.NumberedFaults.{IsNumbered, AreNumbered};
-ghost use Rattle.base_files.specs.Desk.{Rose};
+ghost use Rattle.base_files.specs.Desk.{OnlyReads, Rose};
 ghost use Rattle.smv_language.specs.ProgramTree.{program_tree};
 ghost use Rattle.verb_loading.specs.LoadedCases.{case_of, IsLoaded};
 ghost use Rattle.verb_run.specs.Runs.{refuses, says, TraceComesTo};
@@ -51,16 +51,13 @@ pub(crate) fn replay_file<D: Desk>(
     requires loaded { IsLoaded (program_tree model.now.program) case.now }
     requires own { ReadsOwn (model_tree case.now.limited.typed.model) (flat_tree top.now) }
     requires kept { broken_condition (judged_in (model_tree case.now.limited.typed.model) false (flat_tree top.now)) ≡ [] }
-    ensures ok { IfOk result (λ report. IfSome (D.files desk.old) (λ files.
+    ensures ok { IfOk result (λ report. IfSome (D.told desk.old).files (λ files.
         TraceComesTo files (case_of (program_tree model.now.program) case.now) (flat_tree top.now) name.now (says report))) }
     ensures refused { (r : Refusal) → IsErrOf result (stop.Refused r) →
-        IfSome (D.files desk.old)
+        IfSome (D.told desk.old).files
         (λ files. TraceComesTo files (case_of (program_tree model.now.program) case.now) (flat_tree top.now) name.now (refuses r)) }
-    ensures failed { IsErrOf result stop.Desk → Rose (D.faults desk.old) (D.faults desk.new) }
-    ensures files { D.files desk.new ≡ D.files desk.old }
-    ensures said { D.said desk.new ≡ D.said desk.old }
-    ensures later { D.faults desk.old ≤ D.faults desk.new }
-    ensures quiet { D.quiet desk.old → D.quiet desk.new × (D.faults desk.new ≡ D.faults desk.old) }
+    ensures failed { IsErrOf result stop.Desk → Rose (D.told desk.old).faults (D.told desk.new).faults }
+    ensures stays { OnlyReads (D.told desk.old) (D.told desk.new) }
 {
     let trace = load_trace(alloc, desk, name, &case.limited.typed)?;
     judge_trace(alloc, &case.limited.typed, &trace, top)?;

@@ -58,123 +58,123 @@ pub fn run<D: Desk>(
     advisers: Vec<Box<dyn Adviser>>,
 ) -> Status
     // Unless the desk failed or memory ran out, the whole of what words and files come to stands.
-    ensures answered { IsAnswer result → IfSome (D.files desk.old) (λ files.
-        HasAnswered files (map (λ w. w.now) words.now) result (D.files desk.old) (D.files desk.new) (D.said desk.old) (D.said desk.new)) }
+    ensures answered { IsAnswer result → IfSome (D.told desk.old).files (λ files.
+        HasAnswered files (map (λ w. w.now) words.now) result (D.told desk.old).files (D.told desk.new).files (D.told desk.old).said (D.told desk.new).said) }
     // What the words and files come to is one, and it is the answer and what stands: the first rule that is broken, at its
     // place, the first moment that stops the trace from reaching the event, the extension and its report, the report of a
     // trace that reaches it, or the case and the event that were analysed.
-    ensures exact { IsAnswer result → IfSome (D.files desk.old) (λ files. (o : Outcome) → Means files (map (λ w. w.now) words.now) o →
-        IsDelivered o result (D.files desk.old) (D.files desk.new) (D.said desk.old) (D.said desk.new)) }
+    ensures exact { IsAnswer result → IfSome (D.told desk.old).files (λ files. (o : Outcome) → Means files (map (λ w. w.now) words.now) o →
+        IsDelivered o result (D.told desk.old).files (D.told desk.new).files (D.told desk.old).said (D.told desk.new).said) }
     // A run that is done has written the woven program, as the one program that the model spells and the instructions make it:
     // its traces are the extended traces, and its faultless ones the model's. It has said the list of its faults.
     ensures extended { (model faults extended : Text) → result ≡ Status.Done →
         AsksToExtend (map (λ w. w.now) words.now) model faults extended →
-        IfSome (D.files desk.old) (λ before. IsSomeAnd (D.files desk.new) (λ after.
-        IsExtended before after (D.said desk.old) (D.said desk.new) model faults extended)) }
+        IfSome (D.told desk.old).files (λ before. IsSomeAnd (D.told desk.new).files (λ after.
+        IsExtended before after (D.told desk.old).said (D.told desk.new).said model faults extended)) }
     // A run that is done has replayed the trace: its values are cut to an extended trace that reaches the event, and the names of
     // exactly the faults that it has failed were said; no file was changed.
     ensures replayed { (model faults trace top : Text) → result ≡ Status.Done →
         AsksToReplay (map (λ w. w.now) words.now) model faults trace top →
-        IfSome (D.files desk.old) (λ files. IsReplayed files (D.said desk.old) (D.said desk.new) model faults trace top
-        × (D.files desk.new ≡ D.files desk.old)) }
+        IfSome (D.told desk.old).files (λ files. IsReplayed files (D.told desk.old).said (D.told desk.new).said model faults trace top
+        × ((D.told desk.new).files ≡ (D.told desk.old).files)) }
     // And such a trace is refused for nothing.
     ensures reaching { (model faults trace top : Text) → IsAnswer result →
         AsksToReplay (map (λ w. w.now) words.now) model faults trace top →
-        IfSome (D.files desk.old) (λ files. HoldsReaching files model faults trace top → result ≡ Status.Done) }
+        IfSome (D.told desk.old).files (λ files. HoldsReaching files model faults trace top → result ≡ Status.Done) }
     // A run that is done has analysed the extended traces, of every length: it has written the extension, found exactly the sets
     // that the headline says, shown a trace for each, and written an accepted certificate.
     ensures complete { (model faults top extended cert : Text) (depth : ℕ) (size : Option ℕ) →
         result ≡ Status.Done → AsksToAnalyse (map (λ w. w.now) words.now) model faults top depth extended cert size →
-        IfSome (D.files desk.old) (λ before. IsSomeAnd (D.files desk.new) (λ after.
-        IsComplete before after (D.said desk.old) (D.said desk.new) model faults top extended cert size)) }
+        IfSome (D.told desk.old).files (λ before. IsSomeAnd (D.told desk.new).files (λ after.
+        IsComplete before after (D.told desk.old).said (D.told desk.new).said model faults top extended cert size)) }
     // And one that is bounded has analysed those of at most so many steps as the depth.
     ensures bounded { (model faults top extended cert : Text) (depth : ℕ) (size : Option ℕ) (k : ℕ) →
         result ≡ Status.Bounded k → AsksToAnalyse (map (λ w. w.now) words.now) model faults top depth extended cert size →
-        IfSome (D.files desk.old) (λ before. IsSomeAnd (D.files desk.new) (λ after.
-        (k ≡ depth) × IsBounded before after (D.said desk.old) (D.said desk.new) model faults top extended cert depth size)) }
+        IfSome (D.told desk.old).files (λ before. IsSomeAnd (D.told desk.new).files (λ after.
+        (k ≡ depth) × IsBounded before after (D.told desk.old).said (D.told desk.new).said model faults top extended cert depth size)) }
     // A run that is done has checked the certificate: the sets that its bytes spell are right for all extended traces, of every
     // length, with the traces that its texts give; no file was changed.
     ensures accepted { (model faults top cert : Text) → result ≡ Status.Done →
         AsksToCheck (map (λ w. w.now) words.now) model faults top cert →
-        IfSome (D.files desk.old) (λ files. IsChecked files (D.said desk.old) (D.said desk.new) model faults top cert
-        × (D.files desk.new ≡ D.files desk.old)) }
+        IfSome (D.told desk.old).files (λ files. IsChecked files (D.told desk.old).said (D.told desk.new).said model faults top cert
+        × ((D.told desk.new).files ≡ (D.told desk.old).files)) }
     // A run that has finished a table has said it: each entry means what it says of the extended traces; no file was changed.
     ensures tabulated { (model faults tops : Text) (size depth : ℕ) → IsFinished result →
         AsksToTabulate (map (λ w. w.now) words.now) model faults tops size depth →
-        IfSome (D.files desk.old) (λ files. IsTabulated files (D.said desk.old) (D.said desk.new) model faults tops size depth result
-        × (D.files desk.new ≡ D.files desk.old)) }
+        IfSome (D.told desk.old).files (λ files. IsTabulated files (D.told desk.old).said (D.told desk.new).said model faults tops size depth result
+        × ((D.told desk.new).files ≡ (D.told desk.old).files)) }
     // A run that has finished a generated case has written the generator's model and instructions, and said what they are and what
     // an analysis of them found.
     ensures made { (number stages depth : ℕ) (model faults : Text) → IsFinished result →
         AsksToMake (map (λ w. w.now) words.now) number stages depth model faults →
-        IfSome (D.files desk.old) (λ files. IsSomeAnd (D.files desk.new) (λ after.
-        IsMade after (D.said desk.old) (D.said desk.new) number stages depth model faults result)) }
+        IfSome (D.told desk.old).files (λ files. IsSomeAnd (D.told desk.new).files (λ after.
+        IsMade after (D.told desk.old).said (D.told desk.new).said number stages depth model faults result)) }
     // A run that has finished a search with common causes has written and said what it found: an analysis that is right for all
     // caused traces, or for those of at most so many steps, and where it is complete an accepted certificate.
     ensures caused { (model faults file top cert : Text) (depth : ℕ) → IsFinished result →
         AsksForCauses (map (λ w. w.now) words.now) model faults file top depth cert →
-        IfSome (D.files desk.old) (λ files.
-        HasFoundCauses files model faults file top cert depth result (D.files desk.old) (D.files desk.new) (D.said desk.old)
-        (D.said desk.new)) }
+        IfSome (D.told desk.old).files (λ files.
+        HasFoundCauses files model faults file top cert depth result (D.told desk.old).files (D.told desk.new).files (D.told desk.old).said
+        (D.told desk.new).said) }
     // A run that is done has checked such a certificate: its sets are shown for all caused traces, of every length; no file was
     // changed.
     ensures caused_accepted { (model faults file top cert : Text) → result ≡ Status.Done →
         AsksToCheckCauses (map (λ w. w.now) words.now) model faults file top cert →
-        IfSome (D.files desk.old) (λ files. HasCheckedCauses files model faults file top cert (D.said desk.old) (D.said desk.new)
-        × (D.files desk.new ≡ D.files desk.old)) }
+        IfSome (D.told desk.old).files (λ files. HasCheckedCauses files model faults file top cert (D.told desk.old).said (D.told desk.new).said
+        × ((D.told desk.new).files ≡ (D.told desk.old).files)) }
     // A run that has finished with an order has written and said one that is so of all extended traces that reach the event and
     // have failed exactly the set, or of those of at most so many steps.
     ensures ordered { (model faults top set cert : Text) (first second depth : ℕ) → IsFinished result →
         AsksForOrder (map (λ w. w.now) words.now) model faults top set first second depth cert →
-        IfSome (D.files desk.old) (λ files.
-        HasOrder files model faults top (numbers_of set) first second depth cert result (D.files desk.old) (D.files desk.new)
-        (D.said desk.old) (D.said desk.new)) }
+        IfSome (D.told desk.old).files (λ files.
+        HasOrder files model faults top (numbers_of set) first second depth cert result (D.told desk.old).files (D.told desk.new).files
+        (D.told desk.old).said (D.told desk.new).said) }
     // A run that is done has checked a certificate of what is claimed of two faults, and the claim holds; no file was changed.
     ensures order_accepted { (model faults top set claim cert : Text) (first second : ℕ) → result ≡ Status.Done →
         AsksToCheckOrder (map (λ w. w.now) words.now) model faults top set first second claim cert →
-        IfSome (D.files desk.old) (λ files.
-        HasCheckedOrder files model faults top (numbers_of set) first second claim cert result (D.said desk.old) (D.said desk.new)
-        × (D.files desk.new ≡ D.files desk.old)) }
+        IfSome (D.told desk.old).files (λ files.
+        HasCheckedOrder files model faults top (numbers_of set) first second claim cert result (D.told desk.old).said (D.told desk.new).said
+        × ((D.told desk.new).files ≡ (D.told desk.old).files)) }
     // A run that has finished with odds has said the sets of an analysis, and bounds of their probabilities that are right; no file
     // was changed.
     ensures bounds { (model faults top : Text) (depth : ℕ) → IsFinished result →
         AsksForOdds (map (λ w. w.now) words.now) model faults top depth →
-        IfSome (D.files desk.old) (λ files. HasOdds files model faults top depth result (D.said desk.old) (D.said desk.new)
-        × (D.files desk.new ≡ D.files desk.old)) }
+        IfSome (D.told desk.old).files (λ files. HasOdds files model faults top depth result (D.told desk.old).said (D.told desk.new).said
+        × ((D.told desk.new).files ≡ (D.told desk.old).files)) }
     // A bounded answer is bounded by the depth that the words give, whatever the desk tells.
     ensures depth { (c : Asked) (k : ℕ) → WordsMean (map (λ w. w.now) words.now) c → result ≡ Status.Bounded k → depth_of c ≡ Some k }
     // And never where the depth is two more than the number of states of the searched model, or above that.
     ensures short { (c : Asked) (k : ℕ) → WordsMean (map (λ w. w.now) words.now) c → result ≡ Status.Bounded k →
-        IfSome (D.files desk.old) (λ files. IsShort c files k) }
+        IfSome (D.told desk.old).files (λ files. IsShort c files k) }
     // Words that mean no command are refused by the rule that they break first, at its place, whatever the desk tells;
     ensures words { (rule place : ℕ) → IsAnswer result → BreaksFirst (map (λ w. w.now) words.now) rule place →
         (f : WordFault) × (rule_of f ≡ rule) × (place_of f ≡ place) × (result ≡ Status.Words f) }
     // and no others are.
     ensures meant { (f : WordFault) → result ≡ Status.Words f → RefusesWords (map (λ w. w.now) words.now) f }
     // However it ends, nothing was done, or a part of that stands: a prefix of what would be written and said.
-    ensures left { ((D.files desk.new ≡ D.files desk.old) × (D.said desk.new ≡ D.said desk.old)) ⊎ IfSome (D.files desk.old) (λ files.
-        HasStopped files (map (λ w. w.now) words.now) (D.files desk.old) (D.files desk.new) (D.said desk.old) (D.said desk.new)) }
+    ensures left { (((D.told desk.new).files ≡ (D.told desk.old).files) × ((D.told desk.new).said ≡ (D.told desk.old).said)) ⊎ IfSome (D.told desk.old).files (λ files.
+        HasStopped files (map (λ w. w.now) words.now) (D.told desk.old).files (D.told desk.new).files (D.told desk.old).said (D.told desk.new).said) }
     // The desk's status comes only where its count of faults rose.
-    ensures failed { result ≡ Status.Desk → Rose (D.faults desk.old) (D.faults desk.new) }
-    ensures later { D.faults desk.old ≤ D.faults desk.new }
-    ensures quiet { D.quiet desk.old → D.quiet desk.new × (D.faults desk.new ≡ D.faults desk.old) }
+    ensures failed { result ≡ Status.Desk → Rose (D.told desk.old).faults (D.told desk.new).faults }
+    ensures later { (D.told desk.old).faults ≤ (D.told desk.new).faults }
+    ensures quiet { (D.told desk.old).quiet → (D.told desk.new).quiet × ((D.told desk.new).faults ≡ (D.told desk.old).faults) }
 {
     answer(alloc, words, desk, &mut Panel::new(advisers))
 }
 
 /// Reads the words, and carries out what they ask for.
 fn answer<D: Desk>(alloc: Global, words: &[&str], desk: &mut D, panel: &mut Panel) -> Status
-    ensures answered { IsAnswer result → IfSome (D.files desk.old) (λ files.
-        HasAnswered files (map (λ w. w.now) words.now) result (D.files desk.old) (D.files desk.new) (D.said desk.old) (D.said desk.new)) }
-    ensures left { ((D.files desk.new ≡ D.files desk.old) × (D.said desk.new ≡ D.said desk.old)) ⊎ IfSome (D.files desk.old) (λ files.
-        HasStopped files (map (λ w. w.now) words.now) (D.files desk.old) (D.files desk.new) (D.said desk.old) (D.said desk.new)) }
+    ensures answered { IsAnswer result → IfSome (D.told desk.old).files (λ files.
+        HasAnswered files (map (λ w. w.now) words.now) result (D.told desk.old).files (D.told desk.new).files (D.told desk.old).said (D.told desk.new).said) }
+    ensures left { (((D.told desk.new).files ≡ (D.told desk.old).files) × ((D.told desk.new).said ≡ (D.told desk.old).said)) ⊎ IfSome (D.told desk.old).files (λ files.
+        HasStopped files (map (λ w. w.now) words.now) (D.told desk.old).files (D.told desk.new).files (D.told desk.old).said (D.told desk.new).said) }
     ensures depth { (c : Asked) (k : ℕ) → WordsMean (map (λ w. w.now) words.now) c → result ≡ Status.Bounded k → depth_of c ≡ Some k }
     ensures words { (rule place : ℕ) → IsAnswer result → BreaksFirst (map (λ w. w.now) words.now) rule place →
         (f : WordFault) × (rule_of f ≡ rule) × (place_of f ≡ place) × (result ≡ Status.Words f) }
     ensures meant { (f : WordFault) → result ≡ Status.Words f → RefusesWords (map (λ w. w.now) words.now) f }
-    ensures failed { result ≡ Status.Desk → Rose (D.faults desk.old) (D.faults desk.new) }
-    ensures later { D.faults desk.old ≤ D.faults desk.new }
-    ensures quiet { D.quiet desk.old → D.quiet desk.new × (D.faults desk.new ≡ D.faults desk.old) }
+    ensures failed { result ≡ Status.Desk → Rose (D.told desk.old).faults (D.told desk.new).faults }
+    ensures later { (D.told desk.old).faults ≤ (D.told desk.new).faults }
+    ensures quiet { (D.told desk.old).quiet → (D.told desk.new).quiet × ((D.told desk.new).faults ≡ (D.told desk.old).faults) }
 {
     match command_asked(words) {
         Ok(command) => carry_out(alloc, desk, &Askable::new(command), panel),

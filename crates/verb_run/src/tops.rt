@@ -3,7 +3,7 @@
 //! [`load_table`] reads the three files and refuses; [`deliver_table`] searches for each event, in frames that are made once, and says
 //! the table.
 ghost use Rattle.std.specs.Prelude.{◌≡◌, ◌≤◌, List, All, [], false, length, map, IfOk, OnOk, IfErr, IfSome, IsErrOf};
-ghost use Rattle.base_files.specs.Desk.{Rose};
+ghost use Rattle.base_files.specs.Desk.{OnlyReads, IsLater, Rose};
 ghost use Rattle.base_files.specs.declared.desk.WriteStop.TheVariants as write_stop;
 ghost use Rattle.smv_language.specs.ProgramTree.{Formula, program_tree};
 ghost use Rattle.smv_language.specs.Trace.{Each, EachBoth};
@@ -84,18 +84,15 @@ pub fn load_table<D: Desk>(
     depth: u32,
 ) -> Result<Tabulating, Stop>
     requires small { size ≤ 2 }
-    ensures ok { IfOk result (λ a. IfSome (D.files desk.old) (λ files. HoldsCase files model.now faults.now (tabulated_case a))) }
-    ensures tops { IfOk result (λ a. IfSome (D.files desk.old) (λ files.
+    ensures ok { IfOk result (λ a. IfSome (D.told desk.old).files (λ files. HoldsCase files model.now faults.now (tabulated_case a))) }
+    ensures tops { IfOk result (λ a. IfSome (D.told desk.old).files (λ files.
         HoldsTops files tops.now (program_tree a.model.program) (tabulated_events a))) }
     ensures able { IfOk result IsTabulable }
     ensures asked { IfOk result (λ a. (a.size ≡ size) × (a.depth ≡ depth)) }
     ensures refused { (r : Refusal) → IsErrOf result (stop.Refused r) →
-        IfSome (D.files desk.old) (λ files. RefusesTable files model.now faults.now tops.now r) }
-    ensures failed { IsErrOf result stop.Desk → Rose (D.faults desk.old) (D.faults desk.new) }
-    ensures files { D.files desk.new ≡ D.files desk.old }
-    ensures said { D.said desk.new ≡ D.said desk.old }
-    ensures later { D.faults desk.old ≤ D.faults desk.new }
-    ensures quiet { D.quiet desk.old → D.quiet desk.new × (D.faults desk.new ≡ D.faults desk.old) }
+        IfSome (D.told desk.old).files (λ files. RefusesTable files model.now faults.now tops.now r) }
+    ensures failed { IsErrOf result stop.Desk → Rose (D.told desk.old).faults (D.told desk.new).faults }
+    ensures stays { OnlyReads (D.told desk.old) (D.told desk.new) }
 {
     let model = load_model(alloc, desk, model)?;
     let case = load_case(alloc, desk, faults, &model)?;
@@ -119,17 +116,14 @@ pub(crate) fn load_tops<D: Desk>(
 ) -> Result<Tops, Stop>
     requires lawful { IsLawful (program_tree model.now.program) (model_tree model.now.typed.model) }
     requires loaded { IsLoaded (program_tree model.now.program) case.now }
-    ensures ok { IfOk result (λ t. IfSome (D.files desk.old) (λ files.
+    ensures ok { IfOk result (λ t. IfSome (D.told desk.old).files (λ files.
         HoldsTops files name.now (program_tree model.now.program) (map tree_of t.written))) }
     ensures events { IfOk result
         (λ t. EachBoth (IsEventOf (case_of (program_tree model.now.program) case.now)) (map tree_of t.written) (map flat_tree t.over)) }
     ensures refused { (r : Refusal) → IsErrOf result (stop.Refused r) →
-        IfSome (D.files desk.old) (λ files. RefusesTops files name.now (program_tree model.now.program) r) }
-    ensures failed { IsErrOf result stop.Desk → Rose (D.faults desk.old) (D.faults desk.new) }
-    ensures files { D.files desk.new ≡ D.files desk.old }
-    ensures said { D.said desk.new ≡ D.said desk.old }
-    ensures later { D.faults desk.old ≤ D.faults desk.new }
-    ensures quiet { D.quiet desk.old → D.quiet desk.new × (D.faults desk.new ≡ D.faults desk.old) }
+        IfSome (D.told desk.old).files (λ files. RefusesTops files name.now (program_tree model.now.program) r) }
+    ensures failed { IsErrOf result stop.Desk → Rose (D.told desk.old).faults (D.told desk.new).faults }
+    ensures stays { OnlyReads (D.told desk.old) (D.told desk.new) }
 {
     let bytes = read_tops(alloc, desk, name)?;
     match tops_of(alloc, &bytes, model, case) {
@@ -140,15 +134,12 @@ pub(crate) fn load_tops<D: Desk>(
 
 /// The bytes of the file of top events.
 fn read_tops<D: Desk>(alloc: Global, desk: &mut D, name: &str) -> Result<Vec<u8>, Stop>
-    ensures bytes { IfOk result (λ bytes. IfSome (D.files desk.old) (λ files. HasBytes files name.now bytes.items)) }
+    ensures bytes { IfOk result (λ bytes. IfSome (D.told desk.old).files (λ files. HasBytes files name.now bytes.items)) }
     ensures short { IfOk result (λ bytes. length bytes.items ≤ 1048576) }
     ensures refused { (r : Refusal) → IsErrOf result (stop.Refused r) →
-        (fault : InputFault) × (r ≡ refusal.Top fault) × IfSome (D.files desk.old) (λ files. IsRefusedFile files name.now fault) }
-    ensures failed { IsErrOf result stop.Desk → Rose (D.faults desk.old) (D.faults desk.new) }
-    ensures files { D.files desk.new ≡ D.files desk.old }
-    ensures said { D.said desk.new ≡ D.said desk.old }
-    ensures later { D.faults desk.old ≤ D.faults desk.new }
-    ensures quiet { D.quiet desk.old → D.quiet desk.new × (D.faults desk.new ≡ D.faults desk.old) }
+        (fault : InputFault) × (r ≡ refusal.Top fault) × IfSome (D.told desk.old).files (λ files. IsRefusedFile files name.now fault) }
+    ensures failed { IsErrOf result stop.Desk → Rose (D.told desk.old).faults (D.told desk.new).faults }
+    ensures stays { OnlyReads (D.told desk.old) (D.told desk.new) }
 {
     match read_whole(alloc, desk, name, LIMIT) {
         Ok(bytes) => Ok(bytes),
@@ -278,12 +269,11 @@ pub(crate) fn deliver_table<D: Desk>(
 ) -> Result<Status, WriteStop>
     requires { IsTabulable asked.now }
     ensures ok { IfOk result (λ s. HasTabulated (tabulated_case asked.now) (tabulated_events asked.now) asked.now.size asked.now.depth
-        s (D.files desk.old) (D.files desk.new) (D.said desk.old) (D.said desk.new)) }
+        s (D.told desk.old).files (D.told desk.new).files (D.told desk.old).said (D.told desk.new).said) }
     ensures part { TabulatesInPart (tabulated_case asked.now) (tabulated_events asked.now) asked.now.size asked.now.depth
-        (D.files desk.old) (D.files desk.new) (D.said desk.old) (D.said desk.new) }
-    ensures later { D.faults desk.old ≤ D.faults desk.new }
-    ensures failed { IsErrOf result write_stop.Failed → Rose (D.faults desk.old) (D.faults desk.new) }
-    ensures quiet { D.quiet desk.old → D.quiet desk.new × (D.faults desk.new ≡ D.faults desk.old) }
+        (D.told desk.old).files (D.told desk.new).files (D.told desk.old).said (D.told desk.new).said }
+    ensures failed { IsErrOf result write_stop.Failed → Rose (D.told desk.old).faults (D.told desk.new).faults }
+    ensures stays { IsLater (D.told desk.old) (D.told desk.new) }
 {
     let columns = columns_of(alloc, asked, panel)?;
     let text = text_of(alloc, asked, &columns)?;

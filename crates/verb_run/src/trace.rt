@@ -2,7 +2,7 @@
 //!
 //! The main function is [`load_trace`].
 ghost use Rattle.std.specs.Prelude.{◌≡◌, ◌≤◌, length, IfOk, IfSome, IsErrOf};
-ghost use Rattle.base_files.specs.Desk.{Rose};
+ghost use Rattle.base_files.specs.Desk.{OnlyReads, Rose};
 ghost use Rattle.smv_language.specs.ModelTree.{model_tree};
 ghost use Rattle.smv_language.specs.NumberedValues.{told_trace};
 ghost use Rattle.cut_text_laws.specs.TraceOfText.{IsPrintable, HasItsSymbols};
@@ -35,16 +35,13 @@ pub(crate) fn load_trace<D: Desk>(
 ) -> Result<MomentList, Stop>
     requires printable { IsPrintable (model_tree typed.now.model) }
     requires symbols { HasItsSymbols (model_tree typed.now.model) }
-    ensures ok { IfOk result (λ trace. IfSome (D.files desk.old) (λ files.
+    ensures ok { IfOk result (λ trace. IfSome (D.told desk.old).files (λ files.
         HoldsTrace files name.now (model_tree typed.now.model) (told_trace typed.now.model.symbols trace))) }
     ensures fit { IfOk result (CanBeReplayed (model_tree typed.now.model)) }
     ensures refused { (r : Refusal) → IsErrOf result (stop.Refused r) →
-        IfSome (D.files desk.old) (λ files. RefusesTrace files name.now (model_tree typed.now.model) r) }
-    ensures failed { IsErrOf result stop.Desk → Rose (D.faults desk.old) (D.faults desk.new) }
-    ensures files { D.files desk.new ≡ D.files desk.old }
-    ensures said { D.said desk.new ≡ D.said desk.old }
-    ensures later { D.faults desk.old ≤ D.faults desk.new }
-    ensures quiet { D.quiet desk.old → D.quiet desk.new × (D.faults desk.new ≡ D.faults desk.old) }
+        IfSome (D.told desk.old).files (λ files. RefusesTrace files name.now (model_tree typed.now.model) r) }
+    ensures failed { IsErrOf result stop.Desk → Rose (D.told desk.old).faults (D.told desk.new).faults }
+    ensures stays { OnlyReads (D.told desk.old) (D.told desk.new) }
 {
     let bytes = read_trace_file(alloc, desk, name)?;
     match read_trace(alloc, typed, &bytes) {
@@ -55,16 +52,13 @@ pub(crate) fn load_trace<D: Desk>(
 
 /// The bytes of the file of a trace.
 fn read_trace_file<D: Desk>(alloc: Global, desk: &mut D, name: &str) -> Result<Vec<u8>, Stop>
-    ensures bytes { IfOk result (λ bytes. IfSome (D.files desk.old) (λ files. HasAtMost 16777216 files name.now bytes.items)) }
+    ensures bytes { IfOk result (λ bytes. IfSome (D.told desk.old).files (λ files. HasAtMost 16777216 files name.now bytes.items)) }
     ensures short { IfOk result (λ bytes. length bytes.items ≤ 16777216) }
     ensures refused { (r : Refusal) → IsErrOf result (stop.Refused r) →
         (fault : InputFault) × (r ≡ refusal.NotAccepted (objection.Trace fault))
-        × IfSome (D.files desk.old) (λ files. IsRefusedAbove 16777216 files name.now fault) }
-    ensures failed { IsErrOf result stop.Desk → Rose (D.faults desk.old) (D.faults desk.new) }
-    ensures files { D.files desk.new ≡ D.files desk.old }
-    ensures said { D.said desk.new ≡ D.said desk.old }
-    ensures later { D.faults desk.old ≤ D.faults desk.new }
-    ensures quiet { D.quiet desk.old → D.quiet desk.new × (D.faults desk.new ≡ D.faults desk.old) }
+        × IfSome (D.told desk.old).files (λ files. IsRefusedAbove 16777216 files name.now fault) }
+    ensures failed { IsErrOf result stop.Desk → Rose (D.told desk.old).faults (D.told desk.new).faults }
+    ensures stays { OnlyReads (D.told desk.old) (D.told desk.new) }
 {
     match read_whole(alloc, desk, name, TRACE_LIMIT) {
         Ok(bytes) => Ok(bytes),

@@ -3,7 +3,7 @@
 //! Each has two halves: `prepare_..` reads its files, tries every refusal, and changes nothing; what follows writes and says, and
 //! refuses nothing. The main function is `carry_out`, which takes the verbs of `further` too.
 ghost use Rattle.std.specs.Prelude.{◌≡◌, ◌≤◌, IfOk, IfSome, IsErrOf};
-ghost use Rattle.base_files.specs.Desk.{Rose};
+ghost use Rattle.base_files.specs.Desk.{OnlyReads, IsLater, Rose};
 ghost use Rattle.verb_loading.specs.declared.status.Refusal.{Refusal};
 ghost use Rattle.verb_loading.specs.declared.input.Stop.TheVariants as stops;
 ghost use Rattle.verb_command_line.specs.declared.command.Command.TheVariants as ask;
@@ -45,12 +45,11 @@ pub(crate) fn carry_out<D: Desk>(
     asked: &Askable,
     panel: &mut Panel,
 ) -> Status
-    ensures answered { IsCarriedOut (seen asked.now) result (D.files desk.old) (D.files desk.new) (D.said desk.old) (D.said desk.new) }
-    ensures left { IsLeftInPart (seen asked.now) (D.files desk.old) (D.files desk.new) (D.said desk.old) (D.said desk.new) }
+    ensures answered { IsCarriedOut (seen asked.now) result (D.told desk.old).files (D.told desk.new).files (D.told desk.old).said (D.told desk.new).said }
+    ensures left { IsLeftInPart (seen asked.now) (D.told desk.old).files (D.told desk.new).files (D.told desk.old).said (D.told desk.new).said }
     ensures status { IsOfCommand (seen asked.now) result }
-    ensures failed { result ≡ Status.Desk → Rose (D.faults desk.old) (D.faults desk.new) }
-    ensures later { D.faults desk.old ≤ D.faults desk.new }
-    ensures quiet { D.quiet desk.old → D.quiet desk.new × (D.faults desk.new ≡ D.faults desk.old) }
+    ensures failed { result ≡ Status.Desk → Rose (D.told desk.old).faults (D.told desk.new).faults }
+    ensures stays { IsLater (D.told desk.old) (D.told desk.new) }
 {
     match asked.command() {
         Command::Extend(files) => extend_model(alloc, desk, files),
@@ -69,13 +68,12 @@ pub(crate) fn carry_out<D: Desk>(
 
 /// Reads both files, writes the extension, and says its faults.
 fn extend_model<D: Desk>(alloc: Global, desk: &mut D, asked: &Extend) -> Status
-    ensures answered { IsCarriedOut (seen (ask.Extend asked.now)) result (D.files desk.old) (D.files desk.new) (D.said desk.old)
-        (D.said desk.new) }
-    ensures left { IsLeftInPart (seen (ask.Extend asked.now)) (D.files desk.old) (D.files desk.new) (D.said desk.old) (D.said desk.new) }
+    ensures answered { IsCarriedOut (seen (ask.Extend asked.now)) result (D.told desk.old).files (D.told desk.new).files (D.told desk.old).said
+        (D.told desk.new).said }
+    ensures left { IsLeftInPart (seen (ask.Extend asked.now)) (D.told desk.old).files (D.told desk.new).files (D.told desk.old).said (D.told desk.new).said }
     ensures status { IsOfCommand (seen (ask.Extend asked.now)) result }
-    ensures failed { result ≡ Status.Desk → Rose (D.faults desk.old) (D.faults desk.new) }
-    ensures later { D.faults desk.old ≤ D.faults desk.new }
-    ensures quiet { D.quiet desk.old → D.quiet desk.new × (D.faults desk.new ≡ D.faults desk.old) }
+    ensures failed { result ≡ Status.Desk → Rose (D.told desk.old).faults (D.told desk.new).faults }
+    ensures stays { IsLater (D.told desk.old) (D.told desk.new) }
 {
     match prepare_extension(alloc, desk, asked) {
         Ok(made) => deliver_extension(desk, asked.extended, &made),
@@ -85,13 +83,12 @@ fn extend_model<D: Desk>(alloc: Global, desk: &mut D, asked: &Extend) -> Status
 
 /// Reads the three files and the top event, and says what a reaching trace has failed.
 fn replay_trace<D: Desk>(alloc: Global, desk: &mut D, asked: &Replay) -> Status
-    ensures answered { IsCarriedOut (seen (ask.Replay asked.now)) result (D.files desk.old) (D.files desk.new) (D.said desk.old)
-        (D.said desk.new) }
-    ensures left { IsLeftInPart (seen (ask.Replay asked.now)) (D.files desk.old) (D.files desk.new) (D.said desk.old) (D.said desk.new) }
+    ensures answered { IsCarriedOut (seen (ask.Replay asked.now)) result (D.told desk.old).files (D.told desk.new).files (D.told desk.old).said
+        (D.told desk.new).said }
+    ensures left { IsLeftInPart (seen (ask.Replay asked.now)) (D.told desk.old).files (D.told desk.new).files (D.told desk.old).said (D.told desk.new).said }
     ensures status { IsOfCommand (seen (ask.Replay asked.now)) result }
-    ensures failed { result ≡ Status.Desk → Rose (D.faults desk.old) (D.faults desk.new) }
-    ensures later { D.faults desk.old ≤ D.faults desk.new }
-    ensures quiet { D.quiet desk.old → D.quiet desk.new × (D.faults desk.new ≡ D.faults desk.old) }
+    ensures failed { result ≡ Status.Desk → Rose (D.told desk.old).faults (D.told desk.new).faults }
+    ensures stays { IsLater (D.told desk.old) (D.told desk.new) }
 {
     match prepare_replay(alloc, desk, asked) {
         Ok(report) => deliver_report(desk, &report),
@@ -101,13 +98,12 @@ fn replay_trace<D: Desk>(alloc: Global, desk: &mut D, asked: &Replay) -> Status
 
 /// Reads both files and the top event, writes the extension, searches, and says the report.
 fn analyse_event<D: Desk>(alloc: Global, desk: &mut D, asked: &Analyse, panel: &mut Panel) -> Status
-    ensures answered { IsCarriedOut (seen (ask.Analyse asked.now)) result (D.files desk.old) (D.files desk.new) (D.said desk.old)
-        (D.said desk.new) }
-    ensures left { IsLeftInPart (seen (ask.Analyse asked.now)) (D.files desk.old) (D.files desk.new) (D.said desk.old) (D.said desk.new) }
+    ensures answered { IsCarriedOut (seen (ask.Analyse asked.now)) result (D.told desk.old).files (D.told desk.new).files (D.told desk.old).said
+        (D.told desk.new).said }
+    ensures left { IsLeftInPart (seen (ask.Analyse asked.now)) (D.told desk.old).files (D.told desk.new).files (D.told desk.old).said (D.told desk.new).said }
     ensures status { IsOfCommand (seen (ask.Analyse asked.now)) result }
-    ensures failed { result ≡ Status.Desk → Rose (D.faults desk.old) (D.faults desk.new) }
-    ensures later { D.faults desk.old ≤ D.faults desk.new }
-    ensures quiet { D.quiet desk.old → D.quiet desk.new × (D.faults desk.new ≡ D.faults desk.old) }
+    ensures failed { result ≡ Status.Desk → Rose (D.told desk.old).faults (D.told desk.new).faults }
+    ensures stays { IsLater (D.told desk.old) (D.told desk.new) }
 {
     match prepare_analysis(alloc, desk, asked) {
         Ok(analysing) => finished(deliver_analysis(alloc, desk, &analysing, panel)),
@@ -117,13 +113,12 @@ fn analyse_event<D: Desk>(alloc: Global, desk: &mut D, asked: &Analyse, panel: &
 
 /// Reads the three files and the top event, and says that the certificate is accepted.
 fn check_certificate<D: Desk>(alloc: Global, desk: &mut D, asked: &Check) -> Status
-    ensures answered { IsCarriedOut (seen (ask.Check asked.now)) result (D.files desk.old) (D.files desk.new) (D.said desk.old)
-        (D.said desk.new) }
-    ensures left { IsLeftInPart (seen (ask.Check asked.now)) (D.files desk.old) (D.files desk.new) (D.said desk.old) (D.said desk.new) }
+    ensures answered { IsCarriedOut (seen (ask.Check asked.now)) result (D.told desk.old).files (D.told desk.new).files (D.told desk.old).said
+        (D.told desk.new).said }
+    ensures left { IsLeftInPart (seen (ask.Check asked.now)) (D.told desk.old).files (D.told desk.new).files (D.told desk.old).said (D.told desk.new).said }
     ensures status { IsOfCommand (seen (ask.Check asked.now)) result }
-    ensures failed { result ≡ Status.Desk → Rose (D.faults desk.old) (D.faults desk.new) }
-    ensures later { D.faults desk.old ≤ D.faults desk.new }
-    ensures quiet { D.quiet desk.old → D.quiet desk.new × (D.faults desk.new ≡ D.faults desk.old) }
+    ensures failed { result ≡ Status.Desk → Rose (D.told desk.old).faults (D.told desk.new).faults }
+    ensures stays { IsLater (D.told desk.old) (D.told desk.new) }
 {
     match prepare_check(alloc, desk, asked) {
         Ok(report) => deliver_report(desk, &report),
@@ -134,13 +129,12 @@ fn check_certificate<D: Desk>(alloc: Global, desk: &mut D, asked: &Check) -> Sta
 /// Reads the three files, searches for each top event, and says the table.
 fn tabulate<D: Desk>(alloc: Global, desk: &mut D, asked: &Fmea, panel: &mut Panel) -> Status
     requires { asked.now.size ≤ 2 }
-    ensures answered { IsCarriedOut (seen (ask.Fmea asked.now)) result (D.files desk.old) (D.files desk.new) (D.said desk.old)
-        (D.said desk.new) }
-    ensures left { IsLeftInPart (seen (ask.Fmea asked.now)) (D.files desk.old) (D.files desk.new) (D.said desk.old) (D.said desk.new) }
+    ensures answered { IsCarriedOut (seen (ask.Fmea asked.now)) result (D.told desk.old).files (D.told desk.new).files (D.told desk.old).said
+        (D.told desk.new).said }
+    ensures left { IsLeftInPart (seen (ask.Fmea asked.now)) (D.told desk.old).files (D.told desk.new).files (D.told desk.old).said (D.told desk.new).said }
     ensures status { IsOfCommand (seen (ask.Fmea asked.now)) result }
-    ensures failed { result ≡ Status.Desk → Rose (D.faults desk.old) (D.faults desk.new) }
-    ensures later { D.faults desk.old ≤ D.faults desk.new }
-    ensures quiet { D.quiet desk.old → D.quiet desk.new × (D.faults desk.new ≡ D.faults desk.old) }
+    ensures failed { result ≡ Status.Desk → Rose (D.told desk.old).faults (D.told desk.new).faults }
+    ensures stays { IsLater (D.told desk.old) (D.told desk.new) }
 {
     match prepare_table(alloc, desk, asked) {
         Ok(tabulating) => finished(deliver_table(alloc, desk, &tabulating, panel)),
@@ -151,13 +145,12 @@ fn tabulate<D: Desk>(alloc: Global, desk: &mut D, asked: &Fmea, panel: &mut Pane
 /// Generates a case, writes it, searches it, and says its line.
 fn make_case<D: Desk>(alloc: Global, desk: &mut D, asked: &Make, panel: &mut Panel) -> Status
     requires { asked.now.stages ≤ 64 }
-    ensures answered { IsCarriedOut (seen (ask.Make asked.now)) result (D.files desk.old) (D.files desk.new) (D.said desk.old)
-        (D.said desk.new) }
-    ensures left { IsLeftInPart (seen (ask.Make asked.now)) (D.files desk.old) (D.files desk.new) (D.said desk.old) (D.said desk.new) }
+    ensures answered { IsCarriedOut (seen (ask.Make asked.now)) result (D.told desk.old).files (D.told desk.new).files (D.told desk.old).said
+        (D.told desk.new).said }
+    ensures left { IsLeftInPart (seen (ask.Make asked.now)) (D.told desk.old).files (D.told desk.new).files (D.told desk.old).said (D.told desk.new).said }
     ensures status { IsOfCommand (seen (ask.Make asked.now)) result }
-    ensures failed { result ≡ Status.Desk → Rose (D.faults desk.old) (D.faults desk.new) }
-    ensures later { D.faults desk.old ≤ D.faults desk.new }
-    ensures quiet { D.quiet desk.old → D.quiet desk.new × (D.faults desk.new ≡ D.faults desk.old) }
+    ensures failed { result ≡ Status.Desk → Rose (D.told desk.old).faults (D.told desk.new).faults }
+    ensures stays { IsLater (D.told desk.old) (D.told desk.new) }
 {
     match prepare_made(alloc, asked) {
         Ok(making) => finished(deliver_made(alloc, desk, &making, panel)),
@@ -167,16 +160,13 @@ fn make_case<D: Desk>(alloc: Global, desk: &mut D, asked: &Make, panel: &mut Pan
 
 /// Reads both files, and makes what is to be written and said.
 fn prepare_extension<D: Desk>(alloc: Global, desk: &mut D, asked: &Extend) -> Result<Made, Stop>
-    ensures ok { IfOk result (λ made. IfSome (D.files desk.old) (λ files.
+    ensures ok { IfOk result (λ made. IfSome (D.told desk.old).files (λ files.
         ComesTo files asked.now.model.now asked.now.faults.now asked.now.extended.now
         (extends asked.now.extended.now made.text.items made.report))) }
-    ensures refused { (r : Refusal) → IsErrOf result (stops.Refused r) → IfSome (D.files desk.old) (λ files.
+    ensures refused { (r : Refusal) → IsErrOf result (stops.Refused r) → IfSome (D.told desk.old).files (λ files.
         ComesTo files asked.now.model.now asked.now.faults.now asked.now.extended.now (refuses r)) }
-    ensures failed { IsErrOf result stops.Desk → Rose (D.faults desk.old) (D.faults desk.new) }
-    ensures files { D.files desk.new ≡ D.files desk.old }
-    ensures said { D.said desk.new ≡ D.said desk.old }
-    ensures later { D.faults desk.old ≤ D.faults desk.new }
-    ensures quiet { D.quiet desk.old → D.quiet desk.new × (D.faults desk.new ≡ D.faults desk.old) }
+    ensures failed { IsErrOf result stops.Desk → Rose (D.told desk.old).faults (D.told desk.new).faults }
+    ensures stays { OnlyReads (D.told desk.old) (D.told desk.new) }
 {
     let model = load_model(alloc, desk, asked.model)?;
     load_extension(alloc, desk, asked.faults, &model)
@@ -184,15 +174,12 @@ fn prepare_extension<D: Desk>(alloc: Global, desk: &mut D, asked: &Extend) -> Re
 
 /// Reads the three files and the top event, and makes what is to be said of the trace.
 fn prepare_replay<D: Desk>(alloc: Global, desk: &mut D, asked: &Replay) -> Result<ByteList, Stop>
-    ensures ok { IfOk result (λ report. IfSome (D.files desk.old) (λ files.
+    ensures ok { IfOk result (λ report. IfSome (D.told desk.old).files (λ files.
         ReplayComesTo files asked.now.model.now asked.now.faults.now asked.now.trace.now asked.now.top.now (says report))) }
-    ensures refused { (r : Refusal) → IsErrOf result (stops.Refused r) → IfSome (D.files desk.old) (λ files.
+    ensures refused { (r : Refusal) → IsErrOf result (stops.Refused r) → IfSome (D.told desk.old).files (λ files.
         ReplayComesTo files asked.now.model.now asked.now.faults.now asked.now.trace.now asked.now.top.now (refuses r)) }
-    ensures failed { IsErrOf result stops.Desk → Rose (D.faults desk.old) (D.faults desk.new) }
-    ensures files { D.files desk.new ≡ D.files desk.old }
-    ensures said { D.said desk.new ≡ D.said desk.old }
-    ensures later { D.faults desk.old ≤ D.faults desk.new }
-    ensures quiet { D.quiet desk.old → D.quiet desk.new × (D.faults desk.new ≡ D.faults desk.old) }
+    ensures failed { IsErrOf result stops.Desk → Rose (D.told desk.old).faults (D.told desk.new).faults }
+    ensures stays { OnlyReads (D.told desk.old) (D.told desk.new) }
 {
     let model = load_model(alloc, desk, asked.model)?;
     let case = load_case(alloc, desk, asked.faults, &model)?;
@@ -206,18 +193,15 @@ fn prepare_analysis<'a, D: Desk>(
     desk: &mut D,
     asked: &Analyse<'a>,
 ) -> Result<Analysing<'a>, Stop>
-    ensures ok { IfOk result (λ a. IfSome (D.files desk.old) (λ files.
+    ensures ok { IfOk result (λ a. IfSome (D.told desk.old).files (λ files.
         CommandComesTo files (seen (ask.Analyse asked.now))
         (analyses (analysed_case a) a.word.now a.depth (analysed_size a) a.extended.now a.cert.now))) }
     ensures event { IfOk result (λ a. IsEvent a.word.now a.loaded) }
     ensures asked { IfOk result (λ a. a.depth ≡ asked.now.depth) }
     ensures refused { (r : Refusal) → IsErrOf result (stops.Refused r) →
-        IfSome (D.files desk.old) (λ files. CommandComesTo files (seen (ask.Analyse asked.now)) (refuses r)) }
-    ensures failed { IsErrOf result stops.Desk → Rose (D.faults desk.old) (D.faults desk.new) }
-    ensures files { D.files desk.new ≡ D.files desk.old }
-    ensures said { D.said desk.new ≡ D.said desk.old }
-    ensures later { D.faults desk.old ≤ D.faults desk.new }
-    ensures quiet { D.quiet desk.old → D.quiet desk.new × (D.faults desk.new ≡ D.faults desk.old) }
+        IfSome (D.told desk.old).files (λ files. CommandComesTo files (seen (ask.Analyse asked.now)) (refuses r)) }
+    ensures failed { IsErrOf result stops.Desk → Rose (D.told desk.old).faults (D.told desk.new).faults }
+    ensures stays { OnlyReads (D.told desk.old) (D.told desk.new) }
 {
     let loaded = load_event(alloc, desk, asked.model, asked.faults, asked.top)?;
     Ok(Analysing {
@@ -232,15 +216,12 @@ fn prepare_analysis<'a, D: Desk>(
 
 /// Reads the three files and the top event, and makes what is to be said of the certificate.
 fn prepare_check<D: Desk>(alloc: Global, desk: &mut D, asked: &Check) -> Result<ByteList, Stop>
-    ensures ok { IfOk result (λ report. IfSome (D.files desk.old) (λ files.
+    ensures ok { IfOk result (λ report. IfSome (D.told desk.old).files (λ files.
         CheckComesTo files asked.now.model.now asked.now.faults.now asked.now.top.now asked.now.cert.now (says report))) }
-    ensures refused { (r : Refusal) → IsErrOf result (stops.Refused r) → IfSome (D.files desk.old) (λ files.
+    ensures refused { (r : Refusal) → IsErrOf result (stops.Refused r) → IfSome (D.told desk.old).files (λ files.
         CheckComesTo files asked.now.model.now asked.now.faults.now asked.now.top.now asked.now.cert.now (refuses r)) }
-    ensures failed { IsErrOf result stops.Desk → Rose (D.faults desk.old) (D.faults desk.new) }
-    ensures files { D.files desk.new ≡ D.files desk.old }
-    ensures said { D.said desk.new ≡ D.said desk.old }
-    ensures later { D.faults desk.old ≤ D.faults desk.new }
-    ensures quiet { D.quiet desk.old → D.quiet desk.new × (D.faults desk.new ≡ D.faults desk.old) }
+    ensures failed { IsErrOf result stops.Desk → Rose (D.told desk.old).faults (D.told desk.new).faults }
+    ensures stays { OnlyReads (D.told desk.old) (D.told desk.new) }
 {
     let loaded = load_event(alloc, desk, asked.model, asked.faults, asked.top)?;
     check_file(alloc, desk, asked.cert, &loaded)
@@ -249,18 +230,15 @@ fn prepare_check<D: Desk>(alloc: Global, desk: &mut D, asked: &Check) -> Result<
 /// Reads the three files of a table.
 fn prepare_table<D: Desk>(alloc: Global, desk: &mut D, asked: &Fmea) -> Result<Tabulating, Stop>
     requires { asked.now.size ≤ 2 }
-    ensures ok { IfOk result (λ a. IfSome (D.files desk.old) (λ files.
+    ensures ok { IfOk result (λ a. IfSome (D.told desk.old).files (λ files.
         TableComesTo files asked.now.model.now asked.now.faults.now asked.now.tops.now asked.now.size asked.now.depth
         (tabulates (tabulated_case a) (tabulated_events a) a.size a.depth))) }
     ensures able { IfOk result IsTabulable }
     ensures asked { IfOk result (λ a. (a.size ≡ asked.now.size) × (a.depth ≡ asked.now.depth)) }
-    ensures refused { (r : Refusal) → IsErrOf result (stops.Refused r) → IfSome (D.files desk.old) (λ files.
+    ensures refused { (r : Refusal) → IsErrOf result (stops.Refused r) → IfSome (D.told desk.old).files (λ files.
         TableComesTo files asked.now.model.now asked.now.faults.now asked.now.tops.now asked.now.size asked.now.depth (refuses r)) }
-    ensures failed { IsErrOf result stops.Desk → Rose (D.faults desk.old) (D.faults desk.new) }
-    ensures files { D.files desk.new ≡ D.files desk.old }
-    ensures said { D.said desk.new ≡ D.said desk.old }
-    ensures later { D.faults desk.old ≤ D.faults desk.new }
-    ensures quiet { D.quiet desk.old → D.quiet desk.new × (D.faults desk.new ≡ D.faults desk.old) }
+    ensures failed { IsErrOf result stops.Desk → Rose (D.told desk.old).faults (D.told desk.new).faults }
+    ensures stays { OnlyReads (D.told desk.old) (D.told desk.new) }
 {
     load_table(
         alloc,
@@ -294,12 +272,11 @@ fn prepare_made<'a>(alloc: Global, asked: &Make<'a>) -> Result<Making<'a>, OutOf
 /// Writes an extension to its file and says its report.
 fn deliver_extension<D: Desk>(desk: &mut D, file: &str, made: &Made) -> Status
     ensures done { IsAnswer result → IsDelivered (extends file.now made.now.text.items made.now.report) result
-        (D.files desk.old) (D.files desk.new) (D.said desk.old) (D.said desk.new) }
+        (D.told desk.old).files (D.told desk.new).files (D.told desk.old).said (D.told desk.new).said }
     ensures part { IsDeliveredInPart (extends file.now made.now.text.items made.now.report)
-        (D.files desk.old) (D.files desk.new) (D.said desk.old) (D.said desk.new) }
-    ensures failed { result ≡ Status.Desk → Rose (D.faults desk.old) (D.faults desk.new) }
-    ensures later { D.faults desk.old ≤ D.faults desk.new }
-    ensures quiet { D.quiet desk.old → D.quiet desk.new × (D.faults desk.new ≡ D.faults desk.old) }
+        (D.told desk.old).files (D.told desk.new).files (D.told desk.old).said (D.told desk.new).said }
+    ensures failed { result ≡ Status.Desk → Rose (D.told desk.old).faults (D.told desk.new).faults }
+    ensures stays { IsLater (D.told desk.old) (D.told desk.new) }
 {
     ended(Status::Done, write_and_say(desk, file, made))
 }
@@ -307,11 +284,10 @@ fn deliver_extension<D: Desk>(desk: &mut D, file: &str, made: &Made) -> Status
 /// Says a report alone.
 fn deliver_report<D: Desk>(desk: &mut D, report: &ByteList) -> Status
     ensures done { IsAnswer result →
-        IsDelivered (says report.now) result (D.files desk.old) (D.files desk.new) (D.said desk.old) (D.said desk.new) }
-    ensures part { IsDeliveredInPart (says report.now) (D.files desk.old) (D.files desk.new) (D.said desk.old) (D.said desk.new) }
-    ensures failed { result ≡ Status.Desk → Rose (D.faults desk.old) (D.faults desk.new) }
-    ensures later { D.faults desk.old ≤ D.faults desk.new }
-    ensures quiet { D.quiet desk.old → D.quiet desk.new × (D.faults desk.new ≡ D.faults desk.old) }
+        IsDelivered (says report.now) result (D.told desk.old).files (D.told desk.new).files (D.told desk.old).said (D.told desk.new).said }
+    ensures part { IsDeliveredInPart (says report.now) (D.told desk.old).files (D.told desk.new).files (D.told desk.old).said (D.told desk.new).said }
+    ensures failed { result ≡ Status.Desk → Rose (D.told desk.old).faults (D.told desk.new).faults }
+    ensures stays { IsLater (D.told desk.old) (D.told desk.new) }
 {
     ended(Status::Done, say_whole(desk, report.as_slice()))
 }

@@ -2,7 +2,7 @@
 //!
 //! The main function is [`deliver_each`]: the extension is written first, and then each event searched in frames that are made once.
 ghost use Rattle.std.specs.Prelude.{◌≡◌, ◌≤◌, IfOk, IsErrOf};
-ghost use Rattle.base_files.specs.Desk.{Rose};
+ghost use Rattle.base_files.specs.Desk.{IsLater, Rose};
 ghost use Rattle.base_files.specs.declared.desk.WriteStop.TheVariants as write_stop;
 ghost use Rattle.sat_encoding_laws.specs.Lists.{system_of};
 ghost use Rattle.cut_text_laws.specs.Analysis.{told_ending};
@@ -43,10 +43,9 @@ pub(crate) fn deliver_each<D: Desk>(
     requires { IsTabulable asked.now.loaded }
     ensures ok { IfOk result (λ s. HasAnalysedEach (case_of_asked asked.now) (events_of_asked asked.now) asked.now.loaded.depth
         (size_of_asked asked.now) asked.now.extended.now asked.now.stem.now
-        s (D.files desk.old) (D.files desk.new) (D.said desk.old) (D.said desk.new)) }
-    ensures later { D.faults desk.old ≤ D.faults desk.new }
-    ensures failed { IsErrOf result write_stop.Failed → Rose (D.faults desk.old) (D.faults desk.new) }
-    ensures quiet { D.quiet desk.old → D.quiet desk.new × (D.faults desk.new ≡ D.faults desk.old) }
+        s (D.told desk.old).files (D.told desk.new).files (D.told desk.old).said (D.told desk.new).said) }
+    ensures failed { IsErrOf result write_stop.Failed → Rose (D.told desk.old).faults (D.told desk.new).faults }
+    ensures stays { IsLater (D.told desk.old) (D.told desk.new) }
 {
     let text = print_program(alloc, &asked.loaded.case.limited.woven.program)?;
     write_whole(desk, asked.extended, &text)?;
@@ -63,10 +62,9 @@ fn search_each<D: Desk>(
     requires { IsTabulable asked.now.loaded }
     ensures ok { IfOk result (λ s. HasReported (case_of_asked asked.now) (events_of_asked asked.now) asked.now.loaded.depth
         (size_of_asked asked.now) asked.now.stem.now
-        s (D.files desk.old) (D.files desk.new) (D.said desk.old) (D.said desk.new)) }
-    ensures later { D.faults desk.old ≤ D.faults desk.new }
-    ensures failed { IsErrOf result write_stop.Failed → Rose (D.faults desk.old) (D.faults desk.new) }
-    ensures quiet { D.quiet desk.old → D.quiet desk.new × (D.faults desk.new ≡ D.faults desk.old) }
+        s (D.told desk.old).files (D.told desk.new).files (D.told desk.old).said (D.told desk.new).said) }
+    ensures failed { IsErrOf result write_stop.Failed → Rose (D.told desk.old).faults (D.told desk.new).faults }
+    ensures stays { IsLater (D.told desk.old) (D.told desk.new) }
 {
     let tops = asked.loaded.tops.over.as_slice();
     if tops.is_empty() {
@@ -88,10 +86,9 @@ fn search_in<D: Desk>(
     requires system { frames.old.system ≡ system_of (whole_of (case_of_asked asked.now)) }
     ensures ok { IfOk result (λ s. HasReported (case_of_asked asked.now) (events_of_asked asked.now) asked.now.loaded.depth
         (size_of_asked asked.now) asked.now.stem.now
-        s (D.files desk.old) (D.files desk.new) (D.said desk.old) (D.said desk.new)) }
-    ensures later { D.faults desk.old ≤ D.faults desk.new }
-    ensures failed { IsErrOf result write_stop.Failed → Rose (D.faults desk.old) (D.faults desk.new) }
-    ensures quiet { D.quiet desk.old → D.quiet desk.new × (D.faults desk.new ≡ D.faults desk.old) }
+        s (D.told desk.old).files (D.told desk.new).files (D.told desk.old).said (D.told desk.new).said) }
+    ensures failed { IsErrOf result write_stop.Failed → Rose (D.told desk.old).faults (D.told desk.new).faults }
+    ensures stays { IsLater (D.told desk.old) (D.told desk.new) }
 {
     let tops = asked.loaded.tops.over.as_slice();
     let mut status = Status::Done;

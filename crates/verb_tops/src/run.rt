@@ -28,25 +28,25 @@ pub fn run_each<D: Desk>(
     advisers: Vec<Box<dyn Adviser>>,
 ) -> Status
     // Unless the desk failed or memory ran out, the words were refused, or the whole of what the files come to stands.
-    ensures answered { IsAnswer result → IfSome (D.files desk.old) (λ files.
-        HasAnsweredEach files (map (λ w. w.now) words.now) result (D.files desk.old) (D.files desk.new) (D.said desk.old)
-        (D.said desk.new)) }
+    ensures answered { IsAnswer result → IfSome (D.told desk.old).files (λ files.
+        HasAnsweredEach files (map (λ w. w.now) words.now) result (D.told desk.old).files (D.told desk.new).files (D.told desk.old).said
+        (D.told desk.new).said) }
     // The desk's status comes only where its count of faults rose.
-    ensures failed { result ≡ Status.Desk → Rose (D.faults desk.old) (D.faults desk.new) }
-    ensures later { D.faults desk.old ≤ D.faults desk.new }
-    ensures quiet { D.quiet desk.old → D.quiet desk.new × (D.faults desk.new ≡ D.faults desk.old) }
+    ensures failed { result ≡ Status.Desk → Rose (D.told desk.old).faults (D.told desk.new).faults }
+    ensures later { (D.told desk.old).faults ≤ (D.told desk.new).faults }
+    ensures quiet { (D.told desk.old).quiet → (D.told desk.new).quiet × ((D.told desk.new).faults ≡ (D.told desk.old).faults) }
 {
     answer(alloc, words, desk, &mut Panel::new(advisers))
 }
 
 /// Reads the words, and carries out what they ask for.
 fn answer<D: Desk>(alloc: Global, words: &[&str], desk: &mut D, panel: &mut Panel) -> Status
-    ensures answered { IsAnswer result → IfSome (D.files desk.old) (λ files.
-        HasAnsweredEach files (map (λ w. w.now) words.now) result (D.files desk.old) (D.files desk.new) (D.said desk.old)
-        (D.said desk.new)) }
-    ensures failed { result ≡ Status.Desk → Rose (D.faults desk.old) (D.faults desk.new) }
-    ensures later { D.faults desk.old ≤ D.faults desk.new }
-    ensures quiet { D.quiet desk.old → D.quiet desk.new × (D.faults desk.new ≡ D.faults desk.old) }
+    ensures answered { IsAnswer result → IfSome (D.told desk.old).files (λ files.
+        HasAnsweredEach files (map (λ w. w.now) words.now) result (D.told desk.old).files (D.told desk.new).files (D.told desk.old).said
+        (D.told desk.new).said) }
+    ensures failed { result ≡ Status.Desk → Rose (D.told desk.old).faults (D.told desk.new).faults }
+    ensures later { (D.told desk.old).faults ≤ (D.told desk.new).faults }
+    ensures quiet { (D.told desk.old).quiet → (D.told desk.new).quiet × ((D.told desk.new).faults ≡ (D.told desk.old).faults) }
 {
     match read_words(words) {
         Ok(Command::Analyse(asked)) => analyse_each(alloc, desk, &asked, panel),
@@ -57,13 +57,13 @@ fn answer<D: Desk>(alloc: Global, words: &[&str], desk: &mut D, panel: &mut Pane
 
 /// Reads the three files, writes the extension, searches for each event, and prints the reports.
 fn analyse_each<D: Desk>(alloc: Global, desk: &mut D, asked: &Analyse, panel: &mut Panel) -> Status
-    ensures answered { IsAnswer result → IfSome (D.files desk.old) (λ files.
+    ensures answered { IsAnswer result → IfSome (D.told desk.old).files (λ files.
         AnswersEach files asked.now.model.now asked.now.faults.now asked.now.top.now asked.now.depth asked.now.extended.now
         asked.now.cert.now asked.now.size
-        result (D.files desk.old) (D.files desk.new) (D.said desk.old) (D.said desk.new)) }
-    ensures failed { result ≡ Status.Desk → Rose (D.faults desk.old) (D.faults desk.new) }
-    ensures later { D.faults desk.old ≤ D.faults desk.new }
-    ensures quiet { D.quiet desk.old → D.quiet desk.new × (D.faults desk.new ≡ D.faults desk.old) }
+        result (D.told desk.old).files (D.told desk.new).files (D.told desk.old).said (D.told desk.new).said) }
+    ensures failed { result ≡ Status.Desk → Rose (D.told desk.old).faults (D.told desk.new).faults }
+    ensures later { (D.told desk.old).faults ≤ (D.told desk.new).faults }
+    ensures quiet { (D.told desk.old).quiet → (D.told desk.new).quiet × ((D.told desk.new).faults ≡ (D.told desk.old).faults) }
 {
     // (the rows of a table are not asked for)
     match load_table(

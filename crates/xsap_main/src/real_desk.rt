@@ -26,13 +26,7 @@ impl<R: Files + Print + Drop> RealDesk<R> {
 }
 
 impl<R: Files + Print + Drop> Desk for RealDesk<R> {
-    ghost files = { λ _. None };
-
-    ghost said = { λ _. None };
-
-    ghost faults = { λ desk. desk.faults };
-
-    ghost quiet = { λ _. ⊥ };
+    ghost told = { λ desk. record { files = None; said = None; faults = desk.faults; quiet = ⊥ } };
 
     fn read(&mut self, name: &str, at: u64, into: &mut [u8]) -> Result<usize, ReadStop> {
         match read_at(&self.runtime, name, at, into) {

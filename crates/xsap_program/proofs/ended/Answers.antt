@@ -11,6 +11,6 @@ returns-in-Err g c =
     record {
       ending = status.Memory;
       is_number = c.exit_number-in-Err.ensures;
-      has_run = without_memory (map (λ w. w.now) c.args.words.now) (g.D.Desk.files c.args.desk.now) (g.D.Desk.files c.advised.new.desk) (g.D.Desk.said c.args.desk.now) (g.D.Desk.said c.advised.new.desk)
-          (g.D.Desk.faults c.args.desk.now) (g.D.Desk.faults c.advised.new.desk);
+      has_run = without_memory (map (λ w. w.now) c.args.words.now) (g.D.Desk.told c.args.desk.now).files (g.D.Desk.told c.advised.new.desk).files (g.D.Desk.told c.args.desk.now).said (g.D.Desk.told c.advised.new.desk).said
+          (g.D.Desk.told c.args.desk.now).faults (g.D.Desk.told c.advised.new.desk).faults;
     }

@@ -1,14 +1,12 @@
 use Rattle.std.proofs.Common.{◌≡◌, ◌≤◌, ◌-◌, length}
 use Rattle.base_files.proofs.Reading.{IsPrefixOf}
+use Rattle.base_files.specs.Desk.{OnlyReads}
 use Rattle.base_files.proofs.whole.read_whole.Given as goal
 
 abbrev pub invariant-loop-bytes : goal.invariant-loop-bytes
 invariant-loop-bytes g l = record {
-  files : g.D.Desk.files l.desk ≡ g.D.Desk.files l.fn.desk;
-  said : g.D.Desk.said l.desk ≡ g.D.Desk.said l.fn.desk;
-  later : g.D.Desk.faults l.fn.desk ≤ g.D.Desk.faults l.desk;
-  quiet : g.D.Desk.quiet l.fn.desk → g.D.Desk.quiet l.desk × (g.D.Desk.faults l.desk ≡ g.D.Desk.faults l.fn.desk);
-  prefix : IsPrefixOf (g.D.Desk.files l.fn.desk) l.name l.bytes.items;
+  stays : OnlyReads (g.D.Desk.told l.fn.desk) (g.D.Desk.told l.desk);
+  prefix : IsPrefixOf (g.D.Desk.told l.fn.desk).files l.name l.bytes.items;
   short : length l.bytes.items ≤ l.limit;
   room : length l.buffer ≡ 4096;
 }

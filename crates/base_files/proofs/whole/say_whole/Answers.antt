@@ -1,6 +1,7 @@
 use Rattle.std.proofs.Common.{rules, arith, ◌≡◌, ◌++◌}
 use Rattle.std.proofs.lemmas.Result.{err_from_is_err_and}
 use Rattle.base_files.proofs.Saying.{IsSaid-more, SaysPrefix-refused}
+use Rattle.base_files.proofs.Stays.{says_on}
 use Rattle.base_files.proofs.whole.say_whole.Goals as goal
 
 pub returns-in_err-say-clause-err : goal.returns-in_err-say-clause-err
@@ -14,7 +15,5 @@ loop-rest-preserved g c =
     let cut : c.loop-rest.rest.now ≡ c.split_at.result.0.now ++ c.split_at.result.1.now = cc in
     record {
       said = IsSaid-more _ _ _ _ _ _ _ c.loop-rest.invariant.said cut c.in_ok-say.ensures.ok;
-      files = search rules;
-      later = omega arith;
-      quiet = search rules;
+      stays = says_on _ _ _ c.loop-rest.invariant.stays c.say.ensures.stays;
     }

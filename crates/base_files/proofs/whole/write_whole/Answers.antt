@@ -1,6 +1,7 @@
 use Rattle.std.proofs.Common.{rules, arith, ◌≡◌, ◌++◌}
 use Rattle.std.proofs.lemmas.Result.{err_from_is_err_and}
 use Rattle.base_files.proofs.Writing.{IsWritten-more, WritesPrefix-refused}
+use Rattle.base_files.proofs.Stays.{writes_on}
 use Rattle.base_files.proofs.whole.write_whole.Goals as goal
 
 pub returns-in_err-append-clause-err : goal.returns-in_err-append-clause-err
@@ -14,7 +15,5 @@ loop-rest-preserved g c =
     let cut : c.loop-rest.rest.now ≡ c.split_at.result.0.now ++ c.split_at.result.1.now = cc in
     record {
       written = IsWritten-more _ _ _ _ _ _ _ _ c.loop-rest.invariant.written cut c.in_ok-append.ensures.ok;
-      said = search rules;
-      later = omega arith;
-      quiet = search rules;
+      stays = writes_on _ _ _ c.loop-rest.invariant.stays c.append.ensures.stays;
     }

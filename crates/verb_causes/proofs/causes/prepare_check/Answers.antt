@@ -15,10 +15,10 @@ pub returns-clause-refused : goal.returns-clause-refused
 returns-clause-refused g c r e =
     let l = c.in_ok-staged.staged in
     let holds = holds_staged _ _ _ _ _ l c.in_ok-staged.ensures.case c.in_ok-staged.ensures.causes c.in_ok-staged.ensures.asked c.in_ok-staged.ensures.staged in
-    check_no_certificate _ _ _ _ _ _ _ l c.load_staged.ensures.files holds r (c.judge_file-report.ensures.refused r e)
+    check_no_certificate _ _ _ _ _ _ _ l c.load_staged.ensures.stays.files holds r (c.judge_file-report.ensures.refused r e)
 
 pub returns-clause-ok : goal.returns-clause-ok
 returns-clause-ok g c =
     let l = c.in_ok-staged.staged in
     let holds = holds_staged _ _ _ _ _ l c.in_ok-staged.ensures.case c.in_ok-staged.ensures.causes c.in_ok-staged.ensures.asked c.in_ok-staged.ensures.staged in
-    IfOk-weaker c.judge_file-report.result _ _ (λ report accepts. accepts_causes _ _ _ _ _ _ _ l c.load_staged.ensures.files holds report accepts) c.judge_file-report.ensures.ok
+    IfOk-weaker c.judge_file-report.result _ _ (λ report accepts. accepts_causes _ _ _ _ _ _ _ l c.load_staged.ensures.stays.files holds report accepts) c.judge_file-report.ensures.ok

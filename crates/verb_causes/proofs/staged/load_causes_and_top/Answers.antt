@@ -45,38 +45,11 @@ pub returns-in-Err-clause-failed : goal.returns-in-Err-clause-failed
 returns-in-Err-clause-failed g c e =
     absurd (c.load_top.ensures.desk (c.in-Err.is ∙ ap (λ s. Err s) (same_fault e)))
 
-pub returns-in_err-staged-clause-files : goal.returns-in_err-staged-clause-files
-returns-in_err-staged-clause-files g c = c.load_causes.ensures.files
+pub returns-in_err-staged-clause-stays : goal.returns-in_err-staged-clause-stays
+returns-in_err-staged-clause-stays g c = c.load_causes.ensures.stays
 
-pub returns-in_err-staged-clause-said : goal.returns-in_err-staged-clause-said
-returns-in_err-staged-clause-said g c = c.load_causes.ensures.said
+pub returns-in-Ok-clause-stays : goal.returns-in-Ok-clause-stays
+returns-in-Ok-clause-stays g c = c.load_causes.ensures.stays
 
-pub returns-in_err-staged-clause-later : goal.returns-in_err-staged-clause-later
-returns-in_err-staged-clause-later g c = c.load_causes.ensures.later
-
-pub returns-in_err-staged-clause-quiet : goal.returns-in_err-staged-clause-quiet
-returns-in_err-staged-clause-quiet g c quiet = c.load_causes.ensures.quiet quiet
-
-pub returns-in-Ok-clause-files : goal.returns-in-Ok-clause-files
-returns-in-Ok-clause-files g c = c.load_causes.ensures.files
-
-pub returns-in-Ok-clause-said : goal.returns-in-Ok-clause-said
-returns-in-Ok-clause-said g c = c.load_causes.ensures.said
-
-pub returns-in-Ok-clause-later : goal.returns-in-Ok-clause-later
-returns-in-Ok-clause-later g c = c.load_causes.ensures.later
-
-pub returns-in-Ok-clause-quiet : goal.returns-in-Ok-clause-quiet
-returns-in-Ok-clause-quiet g c quiet = c.load_causes.ensures.quiet quiet
-
-pub returns-in-Err-clause-files : goal.returns-in-Err-clause-files
-returns-in-Err-clause-files g c = c.load_causes.ensures.files
-
-pub returns-in-Err-clause-said : goal.returns-in-Err-clause-said
-returns-in-Err-clause-said g c = c.load_causes.ensures.said
-
-pub returns-in-Err-clause-later : goal.returns-in-Err-clause-later
-returns-in-Err-clause-later g c = c.load_causes.ensures.later
-
-pub returns-in-Err-clause-quiet : goal.returns-in-Err-clause-quiet
-returns-in-Err-clause-quiet g c quiet = c.load_causes.ensures.quiet quiet
+pub returns-in-Err-clause-stays : goal.returns-in-Err-clause-stays
+returns-in-Err-clause-stays g c = c.load_causes.ensures.stays

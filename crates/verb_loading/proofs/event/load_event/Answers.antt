@@ -19,14 +19,14 @@ pub returns-in_err-case-clause-refused : goal.returns-in_err-case-clause-refused
 returns-in_err-case-clause-refused g c r e =
     let exit = err_from_is_err_and c.from_residual-in_err-case.result c.from_residual-in_err-case.ensures.1 in
     let refused : IsErrOf c.load_case.result (stop.Refused r) = c.in_err-case.was ∙ ap (λ stop. Err stop) (sym exit.2 ∙ same_fault (sym exit.1 ∙ e)) in
-    event_no_faults _ _ _ _ _ _ r c.load_model.ensures.files c.in_ok-model.ensures.ok (c.load_case.ensures.refused r refused)
+    event_no_faults _ _ _ _ _ _ r c.load_model.ensures.stays.files c.in_ok-model.ensures.ok (c.load_case.ensures.refused r refused)
 
 pub returns-in_err-top-clause-refused : goal.returns-in_err-top-clause-refused
 returns-in_err-top-clause-refused g c r e =
     let exit = err_from_is_err_and c.from_residual-in_err-top.result c.from_residual-in_err-top.ensures.1 in
     let refused : IsErrOf c.load_top.result (stop.Refused r) = c.in_err-top.was ∙ ap (λ stop. Err stop) (sym exit.2 ∙ same_fault (sym exit.1 ∙ e)) in
     let p = program_tree c.in_ok-model.model.program in
-    let holds = holds_case _ _ c.args.word.now c.args.word.now _ _ p c.in_ok-case.case c.load_model.ensures.files c.in_ok-model.ensures.ok c.in_ok-case.ensures.ok in
+    let holds = holds_case _ _ c.args.word.now c.args.word.now _ _ p c.in_ok-case.case c.load_model.ensures.stays.files c.in_ok-model.ensures.ok c.in_ok-case.ensures.ok in
     event_no_top _ _ _ _ (case_of p c.in_ok-case.case) r holds (c.load_top.ensures.refused r refused)
 
 pub returns-in_err-top-clause-failed : goal.returns-in_err-top-clause-failed
@@ -38,7 +38,7 @@ returns-in_err-top-clause-failed g c e =
 pub returns-clause-ok : goal.returns-clause-ok
 returns-clause-ok g c =
     let p = program_tree c.in_ok-model.model.program in
-    holds_case _ _ c.args.word.now c.args.word.now _ _ p c.in_ok-case.case c.load_model.ensures.files c.in_ok-model.ensures.ok c.in_ok-case.ensures.ok
+    holds_case _ _ c.args.word.now c.args.word.now _ _ p c.in_ok-case.case c.load_model.ensures.stays.files c.in_ok-model.ensures.ok c.in_ok-case.ensures.ok
 
 pub returns-clause-event : goal.returns-clause-event
 returns-clause-event g c =

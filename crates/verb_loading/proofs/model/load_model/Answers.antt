@@ -15,5 +15,5 @@ returns-in_err-bytes-clause-refused g c r e =
 
 pub returns-clause-refused : goal.returns-clause-refused
 returns-clause-refused g c r e =
-    let has = subst (λ b. IfSome (g.D.Desk.files c.args.desk.now) (λ files. HasBytes files c.args.name.now b)) (sym c.deref.ensures.value) c.in_ok-bytes.ensures.bytes in
+    let has = subst (λ b. IfSome (g.D.Desk.told c.args.desk.now).files (λ files. HasBytes files c.args.name.now b)) (sym c.deref.ensures.value) c.in_ok-bytes.ensures.bytes in
     refuses_model_bytes _ _ _ c.in-Err.wrong r (sym (same_fault e) ∙ c.stop.ensures) has c.in-Err.ensures.wrong

@@ -5,11 +5,12 @@ use Rattle.verb_loading.specs.Statuses.{IsBoundedAt}
 use Rattle.verb_loading.proofs.SaidLaws.{rose_later, says_in_part}
 use Rattle.verb_loading.proofs.StopLaws.{write_refused, write_desk}
 use Rattle.verb_odds.proofs.OddsLaws.{has_odds, odds_in_part}
+use Rattle.base_files.proofs.Stays.{reads_says, says_on}
 use Rattle.verb_odds.proofs.odds.find_odds.Goals as goal
 use Rattle.base_values.proofs.ResultLaws.{same_fault}
 
 pub returns-in_err-found-clause-left : goal.returns-in_err-found-clause-left
-returns-in_err-found-clause-left g c = inl c.prepare_odds.ensures.said
+returns-in_err-found-clause-left g c = inl c.prepare_odds.ensures.stays.said
 
 pub returns-in_err-say_whole-clause-refused : goal.returns-in_err-say_whole-clause-refused
 returns-in_err-say_whole-clause-refused g c r e =
@@ -24,19 +25,19 @@ returns-in_err-say_whole-clause-silent g c r e =
 pub returns-in_err-say_whole-clause-left : goal.returns-in_err-say_whole-clause-left
 returns-in_err-say_whole-clause-left g c =
     inr (odds_in_part _ _ _ _ _ c.in_ok-found.found _ _ c.in_ok-found.ensures.ok
-    (subst (λ said. SaysPrefix said (g.D.Desk.said c.say_whole.new.desk) c.in_ok-found.found.report) c.prepare_odds.ensures.said
+    (subst (λ said. SaysPrefix said (g.D.Desk.told c.say_whole.new.desk).said c.in_ok-found.found.report) c.prepare_odds.ensures.stays.said
     (says_in_part c.say_whole.result _ _ _ _ c.as_slice.ensures c.say_whole.ensures.ok c.say_whole.ensures.err)))
 
 pub returns-in_err-say_whole-clause-failed : goal.returns-in_err-say_whole-clause-failed
 returns-in_err-say_whole-clause-failed g c e =
     let exit = err_from_is_err_and c.from_residual-in_err-say_whole.result c.from_residual-in_err-say_whole.ensures.1 in
     let is = write_desk _ (sym exit.2 ∙ same_fault (sym exit.1 ∙ e)) in
-    rose_later _ _ _ c.prepare_odds.ensures.later (c.say_whole.ensures.failed (c.in_err-say_whole.was ∙ ap (λ s. Err s) is))
+    rose_later _ _ _ c.prepare_odds.ensures.stays.later (c.say_whole.ensures.failed (c.in_err-say_whole.was ∙ ap (λ s. Err s) is))
 
 pub returns-clause-ok : goal.returns-clause-ok
 returns-clause-ok g c =
     has_odds _ _ _ _ _ c.in_ok-found.found _ _ _ c.in_ok-found.ensures.ok c.ended_as.ensures.ends
-    (c.in_ok-say_whole.ensures.ok ∙ ap (said_more (g.D.Desk.said c.prepare_odds.new.desk)) c.as_slice.ensures ∙ ap (λ t. said_more t c.in_ok-found.found.report) c.prepare_odds.ensures.said)
+    (c.in_ok-say_whole.ensures.ok ∙ ap (said_more (g.D.Desk.told c.prepare_odds.new.desk).said) c.as_slice.ensures ∙ ap (λ t. said_more t c.in_ok-found.found.report) c.prepare_odds.ensures.stays.said)
 
 pub returns-clause-depth : goal.returns-clause-depth
 returns-clause-depth g c = subst (IsBoundedAt c.args.asked.now.depth) (sym c.ended_as.ensures.ends) c.in_ok-found.ensures.depth
@@ -44,11 +45,8 @@ returns-clause-depth g c = subst (IsBoundedAt c.args.asked.now.depth) (sym c.end
 pub returns-clause-left : goal.returns-clause-left
 returns-clause-left g c =
     inr (odds_in_part _ _ _ _ _ c.in_ok-found.found _ _ c.in_ok-found.ensures.ok
-    (subst (λ said. SaysPrefix said (g.D.Desk.said c.say_whole.new.desk) c.in_ok-found.found.report) c.prepare_odds.ensures.said
+    (subst (λ said. SaysPrefix said (g.D.Desk.told c.say_whole.new.desk).said c.in_ok-found.found.report) c.prepare_odds.ensures.stays.said
     (says_in_part c.say_whole.result _ _ _ _ c.as_slice.ensures c.say_whole.ensures.ok c.say_whole.ensures.err)))
 
-pub returns-clause-quiet : goal.returns-clause-quiet
-returns-clause-quiet g c quiet =
-    let first = c.prepare_odds.ensures.quiet quiet in
-    let then = c.say_whole.ensures.quiet first.0 in
-    (then.0, then.1 ∙ first.1)
+pub returns-clause-stays : goal.returns-clause-stays
+returns-clause-stays g c = says_on _ _ _ (reads_says _ _ c.prepare_odds.ensures.stays) c.say_whole.ensures.stays

@@ -25,14 +25,14 @@ pub returns-in_err-case-clause-refused : goal.returns-in_err-case-clause-refused
 returns-in_err-case-clause-refused g c r e =
     let exit = err_from_is_err_and c.from_residual-in_err-case.result c.from_residual-in_err-case.ensures.1 in
     let is = sym exit.2 ∙ same_fault (sym exit.1 ∙ e) in
-    odds_no_faults _ _ _ _ _ _ r c.load_model.ensures.files c.in_ok-model.ensures.ok (c.load_case.ensures.refused r (c.in_err-case.was ∙ ap (λ s. Err s) is))
+    odds_no_faults _ _ _ _ _ _ r c.load_model.ensures.stays.files c.in_ok-model.ensures.ok (c.load_case.ensures.refused r (c.in_err-case.was ∙ ap (λ s. Err s) is))
 
 pub returns-in_err-odds-clause-refused : goal.returns-in_err-odds-clause-refused
 returns-in_err-odds-clause-refused g c r e =
     let exit = err_from_is_err_and c.from_residual-in_err-odds.result c.from_residual-in_err-odds.ensures.1 in
     let refused : IsErrOf c.marks_of.result (stop.Refused r) = c.in_err-odds.was ∙ ap (λ s. Err s) (sym exit.2 ∙ same_fault (sym exit.1 ∙ e)) in
     let p = program_tree c.in_ok-model.model.program in
-    let holds = holds_case _ _ c.args.asked.now.top.now c.args.asked.now.top.now _ _ p c.in_ok-case.case c.load_model.ensures.files c.in_ok-model.ensures.ok c.in_ok-case.ensures.ok in
+    let holds = holds_case _ _ c.args.asked.now.top.now c.args.asked.now.top.now _ _ p c.in_ok-case.case c.load_model.ensures.stays.files c.in_ok-model.ensures.ok c.in_ok-case.ensures.ok in
     odds_no_mark _ _ _ _ (case_of p c.in_ok-case.case) r holds (c.marks_of.ensures.refused r refused p)
 
 pub returns-in_err-odds-clause-failed : goal.returns-in_err-odds-clause-failed
@@ -46,7 +46,7 @@ returns-in_err-top-clause-refused g c r e =
     let exit = err_from_is_err_and c.from_residual-in_err-top.result c.from_residual-in_err-top.ensures.1 in
     let is = sym exit.2 ∙ same_fault (sym exit.1 ∙ e) in
     let p = program_tree c.in_ok-model.model.program in
-    let holds = holds_case _ _ c.args.asked.now.top.now c.args.asked.now.top.now _ _ p c.in_ok-case.case c.load_model.ensures.files c.in_ok-model.ensures.ok c.in_ok-case.ensures.ok in
+    let holds = holds_case _ _ c.args.asked.now.top.now c.args.asked.now.top.now _ _ p c.in_ok-case.case c.load_model.ensures.stays.files c.in_ok-model.ensures.ok c.in_ok-case.ensures.ok in
     odds_no_top _ _ _ _ (case_of p c.in_ok-case.case) r holds c.in_ok-odds.ensures.all (c.load_top.ensures.refused r (c.in_err-top.was ∙ ap (λ s. Err s) is))
 
 pub returns-in_err-top-clause-failed : goal.returns-in_err-top-clause-failed
@@ -58,7 +58,7 @@ returns-in_err-top-clause-failed g c e =
 pub returns-clause-ok : goal.returns-clause-ok
 returns-clause-ok g c =
     let p = program_tree c.in_ok-model.model.program in
-    holds_case _ _ c.args.asked.now.top.now c.args.asked.now.top.now _ _ p c.in_ok-case.case c.load_model.ensures.files c.in_ok-model.ensures.ok c.in_ok-case.ensures.ok
+    holds_case _ _ c.args.asked.now.top.now c.args.asked.now.top.now _ _ p c.in_ok-case.case c.load_model.ensures.stays.files c.in_ok-model.ensures.ok c.in_ok-case.ensures.ok
 
 pub returns-clause-marked : goal.returns-clause-marked
 returns-clause-marked g c =

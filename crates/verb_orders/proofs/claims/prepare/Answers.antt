@@ -4,6 +4,7 @@ use Rattle.verb_loading.proofs.SaidLaws.{rose_later}
 use Rattle.verb_loading.specs.declared.input.Stop.TheVariants as stop
 use Rattle.verb_orders.specs.declared.pair.PairWords.{PairWords}
 use Rattle.verb_orders.proofs.ClaimLaws.{check_no_pair, check_refused, check_done}
+use Rattle.base_files.proofs.Stays.{reads_on}
 use Rattle.verb_orders.proofs.claims.prepare.Goals as goal
 use Rattle.base_values.proofs.ResultLaws.{same_fault}
 
@@ -22,27 +23,18 @@ pub returns-clause-ok : goal.returns-clause-ok
 returns-clause-ok g c =
     let a = c.args.asked.now in
     let w : PairWords = record { model = a.model; faults = a.faults; top = a.top; set = a.set; first = a.first; second = a.second } in
-    check_done w a.claim.now a.cert.now c.in_ok-staged.staged c.in_ok-staged.ensures.staged c.in_ok-staged.ensures.asked c.in_ok-staged.ensures.numbers _ _ c.load_pair.ensures.files c.in_ok-staged.ensures.ok
+    check_done w a.claim.now a.cert.now c.in_ok-staged.staged c.in_ok-staged.ensures.staged c.in_ok-staged.ensures.asked c.in_ok-staged.ensures.numbers _ _ c.load_pair.ensures.stays.files c.in_ok-staged.ensures.ok
     c.judge_file-judged.result c.judge_file-judged.ensures.ok
 
 pub returns-clause-refused : goal.returns-clause-refused
 returns-clause-refused g c r e asked =
     let a = c.args.asked.now in
     let w : PairWords = record { model = a.model; faults = a.faults; top = a.top; set = a.set; first = a.first; second = a.second } in
-    check_refused w a.claim.now a.cert.now c.in_ok-staged.staged c.in_ok-staged.ensures.staged c.in_ok-staged.ensures.asked (c.in_ok-staged.ensures.numbers asked) _ _ r c.load_pair.ensures.files c.in_ok-staged.ensures.ok
+    check_refused w a.claim.now a.cert.now c.in_ok-staged.staged c.in_ok-staged.ensures.staged c.in_ok-staged.ensures.asked (c.in_ok-staged.ensures.numbers asked) _ _ r c.load_pair.ensures.stays.files c.in_ok-staged.ensures.ok
     (c.judge_file-judged.ensures.refused r e)
 
 pub returns-clause-failed : goal.returns-clause-failed
-returns-clause-failed g c e = rose_later _ _ _ c.load_pair.ensures.later (c.judge_file-judged.ensures.failed e)
+returns-clause-failed g c e = rose_later _ _ _ c.load_pair.ensures.stays.later (c.judge_file-judged.ensures.failed e)
 
-pub returns-clause-files : goal.returns-clause-files
-returns-clause-files g c = c.judge_file-judged.ensures.files ∙ c.load_pair.ensures.files
-
-pub returns-clause-said : goal.returns-clause-said
-returns-clause-said g c = c.judge_file-judged.ensures.said ∙ c.load_pair.ensures.said
-
-pub returns-clause-quiet : goal.returns-clause-quiet
-returns-clause-quiet g c quiet =
-    let first = c.load_pair.ensures.quiet quiet in
-    let then = c.judge_file-judged.ensures.quiet first.0 in
-    (then.0, then.1 ∙ first.1)
+pub returns-clause-stays : goal.returns-clause-stays
+returns-clause-stays g c = reads_on _ _ _ c.load_pair.ensures.stays c.judge_file-judged.ensures.stays

@@ -40,14 +40,14 @@ pub returns-in_err-case-clause-refused : goal.returns-in_err-case-clause-refused
 returns-in_err-case-clause-refused g c r e asked =
     let exit = err_from_is_err_and c.from_residual-in_err-case.result c.from_residual-in_err-case.ensures.1 in
     let is = sym exit.2 ∙ same_fault (sym exit.1 ∙ e) in
-    pair_no_faults c.args.asked.now.model.now c.args.asked.now.faults.now c.args.asked.now.top.now (numbers_of c.args.asked.now.set.now) c.args.asked.now.first c.args.asked.now.second _ _ _ r c.load_model.ensures.files c.in_ok-model.ensures.ok (c.load_case.ensures.refused r (c.in_err-case.was ∙ ap (λ s. Err s) is))
+    pair_no_faults c.args.asked.now.model.now c.args.asked.now.faults.now c.args.asked.now.top.now (numbers_of c.args.asked.now.set.now) c.args.asked.now.first c.args.asked.now.second _ _ _ r c.load_model.ensures.stays.files c.in_ok-model.ensures.ok (c.load_case.ensures.refused r (c.in_err-case.was ∙ ap (λ s. Err s) is))
 
 pub returns-in_err-typed-clause-refused : goal.returns-in_err-typed-clause-refused
 returns-in_err-typed-clause-refused g c r e asked =
     let exit = err_from_is_err_and c.from_residual-in_err-typed.result c.from_residual-in_err-typed.ensures.1 in
     let refused : IsErrOf c.staged.result (stops.Refused r) = c.in_err-typed.was ∙ ap (λ s. Err s) (sym exit.2 ∙ same_fault (sym exit.1 ∙ e)) in
     let p = program_tree c.in_ok-model.model.program in
-    let holds = holds_case _ _ c.args.asked.now.top.now c.args.asked.now.top.now _ _ p c.in_ok-case.case c.load_model.ensures.files c.in_ok-model.ensures.ok c.in_ok-case.ensures.ok in
+    let holds = holds_case _ _ c.args.asked.now.top.now c.args.asked.now.top.now _ _ p c.in_ok-case.case c.load_model.ensures.stays.files c.in_ok-model.ensures.ok c.in_ok-case.ensures.ok in
     let numbers : c.in_ok-set.set.items ≡ numbers_of c.args.asked.now.set.now = c.in_ok-set.ensures.numbers asked in
     pair_no_stage c.args.asked.now.model.now c.args.asked.now.faults.now c.args.asked.now.top.now (numbers_of c.args.asked.now.set.now) c.args.asked.now.first c.args.asked.now.second _ p c.in_ok-case.case r c.in_ok-case.ensures.loaded holds
     (subst (λ set. RefusesStage c.in_ok-case.case.limited set c.args.asked.now.first c.args.asked.now.second r) (c.deref.ensures.value ∙ numbers) (c.staged.ensures.refused r refused))
@@ -63,7 +63,7 @@ returns-in_err-top-clause-refused g c r e asked =
     let exit = err_from_is_err_and c.from_residual-in_err-top.result c.from_residual-in_err-top.ensures.1 in
     let is = sym exit.2 ∙ same_fault (sym exit.1 ∙ e) in
     let p = program_tree c.in_ok-model.model.program in
-    let holds = holds_case _ _ c.args.asked.now.top.now c.args.asked.now.top.now _ _ p c.in_ok-case.case c.load_model.ensures.files c.in_ok-model.ensures.ok c.in_ok-case.ensures.ok in
+    let holds = holds_case _ _ c.args.asked.now.top.now c.args.asked.now.top.now _ _ p c.in_ok-case.case c.load_model.ensures.stays.files c.in_ok-model.ensures.ok c.in_ok-case.ensures.ok in
     let numbers : c.in_ok-set.set.items ≡ numbers_of c.args.asked.now.set.now = c.in_ok-set.ensures.numbers asked in
     let of = c.in_ok-typed.ensures.ok in
     pair_no_top c.args.asked.now.model.now c.args.asked.now.faults.now c.args.asked.now.top.now (numbers_of c.args.asked.now.set.now) c.args.asked.now.first c.args.asked.now.second _ p c.in_ok-case.case r c.in_ok-case.ensures.loaded holds
@@ -82,7 +82,7 @@ staged-requires g c = subst (λ set. IsPair set c.args.asked.now.first c.args.as
 pub returns-clause-ok : goal.returns-clause-ok
 returns-clause-ok g c =
     let p = program_tree c.in_ok-model.model.program in
-    holds_case _ _ c.args.asked.now.top.now c.args.asked.now.top.now _ _ p c.in_ok-case.case c.load_model.ensures.files c.in_ok-model.ensures.ok c.in_ok-case.ensures.ok
+    holds_case _ _ c.args.asked.now.top.now c.args.asked.now.top.now _ _ p c.in_ok-case.case c.load_model.ensures.stays.files c.in_ok-model.ensures.ok c.in_ok-case.ensures.ok
 
 pub returns-clause-staged : goal.returns-clause-staged
 returns-clause-staged g c =

@@ -10,23 +10,23 @@ pub returns-in_err-found-clause-part : goal.returns-in_err-found-clause-part
 returns-in_err-found-clause-part g c =
     let a = c.args.asked.now in
     let first = written_extension a c.requires.loaded.program _ _ _ _ c.in_ok-text.ensures.text c.deref.ensures.value c.in_ok-write_whole.ensures.ok in
-    part_of_extension (whole_prefix _ _ a.extended.now (extension_text (analysed_case a)) first) c.write_whole.ensures.said
+    part_of_extension (whole_prefix _ _ a.extended.now (extension_text (analysed_case a)) first) c.write_whole.ensures.stays.said
 
 pub returns-in_err-conclude-clause-part : goal.returns-in_err-conclude-clause-part
 returns-in_err-conclude-clause-part g c =
     let a = c.args.asked.now in
     let first = written_extension a c.requires.loaded.program _ _ _ _ c.in_ok-text.ensures.text c.deref.ensures.value c.in_ok-write_whole.ensures.ok in
-    analyses_in_part _ _ _ _ _ a.cert.now c.in_ok-found.found c.in_ok-found.ensures _ _ _ _ _ first _ c.write_whole.ensures.said c.conclude.ensures.part
+    analyses_in_part _ _ _ _ _ a.cert.now c.in_ok-found.found c.in_ok-found.ensures _ _ _ _ _ first _ c.write_whole.ensures.stays.said c.conclude.ensures.part
 
 pub returns-clause-ok : goal.returns-clause-ok
 returns-clause-ok g c =
     let a = c.args.asked.now in
     let first = written_extension a c.requires.loaded.program _ _ _ _ c.in_ok-text.ensures.text c.deref.ensures.value c.in_ok-write_whole.ensures.ok in
     has_analysed _ _ _ _ _ a.cert.now c.in_ok-found.found c.in_ok-found.ensures _ _ _ _ _ first c.ended_as.result c.ended_as.ensures.ends c.in_ok-conclude.ensures.ok.0
-    (c.in_ok-conclude.ensures.ok.1 ∙ ap (λ t. said_more t c.in_ok-found.found.report) c.write_whole.ensures.said)
+    (c.in_ok-conclude.ensures.ok.1 ∙ ap (λ t. said_more t c.in_ok-found.found.report) c.write_whole.ensures.stays.said)
 
 pub returns-clause-part : goal.returns-clause-part
 returns-clause-part g c =
     let a = c.args.asked.now in
     let first = written_extension a c.requires.loaded.program _ _ _ _ c.in_ok-text.ensures.text c.deref.ensures.value c.in_ok-write_whole.ensures.ok in
-    analyses_in_part _ _ _ _ _ a.cert.now c.in_ok-found.found c.in_ok-found.ensures _ _ _ _ _ first _ c.write_whole.ensures.said c.conclude.ensures.part
+    analyses_in_part _ _ _ _ _ a.cert.now c.in_ok-found.found c.in_ok-found.ensures _ _ _ _ _ first _ c.write_whole.ensures.stays.said c.conclude.ensures.part

@@ -5,7 +5,7 @@ use Rattle.verb_run.proofs.ending.concluded.Goals as goal
 
 pub returns-in-Ok-clause-concluded : goal.returns-in-Ok-clause-concluded
 returns-in-Ok-clause-concluded g c =
-    subst (λ d. Concluded d c.in-Ok.status (g.D.Desk.files c.args.desk.now) (g.D.Desk.files c.args.desk.now) (g.D.Desk.said c.args.desk.now) (g.D.Desk.said c.args.desk.now)) (sym c.in-Ok.is)
+    subst (λ d. Concluded d c.in-Ok.status (g.D.Desk.told c.args.desk.now).files (g.D.Desk.told c.args.desk.now).files (g.D.Desk.told c.args.desk.now).said (g.D.Desk.told c.args.desk.now).said) (sym c.in-Ok.is)
     (record { ends = refl; kept = refl; silent = refl })
 
 pub returns-in-Ok-clause-failed : goal.returns-in-Ok-clause-failed
@@ -13,7 +13,7 @@ returns-in-Ok-clause-failed g c desk = absurd (subst IsFinished desk (subst (λ 
 
 pub returns-in-Err-clause-concluded : goal.returns-in-Err-clause-concluded
 returns-in-Err-clause-concluded g c =
-    subst (λ d. Concluded d c.stopped.result (g.D.Desk.files c.args.desk.now) (g.D.Desk.files c.stopped.new.desk) (g.D.Desk.said c.args.desk.now) (g.D.Desk.said c.stopped.new.desk)) (sym c.in-Err.is)
+    subst (λ d. Concluded d c.stopped.result (g.D.Desk.told c.args.desk.now).files (g.D.Desk.told c.stopped.new.desk).files (g.D.Desk.told c.args.desk.now).said (g.D.Desk.told c.stopped.new.desk).said) (sym c.in-Err.is)
     c.stopped.ensures.stopped
 
 pub returns-in-Err-clause-failed : goal.returns-in-Err-clause-failed

@@ -9,11 +9,12 @@ use Rattle.verb_command_line.specs.declared.command.Command.TheVariants as ask
 use Rattle.verb_command_line.specs.CommandView.{seen}
 use Rattle.verb_loading.proofs.SaidLaws.{rose_later}
 use Rattle.verb_run.proofs.StatusLaws.{concluded_of, work_of}
+use Rattle.base_files.proofs.Stays.{later_on}
 use Rattle.verb_run.proofs.further.causes.Goals as goal
 
 pub returns-clause-answered : goal.returns-clause-answered
 returns-clause-answered g c answer =
-    let so : (files : List NamedFile) (s : Status) → HasFoundCauses files c.args.asked.now.model.now c.args.asked.now.faults.now c.args.asked.now.causes.now c.args.asked.now.top.now c.args.asked.now.cert.now c.args.asked.now.depth s (g.D.Desk.files c.args.desk.now) (g.D.Desk.files c.find_causes-done.new.desk) (g.D.Desk.said c.args.desk.now) (g.D.Desk.said c.find_causes-done.new.desk) → Stands (λ o. CommandComesTo files (seen (ask.Causes c.args.asked.now)) o) s (g.D.Desk.files c.args.desk.now) (g.D.Desk.files c.find_causes-done.new.desk) (g.D.Desk.said c.args.desk.now) (g.D.Desk.said c.find_causes-done.new.desk)
+    let so : (files : List NamedFile) (s : Status) → HasFoundCauses files c.args.asked.now.model.now c.args.asked.now.faults.now c.args.asked.now.causes.now c.args.asked.now.top.now c.args.asked.now.cert.now c.args.asked.now.depth s (g.D.Desk.told c.args.desk.now).files (g.D.Desk.told c.find_causes-done.new.desk).files (g.D.Desk.told c.args.desk.now).said (g.D.Desk.told c.find_causes-done.new.desk).said → Stands (λ o. CommandComesTo files (seen (ask.Causes c.args.asked.now)) o) s (g.D.Desk.told c.args.desk.now).files (g.D.Desk.told c.find_causes-done.new.desk).files (g.D.Desk.told c.args.desk.now).said (g.D.Desk.told c.find_causes-done.new.desk).said
     = λ files s h. record {
       outcome = finds_causes files c.args.asked.now.model.now c.args.asked.now.faults.now c.args.asked.now.causes.now c.args.asked.now.top.now c.args.asked.now.depth c.args.asked.now.cert.now;
       means = is_done (staged_of_caused files c.args.asked.now.model.now c.args.asked.now.faults.now c.args.asked.now.causes.now c.args.asked.now.top.now h.finds.loaded h.finds.holds);
@@ -29,7 +30,7 @@ returns-clause-answered g c answer =
 
 pub returns-clause-left : goal.returns-clause-left
 returns-clause-left g c =
-    let so : (files : List NamedFile) → FindsCausesInPart files c.args.asked.now.model.now c.args.asked.now.faults.now c.args.asked.now.causes.now c.args.asked.now.top.now c.args.asked.now.cert.now c.args.asked.now.depth (g.D.Desk.files c.args.desk.now) (g.D.Desk.files c.find_causes-done.new.desk) (g.D.Desk.said c.args.desk.now) (g.D.Desk.said c.find_causes-done.new.desk) → StandsInPart (λ o. CommandComesTo files (seen (ask.Causes c.args.asked.now)) o) (g.D.Desk.files c.args.desk.now) (g.D.Desk.files c.find_causes-done.new.desk) (g.D.Desk.said c.args.desk.now) (g.D.Desk.said c.find_causes-done.new.desk)
+    let so : (files : List NamedFile) → FindsCausesInPart files c.args.asked.now.model.now c.args.asked.now.faults.now c.args.asked.now.causes.now c.args.asked.now.top.now c.args.asked.now.cert.now c.args.asked.now.depth (g.D.Desk.told c.args.desk.now).files (g.D.Desk.told c.find_causes-done.new.desk).files (g.D.Desk.told c.args.desk.now).said (g.D.Desk.told c.find_causes-done.new.desk).said → StandsInPart (λ o. CommandComesTo files (seen (ask.Causes c.args.asked.now)) o) (g.D.Desk.told c.args.desk.now).files (g.D.Desk.told c.find_causes-done.new.desk).files (g.D.Desk.told c.args.desk.now).said (g.D.Desk.told c.find_causes-done.new.desk).said
     = λ files h. record {
       outcome = finds_causes files c.args.asked.now.model.now c.args.asked.now.faults.now c.args.asked.now.causes.now c.args.asked.now.top.now c.args.asked.now.depth c.args.asked.now.cert.now;
       means = is_done (staged_of_caused files c.args.asked.now.model.now c.args.asked.now.faults.now c.args.asked.now.causes.now c.args.asked.now.top.now h.finds.loaded h.finds.holds);
@@ -45,13 +46,10 @@ returns-clause-left g c =
 
 pub returns-clause-failed : goal.returns-clause-failed
 returns-clause-failed g c desk =
-    ⊎_elim (λ e. rose_before _ _ _ (c.find_causes-done.ensures.failed e) c.concluded.ensures.later) (λ rose. rose_later _ _ _ c.find_causes-done.ensures.later rose) (c.concluded.ensures.failed desk)
+    ⊎_elim (λ e. rose_before _ _ _ (c.find_causes-done.ensures.failed e) c.concluded.ensures.stays.later) (λ rose. rose_later _ _ _ c.find_causes-done.ensures.stays.later rose) (c.concluded.ensures.failed desk)
 
-pub returns-clause-quiet : goal.returns-clause-quiet
-returns-clause-quiet g c quiet =
-    let first = c.find_causes-done.ensures.quiet quiet in
-    let then = c.concluded.ensures.quiet first.0 in
-    (then.0, then.1 ∙ first.1)
+pub returns-clause-stays : goal.returns-clause-stays
+returns-clause-stays g c = later_on _ _ _ c.find_causes-done.ensures.stays c.concluded.ensures.stays
 
 pub returns-clause-status : goal.returns-clause-status
 returns-clause-status g c =

@@ -8,49 +8,47 @@ use Rattle.verb_command_line.specs.declared.command.Command.TheVariants as ask
 use Rattle.verb_command_line.specs.CommandView.{seen}
 use Rattle.verb_loading.proofs.SaidLaws.{rose_later}
 use Rattle.verb_run.proofs.StatusLaws.{concluded_of, work_of}
+use Rattle.base_files.proofs.Stays.{says_later, later_on}
 use Rattle.verb_run.proofs.further.odds.Goals as goal
 
 pub returns-clause-answered : goal.returns-clause-answered
 returns-clause-answered g c answer =
-    let so : (files : List NamedFile) (s : Status) → HasOdds files c.args.asked.now.model.now c.args.asked.now.faults.now c.args.asked.now.top.now c.args.asked.now.depth s (g.D.Desk.said c.args.desk.now) (g.D.Desk.said c.find_odds-done.new.desk) → Stands (λ o. CommandComesTo files (seen (ask.Odds c.args.asked.now)) o) s (g.D.Desk.files c.args.desk.now) (g.D.Desk.files c.find_odds-done.new.desk) (g.D.Desk.said c.args.desk.now) (g.D.Desk.said c.find_odds-done.new.desk)
+    let so : (files : List NamedFile) (s : Status) → HasOdds files c.args.asked.now.model.now c.args.asked.now.faults.now c.args.asked.now.top.now c.args.asked.now.depth s (g.D.Desk.told c.args.desk.now).said (g.D.Desk.told c.find_odds-done.new.desk).said → Stands (λ o. CommandComesTo files (seen (ask.Odds c.args.asked.now)) o) s (g.D.Desk.told c.args.desk.now).files (g.D.Desk.told c.find_odds-done.new.desk).files (g.D.Desk.told c.args.desk.now).said (g.D.Desk.told c.find_odds-done.new.desk).said
     = λ files s h. record {
       outcome = finds_odds files c.args.asked.now.model.now c.args.asked.now.faults.now c.args.asked.now.top.now c.args.asked.now.depth;
       means = is_done (record { c = h.answer.c; holds = h.answer.holds; all = h.answer.all; event = h.answer.event; is_event = h.answer.is_event });
-      delivered = (c.find_odds-done.ensures.files, h);
+      delivered = (c.find_odds-done.ensures.stays.files, h);
     } in
     answers_work (λ files o. CommandComesTo files (seen (ask.Odds c.args.asked.now)) o) _ _ _ _ _ _ c.find_odds-done.result c.concluded.result
     (done_told c.find_odds-done.result _ _ _
     so
     c.find_odds-done.ensures.ok)
     (λ r e. some_told _ _ _ (λ files bad. is_refused r bad) (c.find_odds-done.ensures.refused r e))
-    (λ r e. (c.find_odds-done.ensures.files, c.find_odds-done.ensures.silent r e))
+    (λ r e. (c.find_odds-done.ensures.stays.files, c.find_odds-done.ensures.silent r e))
     c.concluded.ensures.concluded answer
 
 pub returns-clause-left : goal.returns-clause-left
 returns-clause-left g c =
-    let so : (files : List NamedFile) → SaysOddsInPart files c.args.asked.now.model.now c.args.asked.now.faults.now c.args.asked.now.top.now c.args.asked.now.depth (g.D.Desk.said c.args.desk.now) (g.D.Desk.said c.find_odds-done.new.desk) → StandsInPart (λ o. CommandComesTo files (seen (ask.Odds c.args.asked.now)) o) (g.D.Desk.files c.args.desk.now) (g.D.Desk.files c.find_odds-done.new.desk) (g.D.Desk.said c.args.desk.now) (g.D.Desk.said c.find_odds-done.new.desk)
+    let so : (files : List NamedFile) → SaysOddsInPart files c.args.asked.now.model.now c.args.asked.now.faults.now c.args.asked.now.top.now c.args.asked.now.depth (g.D.Desk.told c.args.desk.now).said (g.D.Desk.told c.find_odds-done.new.desk).said → StandsInPart (λ o. CommandComesTo files (seen (ask.Odds c.args.asked.now)) o) (g.D.Desk.told c.args.desk.now).files (g.D.Desk.told c.find_odds-done.new.desk).files (g.D.Desk.told c.args.desk.now).said (g.D.Desk.told c.find_odds-done.new.desk).said
     = λ files h. record {
       outcome = finds_odds files c.args.asked.now.model.now c.args.asked.now.faults.now c.args.asked.now.top.now c.args.asked.now.depth;
       means = is_done (record { c = h.answer.c; holds = h.answer.holds; all = h.answer.all; event = h.answer.event; is_event = h.answer.is_event });
-      in_part = (c.find_odds-done.ensures.files, h);
+      in_part = (c.find_odds-done.ensures.stays.files, h);
     } in
     leaves_work (λ files o. CommandComesTo files (seen (ask.Odds c.args.asked.now)) o) _ _ _ _ _ _ c.find_odds-done.result c.concluded.result
     (left_said _ _ _ _ _
     so
-    c.find_odds-done.ensures.files c.find_odds-done.ensures.left)
+    c.find_odds-done.ensures.stays.files c.find_odds-done.ensures.left)
     (λ r e. some_told _ _ _ (λ files bad. is_refused r bad) (c.find_odds-done.ensures.refused r e))
-    (λ r e. (c.find_odds-done.ensures.files, c.find_odds-done.ensures.silent r e))
+    (λ r e. (c.find_odds-done.ensures.stays.files, c.find_odds-done.ensures.silent r e))
     c.concluded.ensures.concluded
 
 pub returns-clause-failed : goal.returns-clause-failed
 returns-clause-failed g c desk =
-    ⊎_elim (λ e. rose_before _ _ _ (c.find_odds-done.ensures.failed e) c.concluded.ensures.later) (λ rose. rose_later _ _ _ c.find_odds-done.ensures.later rose) (c.concluded.ensures.failed desk)
+    ⊎_elim (λ e. rose_before _ _ _ (c.find_odds-done.ensures.failed e) c.concluded.ensures.stays.later) (λ rose. rose_later _ _ _ c.find_odds-done.ensures.stays.later rose) (c.concluded.ensures.failed desk)
 
-pub returns-clause-quiet : goal.returns-clause-quiet
-returns-clause-quiet g c quiet =
-    let first = c.find_odds-done.ensures.quiet quiet in
-    let then = c.concluded.ensures.quiet first.0 in
-    (then.0, then.1 ∙ first.1)
+pub returns-clause-stays : goal.returns-clause-stays
+returns-clause-stays g c = later_on _ _ _ (says_later _ _ c.find_odds-done.ensures.stays) c.concluded.ensures.stays
 
 pub returns-clause-status : goal.returns-clause-status
 returns-clause-status g c =

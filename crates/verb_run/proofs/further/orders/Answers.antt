@@ -9,11 +9,12 @@ use Rattle.verb_command_line.specs.declared.command.Command.TheVariants as ask
 use Rattle.verb_command_line.specs.CommandView.{seen}
 use Rattle.verb_loading.proofs.SaidLaws.{rose_later}
 use Rattle.verb_run.proofs.StatusLaws.{concluded_of, work_of}
+use Rattle.base_files.proofs.Stays.{later_on}
 use Rattle.verb_run.proofs.further.orders.Goals as goal
 
 pub returns-clause-answered : goal.returns-clause-answered
 returns-clause-answered g c answer =
-    let so : (files : List NamedFile) (s : Status) → HasOrder files c.args.asked.now.model.now c.args.asked.now.faults.now c.args.asked.now.top.now (numbers_of c.args.asked.now.set.now) c.args.asked.now.first c.args.asked.now.second c.args.asked.now.depth c.args.asked.now.cert.now s (g.D.Desk.files c.args.desk.now) (g.D.Desk.files c.find_orders-done.new.desk) (g.D.Desk.said c.args.desk.now) (g.D.Desk.said c.find_orders-done.new.desk) → Stands (λ o. CommandComesTo files (seen (ask.Orders c.args.asked.now)) o) s (g.D.Desk.files c.args.desk.now) (g.D.Desk.files c.find_orders-done.new.desk) (g.D.Desk.said c.args.desk.now) (g.D.Desk.said c.find_orders-done.new.desk)
+    let so : (files : List NamedFile) (s : Status) → HasOrder files c.args.asked.now.model.now c.args.asked.now.faults.now c.args.asked.now.top.now (numbers_of c.args.asked.now.set.now) c.args.asked.now.first c.args.asked.now.second c.args.asked.now.depth c.args.asked.now.cert.now s (g.D.Desk.told c.args.desk.now).files (g.D.Desk.told c.find_orders-done.new.desk).files (g.D.Desk.told c.args.desk.now).said (g.D.Desk.told c.find_orders-done.new.desk).said → Stands (λ o. CommandComesTo files (seen (ask.Orders c.args.asked.now)) o) s (g.D.Desk.told c.args.desk.now).files (g.D.Desk.told c.find_orders-done.new.desk).files (g.D.Desk.told c.args.desk.now).said (g.D.Desk.told c.find_orders-done.new.desk).said
     = λ files s h. record {
       outcome = finds_order files c.args.asked.now.model.now c.args.asked.now.faults.now c.args.asked.now.top.now (numbers_of c.args.asked.now.set.now) c.args.asked.now.first c.args.asked.now.second c.args.asked.now.depth c.args.asked.now.cert.now;
       means = is_done (record { c = h.c; holds = h.holds; event = h.found.event; is_event = h.found.is_event });
@@ -29,7 +30,7 @@ returns-clause-answered g c answer =
 
 pub returns-clause-left : goal.returns-clause-left
 returns-clause-left g c =
-    let so : (files : List NamedFile) → OrdersInPart files c.args.asked.now.model.now c.args.asked.now.faults.now c.args.asked.now.top.now (numbers_of c.args.asked.now.set.now) c.args.asked.now.first c.args.asked.now.second c.args.asked.now.depth c.args.asked.now.cert.now (g.D.Desk.files c.args.desk.now) (g.D.Desk.files c.find_orders-done.new.desk) (g.D.Desk.said c.args.desk.now) (g.D.Desk.said c.find_orders-done.new.desk) → StandsInPart (λ o. CommandComesTo files (seen (ask.Orders c.args.asked.now)) o) (g.D.Desk.files c.args.desk.now) (g.D.Desk.files c.find_orders-done.new.desk) (g.D.Desk.said c.args.desk.now) (g.D.Desk.said c.find_orders-done.new.desk)
+    let so : (files : List NamedFile) → OrdersInPart files c.args.asked.now.model.now c.args.asked.now.faults.now c.args.asked.now.top.now (numbers_of c.args.asked.now.set.now) c.args.asked.now.first c.args.asked.now.second c.args.asked.now.depth c.args.asked.now.cert.now (g.D.Desk.told c.args.desk.now).files (g.D.Desk.told c.find_orders-done.new.desk).files (g.D.Desk.told c.args.desk.now).said (g.D.Desk.told c.find_orders-done.new.desk).said → StandsInPart (λ o. CommandComesTo files (seen (ask.Orders c.args.asked.now)) o) (g.D.Desk.told c.args.desk.now).files (g.D.Desk.told c.find_orders-done.new.desk).files (g.D.Desk.told c.args.desk.now).said (g.D.Desk.told c.find_orders-done.new.desk).said
     = λ files h. record {
       outcome = finds_order files c.args.asked.now.model.now c.args.asked.now.faults.now c.args.asked.now.top.now (numbers_of c.args.asked.now.set.now) c.args.asked.now.first c.args.asked.now.second c.args.asked.now.depth c.args.asked.now.cert.now;
       means = is_done (record { c = h.c; holds = h.holds; event = h.found.event; is_event = h.found.is_event });
@@ -45,13 +46,10 @@ returns-clause-left g c =
 
 pub returns-clause-failed : goal.returns-clause-failed
 returns-clause-failed g c desk =
-    ⊎_elim (λ e. rose_before _ _ _ (c.find_orders-done.ensures.failed e) c.concluded.ensures.later) (λ rose. rose_later _ _ _ c.find_orders-done.ensures.later rose) (c.concluded.ensures.failed desk)
+    ⊎_elim (λ e. rose_before _ _ _ (c.find_orders-done.ensures.failed e) c.concluded.ensures.stays.later) (λ rose. rose_later _ _ _ c.find_orders-done.ensures.stays.later rose) (c.concluded.ensures.failed desk)
 
-pub returns-clause-quiet : goal.returns-clause-quiet
-returns-clause-quiet g c quiet =
-    let first = c.find_orders-done.ensures.quiet quiet in
-    let then = c.concluded.ensures.quiet first.0 in
-    (then.0, then.1 ∙ first.1)
+pub returns-clause-stays : goal.returns-clause-stays
+returns-clause-stays g c = later_on _ _ _ c.find_orders-done.ensures.stays c.concluded.ensures.stays
 
 pub returns-clause-status : goal.returns-clause-status
 returns-clause-status g c =

@@ -7,15 +7,16 @@ use Rattle.verb_run.proofs.OutcomeLemmas.{answers_prepared, stops_at_prepared, f
 use Rattle.verb_loading.proofs.SaidLaws.{rose_later}
 use Rattle.verb_run.proofs.StatusLaws.{finished_of, analysed_of, stopped_of}
 use Rattle.std.proofs.lemmas.Result.{IfOk-weaker}
+use Rattle.base_files.proofs.Stays.{reads_later, later_on}
 use Rattle.verb_run.proofs.verbs.analyse_event.Goals as goal
 
 pub returns-in-Ok-clause-answered : goal.returns-in-Ok-clause-answered
 returns-in-Ok-clause-answered g c answer =
     let a = c.in-Ok.analysing in
-    answers_prepared (λ files o. CommandComesTo files (seen (ask.Analyse c.args.asked.now)) o) _ _ _ _ _ _ c.prepare_analysis.ensures.files c.prepare_analysis.ensures.said
+    answers_prepared (λ files o. CommandComesTo files (seen (ask.Analyse c.args.asked.now)) o) _ _ _ _ _ _ c.prepare_analysis.ensures.stays.files c.prepare_analysis.ensures.stays.said
     (analyses (analysed_case a) a.word.now a.depth (analysed_size a) a.extended.now a.cert.now) c.finished.result c.in-Ok.ensures.ok
     (finished_answers
-    (λ s. IsDelivered (analyses (analysed_case a) a.word.now a.depth (analysed_size a) a.extended.now a.cert.now) s (g.D.Desk.files c.prepare_analysis.new.desk) (g.D.Desk.files c.deliver_analysis.new.desk) (g.D.Desk.said c.prepare_analysis.new.desk) (g.D.Desk.said c.deliver_analysis.new.desk))
+    (λ s. IsDelivered (analyses (analysed_case a) a.word.now a.depth (analysed_size a) a.extended.now a.cert.now) s (g.D.Desk.told c.prepare_analysis.new.desk).files (g.D.Desk.told c.deliver_analysis.new.desk).files (g.D.Desk.told c.prepare_analysis.new.desk).said (g.D.Desk.told c.deliver_analysis.new.desk).said)
     c.deliver_analysis.result c.finished.result c.finished.ensures c.deliver_analysis.ensures.ok)
     answer
 
@@ -23,33 +24,30 @@ pub returns-in-Ok-clause-left : goal.returns-in-Ok-clause-left
 returns-in-Ok-clause-left g c =
     let a = c.in-Ok.analysing in
     inr (
-    stops_at_prepared (λ files o. CommandComesTo files (seen (ask.Analyse c.args.asked.now)) o) _ _ _ _ _ _ c.prepare_analysis.ensures.files c.prepare_analysis.ensures.said
+    stops_at_prepared (λ files o. CommandComesTo files (seen (ask.Analyse c.args.asked.now)) o) _ _ _ _ _ _ c.prepare_analysis.ensures.stays.files c.prepare_analysis.ensures.stays.said
     (analyses (analysed_case a) a.word.now a.depth (analysed_size a) a.extended.now a.cert.now) c.in-Ok.ensures.ok c.deliver_analysis.ensures.part
     )
 
 pub returns-in-Err-clause-answered : goal.returns-in-Err-clause-answered
 returns-in-Err-clause-answered g c answer =
-    answers_stop (λ files o. CommandComesTo files (seen (ask.Analyse c.args.asked.now)) o) _ _ _ _ _ _ c.prepare_analysis.ensures.files c.prepare_analysis.ensures.said c.in-Err.stop c.stopped.result
+    answers_stop (λ files o. CommandComesTo files (seen (ask.Analyse c.args.asked.now)) o) _ _ _ _ _ _ c.prepare_analysis.ensures.stays.files c.prepare_analysis.ensures.stays.said c.in-Err.stop c.stopped.result
     (λ r is. c.in-Err.ensures.refused r (ap (λ s. Err s) is)) c.stopped.ensures.stopped answer
 
 pub returns-in-Err-clause-left : goal.returns-in-Err-clause-left
 returns-in-Err-clause-left g c =
-    leaves_stop (λ files o. CommandComesTo files (seen (ask.Analyse c.args.asked.now)) o) _ _ _ _ _ _ c.prepare_analysis.ensures.files c.prepare_analysis.ensures.said c.in-Err.stop c.stopped.result
+    leaves_stop (λ files o. CommandComesTo files (seen (ask.Analyse c.args.asked.now)) o) _ _ _ _ _ _ c.prepare_analysis.ensures.stays.files c.prepare_analysis.ensures.stays.said c.in-Err.stop c.stopped.result
     (λ r is. c.in-Err.ensures.refused r (ap (λ s. Err s) is)) c.stopped.ensures.stopped
 
 pub returns-in-Ok-clause-failed : goal.returns-in-Ok-clause-failed
 returns-in-Ok-clause-failed g c desk =
     let a = c.in-Ok.analysing in
-    rose_later _ _ _ c.prepare_analysis.ensures.later
+    rose_later _ _ _ c.prepare_analysis.ensures.stays.later
     (failed_finish
-    (λ s. IsDelivered (analyses (analysed_case a) a.word.now a.depth (analysed_size a) a.extended.now a.cert.now) s (g.D.Desk.files c.prepare_analysis.new.desk) (g.D.Desk.files c.deliver_analysis.new.desk) (g.D.Desk.said c.prepare_analysis.new.desk) (g.D.Desk.said c.deliver_analysis.new.desk))
+    (λ s. IsDelivered (analyses (analysed_case a) a.word.now a.depth (analysed_size a) a.extended.now a.cert.now) s (g.D.Desk.told c.prepare_analysis.new.desk).files (g.D.Desk.told c.deliver_analysis.new.desk).files (g.D.Desk.told c.prepare_analysis.new.desk).said (g.D.Desk.told c.deliver_analysis.new.desk).said)
     _ c.deliver_analysis.result c.finished.result c.finished.ensures c.deliver_analysis.ensures.ok (λ h. not_desk h.analysis.ending h.ends) c.deliver_analysis.ensures.failed desk)
 
-pub returns-in-Ok-clause-quiet : goal.returns-in-Ok-clause-quiet
-returns-in-Ok-clause-quiet g c quiet =
-    let first = c.prepare_analysis.ensures.quiet quiet in
-    let then = c.deliver_analysis.ensures.quiet first.0 in
-    (then.0, then.1 ∙ first.1)
+pub returns-in-Ok-clause-stays : goal.returns-in-Ok-clause-stays
+returns-in-Ok-clause-stays g c = later_on _ _ _ (reads_later _ _ c.prepare_analysis.ensures.stays) c.deliver_analysis.ensures.stays
 
 pub returns-in-Ok-clause-status : goal.returns-in-Ok-clause-status
 returns-in-Ok-clause-status g c =

@@ -8,24 +8,24 @@ use Rattle.verb_run.proofs.verbs.extend_model.Goals as goal
 
 pub returns-in-Ok-clause-answered : goal.returns-in-Ok-clause-answered
 returns-in-Ok-clause-answered g c answer =
-    answers_prepared (λ files o. CommandComesTo files (seen (ask.Extend c.args.asked.now)) o) _ _ _ _ _ _ c.prepare_extension.ensures.files c.prepare_extension.ensures.said
+    answers_prepared (λ files o. CommandComesTo files (seen (ask.Extend c.args.asked.now)) o) _ _ _ _ _ _ c.prepare_extension.ensures.stays.files c.prepare_extension.ensures.stays.said
     (extends c.args.asked.now.extended.now c.in-Ok.made.text.items c.in-Ok.made.report) c.deliver_extension.result c.in-Ok.ensures.ok c.deliver_extension.ensures.done answer
 
 pub returns-in-Ok-clause-left : goal.returns-in-Ok-clause-left
 returns-in-Ok-clause-left g c =
     inr (
-    stops_at_prepared (λ files o. CommandComesTo files (seen (ask.Extend c.args.asked.now)) o) _ _ _ _ _ _ c.prepare_extension.ensures.files c.prepare_extension.ensures.said
+    stops_at_prepared (λ files o. CommandComesTo files (seen (ask.Extend c.args.asked.now)) o) _ _ _ _ _ _ c.prepare_extension.ensures.stays.files c.prepare_extension.ensures.stays.said
     (extends c.args.asked.now.extended.now c.in-Ok.made.text.items c.in-Ok.made.report) c.in-Ok.ensures.ok c.deliver_extension.ensures.part
     )
 
 pub returns-in-Err-clause-answered : goal.returns-in-Err-clause-answered
 returns-in-Err-clause-answered g c answer =
-    answers_stop (λ files o. CommandComesTo files (seen (ask.Extend c.args.asked.now)) o) _ _ _ _ _ _ c.prepare_extension.ensures.files c.prepare_extension.ensures.said c.in-Err.stop c.stopped.result
+    answers_stop (λ files o. CommandComesTo files (seen (ask.Extend c.args.asked.now)) o) _ _ _ _ _ _ c.prepare_extension.ensures.stays.files c.prepare_extension.ensures.stays.said c.in-Err.stop c.stopped.result
     (λ r is. c.in-Err.ensures.refused r (ap (λ s. Err s) is)) c.stopped.ensures.stopped answer
 
 pub returns-in-Err-clause-left : goal.returns-in-Err-clause-left
 returns-in-Err-clause-left g c =
-    leaves_stop (λ files o. CommandComesTo files (seen (ask.Extend c.args.asked.now)) o) _ _ _ _ _ _ c.prepare_extension.ensures.files c.prepare_extension.ensures.said c.in-Err.stop c.stopped.result
+    leaves_stop (λ files o. CommandComesTo files (seen (ask.Extend c.args.asked.now)) o) _ _ _ _ _ _ c.prepare_extension.ensures.stays.files c.prepare_extension.ensures.stays.said c.in-Err.stop c.stopped.result
     (λ r is. c.in-Err.ensures.refused r (ap (λ s. Err s) is)) c.stopped.ensures.stopped
 
 pub returns-in-Ok-clause-status : goal.returns-in-Ok-clause-status

@@ -12,9 +12,9 @@ pub returns-in-Ok-clause-answered : goal.returns-in-Ok-clause-answered
 returns-in-Ok-clause-answered g c answer =
     let a = c.in-Ok.making in
     answers_prepared (λ files o. CommandComesTo files (seen (ask.Make c.args.asked.now)) o) _ _ _ _ _ _ refl refl
-    (makes (made_case a) a.stages a.depth a.model.now a.faults.now) c.finished.result (for_files (MakeComesTo c.args.asked.now.number c.args.asked.now.stages c.args.asked.now.depth c.args.asked.now.model.now c.args.asked.now.faults.now (makes (made_case a) a.stages a.depth a.model.now a.faults.now)) (g.D.Desk.files c.args.desk.now) c.in-Ok.ensures.ok)
+    (makes (made_case a) a.stages a.depth a.model.now a.faults.now) c.finished.result (for_files (MakeComesTo c.args.asked.now.number c.args.asked.now.stages c.args.asked.now.depth c.args.asked.now.model.now c.args.asked.now.faults.now (makes (made_case a) a.stages a.depth a.model.now a.faults.now)) (g.D.Desk.told c.args.desk.now).files c.in-Ok.ensures.ok)
     (finished_answers
-    (λ s. IsDelivered (makes (made_case a) a.stages a.depth a.model.now a.faults.now) s (g.D.Desk.files c.args.desk.now) (g.D.Desk.files c.deliver_made.new.desk) (g.D.Desk.said c.args.desk.now) (g.D.Desk.said c.deliver_made.new.desk))
+    (λ s. IsDelivered (makes (made_case a) a.stages a.depth a.model.now a.faults.now) s (g.D.Desk.told c.args.desk.now).files (g.D.Desk.told c.deliver_made.new.desk).files (g.D.Desk.told c.args.desk.now).said (g.D.Desk.told c.deliver_made.new.desk).said)
     c.deliver_made.result c.finished.result c.finished.ensures c.deliver_made.ensures.ok)
     answer
 
@@ -23,7 +23,7 @@ returns-in-Ok-clause-left g c =
     let a = c.in-Ok.making in
     inr (
     stops_at_prepared (λ files o. CommandComesTo files (seen (ask.Make c.args.asked.now)) o) _ _ _ _ _ _ refl refl
-    (makes (made_case a) a.stages a.depth a.model.now a.faults.now) (for_files (MakeComesTo c.args.asked.now.number c.args.asked.now.stages c.args.asked.now.depth c.args.asked.now.model.now c.args.asked.now.faults.now (makes (made_case a) a.stages a.depth a.model.now a.faults.now)) (g.D.Desk.files c.args.desk.now) c.in-Ok.ensures.ok) c.deliver_made.ensures.part
+    (makes (made_case a) a.stages a.depth a.model.now a.faults.now) (for_files (MakeComesTo c.args.asked.now.number c.args.asked.now.stages c.args.asked.now.depth c.args.asked.now.model.now c.args.asked.now.faults.now (makes (made_case a) a.stages a.depth a.model.now a.faults.now)) (g.D.Desk.told c.args.desk.now).files c.in-Ok.ensures.ok) c.deliver_made.ensures.part
     )
 
 pub returns-in-Err-clause-left : goal.returns-in-Err-clause-left
@@ -33,7 +33,7 @@ pub returns-in-Ok-clause-failed : goal.returns-in-Ok-clause-failed
 returns-in-Ok-clause-failed g c =
     let a = c.in-Ok.making in
     failed_finish
-    (λ s. IsDelivered (makes (made_case a) a.stages a.depth a.model.now a.faults.now) s (g.D.Desk.files c.args.desk.now) (g.D.Desk.files c.deliver_made.new.desk) (g.D.Desk.said c.args.desk.now) (g.D.Desk.said c.deliver_made.new.desk))
+    (λ s. IsDelivered (makes (made_case a) a.stages a.depth a.model.now a.faults.now) s (g.D.Desk.told c.args.desk.now).files (g.D.Desk.told c.deliver_made.new.desk).files (g.D.Desk.told c.args.desk.now).said (g.D.Desk.told c.deliver_made.new.desk).said)
     _ c.deliver_made.result c.finished.result c.finished.ensures c.deliver_made.ensures.ok (λ h. not_desk h.analysis.ending h.ends) c.deliver_made.ensures.failed
 
 pub returns-in-Ok-clause-status : goal.returns-in-Ok-clause-status

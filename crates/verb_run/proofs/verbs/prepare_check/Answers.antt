@@ -15,9 +15,9 @@ pub check_file-requires : goal.check_file-requires
 check_file-requires g c = record { word = c.args.asked.now.top.now; is_event = c.in_ok-loaded.ensures.event }
 
 pub returns-clause-refused : goal.returns-clause-refused
-returns-clause-refused g c r e = check_refused _ _ _ _ _ _ c.in_ok-loaded.loaded r c.load_event.ensures.files c.in_ok-loaded.ensures.ok c.in_ok-loaded.ensures.event (c.check_file.ensures.refused r e)
+returns-clause-refused g c r e = check_refused _ _ _ _ _ _ c.in_ok-loaded.loaded r c.load_event.ensures.stays.files c.in_ok-loaded.ensures.ok c.in_ok-loaded.ensures.event (c.check_file.ensures.refused r e)
 
 pub returns-clause-ok : goal.returns-clause-ok
 returns-clause-ok g c =
     IfOk-weaker c.check_file.result _ _
-    (λ report said. check_says _ _ _ _ _ _ c.in_ok-loaded.loaded report c.load_event.ensures.files c.in_ok-loaded.ensures.ok c.in_ok-loaded.ensures.event said) c.check_file.ensures.ok
+    (λ report said. check_says _ _ _ _ _ _ c.in_ok-loaded.loaded report c.load_event.ensures.stays.files c.in_ok-loaded.ensures.ok c.in_ok-loaded.ensures.event said) c.check_file.ensures.ok

@@ -13,9 +13,9 @@ returns-in_err-model-clause-refused g c r e =
 
 pub returns-clause-refused : goal.returns-clause-refused
 returns-clause-refused g c r e =
-    comes_to_no_faults _ _ _ _ _ _ r c.load_model.ensures.files c.in_ok-model.ensures.ok (c.load_extension.ensures.refused r e)
+    comes_to_no_faults _ _ _ _ _ _ r c.load_model.ensures.stays.files c.in_ok-model.ensures.ok (c.load_extension.ensures.refused r e)
 
 pub returns-clause-ok : goal.returns-clause-ok
 returns-clause-ok g c =
     IfOk-weaker c.load_extension.result _ _
-    (λ made has. comes_to_extension _ _ _ _ _ _ made c.load_model.ensures.files c.in_ok-model.ensures.ok has) c.load_extension.ensures.ok
+    (λ made has. comes_to_extension _ _ _ _ _ _ made c.load_model.ensures.stays.files c.in_ok-model.ensures.ok has) c.load_extension.ensures.ok

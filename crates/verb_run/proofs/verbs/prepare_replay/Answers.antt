@@ -20,14 +20,14 @@ pub returns-in_err-case-clause-refused : goal.returns-in_err-case-clause-refused
 returns-in_err-case-clause-refused g c r e =
     let exit = err_from_is_err_and c.from_residual-in_err-case.result c.from_residual-in_err-case.ensures.1 in
     let refused : IsErrOf c.load_case.result (stop.Refused r) = c.in_err-case.was ∙ ap (λ stop. Err stop) (sym exit.2 ∙ same_fault (sym exit.1 ∙ e)) in
-    replays_no_faults _ _ _ _ _ _ _ r c.load_model.ensures.files c.in_ok-model.ensures.ok (c.load_case.ensures.refused r refused)
+    replays_no_faults _ _ _ _ _ _ _ r c.load_model.ensures.stays.files c.in_ok-model.ensures.ok (c.load_case.ensures.refused r refused)
 
 pub returns-in_err-top-clause-refused : goal.returns-in_err-top-clause-refused
 returns-in_err-top-clause-refused g c r e =
     let exit = err_from_is_err_and c.from_residual-in_err-top.result c.from_residual-in_err-top.ensures.1 in
     let refused : IsErrOf c.load_top.result (stop.Refused r) = c.in_err-top.was ∙ ap (λ stop. Err stop) (sym exit.2 ∙ same_fault (sym exit.1 ∙ e)) in
     let p = program_tree c.in_ok-model.model.program in
-    let holds = holds_case _ _ c.args.asked.now.trace.now c.args.asked.now.top.now _ _ p c.in_ok-case.case c.load_model.ensures.files c.in_ok-model.ensures.ok c.in_ok-case.ensures.ok in
+    let holds = holds_case _ _ c.args.asked.now.trace.now c.args.asked.now.top.now _ _ p c.in_ok-case.case c.load_model.ensures.stays.files c.in_ok-model.ensures.ok c.in_ok-case.ensures.ok in
     replays_no_top _ _ _ _ _ (case_of p c.in_ok-case.case) r holds (c.load_top.ensures.refused r refused)
 
 pub returns-in_err-top-clause-failed : goal.returns-in_err-top-clause-failed
@@ -39,12 +39,12 @@ returns-in_err-top-clause-failed g c e =
 pub returns-clause-refused : goal.returns-clause-refused
 returns-clause-refused g c r e =
     let p = program_tree c.in_ok-model.model.program in
-    let holds = holds_case _ _ c.args.asked.now.trace.now c.args.asked.now.top.now _ _ p c.in_ok-case.case c.load_model.ensures.files c.in_ok-model.ensures.ok c.in_ok-case.ensures.ok in
-    replays_trace _ _ _ _ _ _ (case_of p c.in_ok-case.case) (flat_tree c.in_ok-top.top) (refuses r) (c.load_case.ensures.files ∙ c.load_model.ensures.files) holds c.in_ok-top.ensures.ok (c.replay_file.ensures.refused r e)
+    let holds = holds_case _ _ c.args.asked.now.trace.now c.args.asked.now.top.now _ _ p c.in_ok-case.case c.load_model.ensures.stays.files c.in_ok-model.ensures.ok c.in_ok-case.ensures.ok in
+    replays_trace _ _ _ _ _ _ (case_of p c.in_ok-case.case) (flat_tree c.in_ok-top.top) (refuses r) (c.load_case.ensures.stays.files ∙ c.load_model.ensures.stays.files) holds c.in_ok-top.ensures.ok (c.replay_file.ensures.refused r e)
 
 pub returns-clause-ok : goal.returns-clause-ok
 returns-clause-ok g c =
     let p = program_tree c.in_ok-model.model.program in
-    let holds = holds_case _ _ c.args.asked.now.trace.now c.args.asked.now.top.now _ _ p c.in_ok-case.case c.load_model.ensures.files c.in_ok-model.ensures.ok c.in_ok-case.ensures.ok in
+    let holds = holds_case _ _ c.args.asked.now.trace.now c.args.asked.now.top.now _ _ p c.in_ok-case.case c.load_model.ensures.stays.files c.in_ok-model.ensures.ok c.in_ok-case.ensures.ok in
     IfOk-weaker c.replay_file.result _ _
-    (λ report comes. replays_trace _ _ _ _ _ _ (case_of p c.in_ok-case.case) (flat_tree c.in_ok-top.top) (says report) (c.load_case.ensures.files ∙ c.load_model.ensures.files) holds c.in_ok-top.ensures.ok comes) c.replay_file.ensures.ok
+    (λ report comes. replays_trace _ _ _ _ _ _ (case_of p c.in_ok-case.case) (flat_tree c.in_ok-top.top) (says report) (c.load_case.ensures.stays.files ∙ c.load_model.ensures.stays.files) holds c.in_ok-top.ensures.ok comes) c.replay_file.ensures.ok

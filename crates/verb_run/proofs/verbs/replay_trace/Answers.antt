@@ -8,24 +8,24 @@ use Rattle.verb_run.proofs.verbs.replay_trace.Goals as goal
 
 pub returns-in-Ok-clause-answered : goal.returns-in-Ok-clause-answered
 returns-in-Ok-clause-answered g c answer =
-    answers_prepared (λ files o. CommandComesTo files (seen (ask.Replay c.args.asked.now)) o) _ _ _ _ _ _ c.prepare_replay.ensures.files c.prepare_replay.ensures.said
+    answers_prepared (λ files o. CommandComesTo files (seen (ask.Replay c.args.asked.now)) o) _ _ _ _ _ _ c.prepare_replay.ensures.stays.files c.prepare_replay.ensures.stays.said
     (says c.in-Ok.report) c.deliver_report.result c.in-Ok.ensures.ok c.deliver_report.ensures.done answer
 
 pub returns-in-Ok-clause-left : goal.returns-in-Ok-clause-left
 returns-in-Ok-clause-left g c =
     inr (
-    stops_at_prepared (λ files o. CommandComesTo files (seen (ask.Replay c.args.asked.now)) o) _ _ _ _ _ _ c.prepare_replay.ensures.files c.prepare_replay.ensures.said
+    stops_at_prepared (λ files o. CommandComesTo files (seen (ask.Replay c.args.asked.now)) o) _ _ _ _ _ _ c.prepare_replay.ensures.stays.files c.prepare_replay.ensures.stays.said
     (says c.in-Ok.report) c.in-Ok.ensures.ok c.deliver_report.ensures.part
     )
 
 pub returns-in-Err-clause-answered : goal.returns-in-Err-clause-answered
 returns-in-Err-clause-answered g c answer =
-    answers_stop (λ files o. CommandComesTo files (seen (ask.Replay c.args.asked.now)) o) _ _ _ _ _ _ c.prepare_replay.ensures.files c.prepare_replay.ensures.said c.in-Err.stop c.stopped.result
+    answers_stop (λ files o. CommandComesTo files (seen (ask.Replay c.args.asked.now)) o) _ _ _ _ _ _ c.prepare_replay.ensures.stays.files c.prepare_replay.ensures.stays.said c.in-Err.stop c.stopped.result
     (λ r is. c.in-Err.ensures.refused r (ap (λ s. Err s) is)) c.stopped.ensures.stopped answer
 
 pub returns-in-Err-clause-left : goal.returns-in-Err-clause-left
 returns-in-Err-clause-left g c =
-    leaves_stop (λ files o. CommandComesTo files (seen (ask.Replay c.args.asked.now)) o) _ _ _ _ _ _ c.prepare_replay.ensures.files c.prepare_replay.ensures.said c.in-Err.stop c.stopped.result
+    leaves_stop (λ files o. CommandComesTo files (seen (ask.Replay c.args.asked.now)) o) _ _ _ _ _ _ c.prepare_replay.ensures.stays.files c.prepare_replay.ensures.stays.said c.in-Err.stop c.stopped.result
     (λ r is. c.in-Err.ensures.refused r (ap (λ s. Err s) is)) c.stopped.ensures.stopped
 
 pub returns-in-Ok-clause-status : goal.returns-in-Ok-clause-status

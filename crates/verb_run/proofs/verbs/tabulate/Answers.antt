@@ -12,10 +12,10 @@ use Rattle.verb_run.proofs.verbs.tabulate.Goals as goal
 pub returns-in-Ok-clause-answered : goal.returns-in-Ok-clause-answered
 returns-in-Ok-clause-answered g c answer =
     let a = c.in-Ok.tabulating in
-    answers_prepared (λ files o. CommandComesTo files (seen (ask.Fmea c.args.asked.now)) o) _ _ _ _ _ _ c.prepare_table.ensures.files c.prepare_table.ensures.said
+    answers_prepared (λ files o. CommandComesTo files (seen (ask.Fmea c.args.asked.now)) o) _ _ _ _ _ _ c.prepare_table.ensures.stays.files c.prepare_table.ensures.stays.said
     (tabulates (tabulated_case a) (tabulated_events a) a.size a.depth) c.finished.result c.in-Ok.ensures.ok
     (finished_answers
-    (λ s. IsDelivered (tabulates (tabulated_case a) (tabulated_events a) a.size a.depth) s (g.D.Desk.files c.prepare_table.new.desk) (g.D.Desk.files c.deliver_table.new.desk) (g.D.Desk.said c.prepare_table.new.desk) (g.D.Desk.said c.deliver_table.new.desk))
+    (λ s. IsDelivered (tabulates (tabulated_case a) (tabulated_events a) a.size a.depth) s (g.D.Desk.told c.prepare_table.new.desk).files (g.D.Desk.told c.deliver_table.new.desk).files (g.D.Desk.told c.prepare_table.new.desk).said (g.D.Desk.told c.deliver_table.new.desk).said)
     c.deliver_table.result c.finished.result c.finished.ensures c.deliver_table.ensures.ok)
     answer
 
@@ -23,26 +23,26 @@ pub returns-in-Ok-clause-left : goal.returns-in-Ok-clause-left
 returns-in-Ok-clause-left g c =
     let a = c.in-Ok.tabulating in
     inr (
-    stops_at_prepared (λ files o. CommandComesTo files (seen (ask.Fmea c.args.asked.now)) o) _ _ _ _ _ _ c.prepare_table.ensures.files c.prepare_table.ensures.said
+    stops_at_prepared (λ files o. CommandComesTo files (seen (ask.Fmea c.args.asked.now)) o) _ _ _ _ _ _ c.prepare_table.ensures.stays.files c.prepare_table.ensures.stays.said
     (tabulates (tabulated_case a) (tabulated_events a) a.size a.depth) c.in-Ok.ensures.ok c.deliver_table.ensures.part
     )
 
 pub returns-in-Err-clause-answered : goal.returns-in-Err-clause-answered
 returns-in-Err-clause-answered g c answer =
-    answers_stop (λ files o. CommandComesTo files (seen (ask.Fmea c.args.asked.now)) o) _ _ _ _ _ _ c.prepare_table.ensures.files c.prepare_table.ensures.said c.in-Err.stop c.stopped.result
+    answers_stop (λ files o. CommandComesTo files (seen (ask.Fmea c.args.asked.now)) o) _ _ _ _ _ _ c.prepare_table.ensures.stays.files c.prepare_table.ensures.stays.said c.in-Err.stop c.stopped.result
     (λ r is. c.in-Err.ensures.refused r (ap (λ s. Err s) is)) c.stopped.ensures.stopped answer
 
 pub returns-in-Err-clause-left : goal.returns-in-Err-clause-left
 returns-in-Err-clause-left g c =
-    leaves_stop (λ files o. CommandComesTo files (seen (ask.Fmea c.args.asked.now)) o) _ _ _ _ _ _ c.prepare_table.ensures.files c.prepare_table.ensures.said c.in-Err.stop c.stopped.result
+    leaves_stop (λ files o. CommandComesTo files (seen (ask.Fmea c.args.asked.now)) o) _ _ _ _ _ _ c.prepare_table.ensures.stays.files c.prepare_table.ensures.stays.said c.in-Err.stop c.stopped.result
     (λ r is. c.in-Err.ensures.refused r (ap (λ s. Err s) is)) c.stopped.ensures.stopped
 
 pub returns-in-Ok-clause-failed : goal.returns-in-Ok-clause-failed
 returns-in-Ok-clause-failed g c desk =
     let a = c.in-Ok.tabulating in
-    rose_later _ _ _ c.prepare_table.ensures.later
+    rose_later _ _ _ c.prepare_table.ensures.stays.later
     (failed_finish
-    (λ s. IsDelivered (tabulates (tabulated_case a) (tabulated_events a) a.size a.depth) s (g.D.Desk.files c.prepare_table.new.desk) (g.D.Desk.files c.deliver_table.new.desk) (g.D.Desk.said c.prepare_table.new.desk) (g.D.Desk.said c.deliver_table.new.desk))
+    (λ s. IsDelivered (tabulates (tabulated_case a) (tabulated_events a) a.size a.depth) s (g.D.Desk.told c.prepare_table.new.desk).files (g.D.Desk.told c.deliver_table.new.desk).files (g.D.Desk.told c.prepare_table.new.desk).said (g.D.Desk.told c.deliver_table.new.desk).said)
     _ c.deliver_table.result c.finished.result c.finished.ensures c.deliver_table.ensures.ok (λ h. no_column_desk (map (λ e. e.ending) h.columns) h.ends) c.deliver_table.ensures.failed desk)
 
 pub returns-in-Ok-clause-status : goal.returns-in-Ok-clause-status

@@ -10,8 +10,8 @@ returns-clause-ok g c =
     let a = c.args.asked.now in
     let files =
     c.in_ok-write_whole.ensures.ok
-    ∙ ap (told_with (g.D.Desk.files c.args.desk.now) a.extended.now) (c.deref.ensures.value ∙ c.in_ok-text.ensures.text ∙ ap program_text c.requires.extensible.loaded.program) in
-    subst (λ t. IfOk c.search_each.result (λ s. HasReported (case_of_asked a) (events_of_asked a) a.loaded.depth (size_of_asked a) a.stem.now s t (g.D.Desk.files c.search_each.new.desk)
-    (g.D.Desk.said c.args.desk.now) (g.D.Desk.said c.search_each.new.desk))) files
-    (subst (λ t. IfOk c.search_each.result (λ s. HasReported (case_of_asked a) (events_of_asked a) a.loaded.depth (size_of_asked a) a.stem.now s (g.D.Desk.files c.write_whole.new.desk) (g.D.Desk.files c.search_each.new.desk)
-    t (g.D.Desk.said c.search_each.new.desk))) c.write_whole.ensures.said c.search_each.ensures.ok)
+    ∙ ap (told_with (g.D.Desk.told c.args.desk.now).files a.extended.now) (c.deref.ensures.value ∙ c.in_ok-text.ensures.text ∙ ap program_text c.requires.extensible.loaded.program) in
+    subst (λ t. IfOk c.search_each.result (λ s. HasReported (case_of_asked a) (events_of_asked a) a.loaded.depth (size_of_asked a) a.stem.now s t (g.D.Desk.told c.search_each.new.desk).files
+    (g.D.Desk.told c.args.desk.now).said (g.D.Desk.told c.search_each.new.desk).said)) files
+    (subst (λ t. IfOk c.search_each.result (λ s. HasReported (case_of_asked a) (events_of_asked a) a.loaded.depth (size_of_asked a) a.stem.now s (g.D.Desk.told c.write_whole.new.desk).files (g.D.Desk.told c.search_each.new.desk).files
+    t (g.D.Desk.told c.search_each.new.desk).said)) c.write_whole.ensures.stays.said c.search_each.ensures.ok)

@@ -17,8 +17,8 @@ returns-then-is_empty-clause-ok g c =
     let xs = c.as_slice-tops.result.now in
     let none : a.loaded.tops.over ≡ [] = sym c.as_slice-tops.ensures ∙ none_there xs (eqb-true (length xs) 0 (sym c.is_empty.ensures ∙ c.if-is_empty.true)) in
     let empty : events_of_asked a ≡ [] = no_events (IsEventOf (case_of_asked a)) flat_tree (events_of_asked a) a.loaded.tops.over c.requires.events none in
-    subst (λ es. HasReported (case_of_asked a) es a.loaded.depth (size_of_asked a) a.stem.now status.Done (g.D.Desk.files c.args.desk.now) (g.D.Desk.files c.args.desk.now) (g.D.Desk.said c.args.desk.now) (g.D.Desk.said c.args.desk.now)) (sym empty)
-    (none_reported (case_of_asked a) a.loaded.depth (size_of_asked a) a.stem.now (g.D.Desk.files c.args.desk.now) (g.D.Desk.said c.args.desk.now))
+    subst (λ es. HasReported (case_of_asked a) es a.loaded.depth (size_of_asked a) a.stem.now status.Done (g.D.Desk.told c.args.desk.now).files (g.D.Desk.told c.args.desk.now).files (g.D.Desk.told c.args.desk.now).said (g.D.Desk.told c.args.desk.now).said) (sym empty)
+    (none_reported (case_of_asked a) a.loaded.depth (size_of_asked a) a.stem.now (g.D.Desk.told c.args.desk.now).files (g.D.Desk.told c.args.desk.now).said)
 
 pub frames_of_case-requires-clause-searchable : goal.frames_of_case-requires-clause-searchable
 frames_of_case-requires-clause-searchable g c =

@@ -26,11 +26,11 @@ loop-i-preserved g c =
     record {
       system = c.search_event.ensures.system ∙ c.loop-i.invariant.system;
       reported =
-          subst (λ es. HasReported (case_of_asked a) es a.loaded.depth (size_of_asked a) a.stem.now c.joined-status.result (g.D.Desk.files c.args.desk.now) (g.D.Desk.files c.conclude.new.desk) (g.D.Desk.said c.args.desk.now) (g.D.Desk.said c.conclude.new.desk)) (sym it.next)
+          subst (λ es. HasReported (case_of_asked a) es a.loaded.depth (size_of_asked a) a.stem.now c.joined-status.result (g.D.Desk.told c.args.desk.now).files (g.D.Desk.told c.conclude.new.desk).files (g.D.Desk.told c.args.desk.now).said (g.D.Desk.told c.conclude.new.desk).said) (sym it.next)
           (has_reported_more (case_of_asked a) (take c.loop-i.i (events_of_asked a)) a.loaded.depth (size_of_asked a) a.stem.now c.loop-i.status _ _ _ _ _ _ c.loop-i.invariant.reported it.event (c.loop-i.i + 1)
           c.in_ok-found.found at (c.in_ok-found.ensures.found it.event it.is_event) c.as_str.result.now (c.as_str.ensures.value ∙ c.in_ok-name.ensures) c.in_ok-conclude.ensures.ok.0 c.in_ok-conclude.ensures.ok.1 c.joined-status.result c.joined-status.ensures);
-      later = omega (arith, c.loop-i.invariant.later, c.conclude.ensures.later);
-      quiet = λ quiet. let first = c.loop-i.invariant.quiet quiet in let then = c.conclude.ensures.quiet first.0 in (then.0, then.1 ∙ first.1);
+      later = omega (arith, c.loop-i.invariant.later, c.conclude.ensures.stays.later);
+      quiet = λ quiet. let first = c.loop-i.invariant.quiet quiet in let then = c.conclude.ensures.stays.quiet first.0 in (then.0, then.1 ∙ first.1);
     }
 
 pub returns-clause-ok : goal.returns-clause-ok
@@ -38,4 +38,4 @@ returns-clause-ok g c =
     let a = c.args.asked.now in
     let events = subst (λ trees. EachBoth (IsEventOf (case_of_asked a)) (events_of_asked a) (map flat_tree trees)) (sym c.as_slice-tops.ensures) c.requires.able.events in
     let all = all_events (IsEventOf (case_of_asked a)) flat_tree (events_of_asked a) c.as_slice-tops.result.now c.loop-i.i events (omega (arith, c.loop-i-test.false)) in
-    subst (λ es. HasReported (case_of_asked a) es a.loaded.depth (size_of_asked a) a.stem.now c.loop-i.status (g.D.Desk.files c.args.desk.now) (g.D.Desk.files c.loop-i.desk) (g.D.Desk.said c.args.desk.now) (g.D.Desk.said c.loop-i.desk)) all c.loop-i.invariant.reported
+    subst (λ es. HasReported (case_of_asked a) es a.loaded.depth (size_of_asked a) a.stem.now c.loop-i.status (g.D.Desk.told c.args.desk.now).files (g.D.Desk.told c.loop-i.desk).files (g.D.Desk.told c.args.desk.now).said (g.D.Desk.told c.loop-i.desk).said) all c.loop-i.invariant.reported

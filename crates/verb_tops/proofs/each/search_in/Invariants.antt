@@ -7,7 +7,7 @@ abbrev pub invariant-loop-i : goal.invariant-loop-i
 invariant-loop-i g l = record {
   system : l.frames.system ≡ l.initial.frames.system;
   reported : HasReported (case_of_asked l.asked) (take l.i (events_of_asked l.asked)) l.asked.loaded.depth (size_of_asked l.asked) l.asked.stem.now l.status
-      (g.D.Desk.files l.fn.desk) (g.D.Desk.files l.desk) (g.D.Desk.said l.fn.desk) (g.D.Desk.said l.desk);
-  later : g.D.Desk.faults l.fn.desk ≤ g.D.Desk.faults l.desk;
-  quiet : g.D.Desk.quiet l.fn.desk → g.D.Desk.quiet l.desk × (g.D.Desk.faults l.desk ≡ g.D.Desk.faults l.fn.desk);
+      (g.D.Desk.told l.fn.desk).files (g.D.Desk.told l.desk).files (g.D.Desk.told l.fn.desk).said (g.D.Desk.told l.desk).said;
+  later : (g.D.Desk.told l.fn.desk).faults ≤ (g.D.Desk.told l.desk).faults;
+  quiet : (g.D.Desk.told l.fn.desk).quiet → (g.D.Desk.told l.desk).quiet × ((g.D.Desk.told l.desk).faults ≡ (g.D.Desk.told l.fn.desk).faults);
 }
