@@ -1,6 +1,7 @@
 //! What the analyser asks of the world: files by their names, and a text that it says.
 ghost use Rattle.std.specs.Prelude.{◌≡◌, ◌≤◌, [], length, IfOk, OnOk, OnErr, IsErrOf};
-ghost use Rattle.base_files.specs.Desk.{Told, OnlyReads, OnlyWrites, OnlySays, Rose, ReadsFrom, HasNoFile, told_with, told_longer, AppendsPrefix, said_more, SaysPrefix};
+ghost use Rattle.base_files.specs.Desk.{Told, OnlyReads, OnlyWrites, OnlySays, Rose, ReadsFrom};
+ghost use Rattle.base_files.specs.Desk.{HasNoFile, told_with, told_longer, AppendsPrefix, said_more, SaysPrefix};
 ghost use Rattle.base_files.specs.declared.desk.WriteStop.TheVariants as write_stop;
 
 use base_values::OutOfMemory;

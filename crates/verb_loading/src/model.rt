@@ -33,7 +33,8 @@ pub fn load_model<D: Desk>(alloc: Global, desk: &mut D, name: &str) -> Result<Lo
     ensures lawful { IfOk result (λ l. IsLawful (program_tree l.program) (model_tree l.typed.model)) }
     ensures in_var { IfOk result (λ l. HasInstancesInVar (program_tree l.program)) }
     ensures spelled { IfOk result (λ l. IsSpelled (program_tree l.program)) }
-    ensures refused { (r : Refusal) → IsErrOf result (stop.Refused r) → IfSome (D.told desk.old).files (λ files. RefusesModel files name.now r) }
+    ensures refused { (r : Refusal) → IsErrOf result (stop.Refused r) → IfSome (D.told desk.old).files
+        (λ files. RefusesModel files name.now r) }
     ensures failed { IsErrOf result stop.Desk → Rose (D.told desk.old).faults (D.told desk.new).faults }
     ensures stays { OnlyReads (D.told desk.old) (D.told desk.new) }
 {

@@ -64,7 +64,8 @@ pub fn find_odds<D: Desk>(
 ) -> Result<Status, Stop>
     requires { asked.now.depth ≤ 1000000000 }
     ensures ok { IfOk result (λ s. IfSome (D.told desk.old).files (λ files.
-        HasOdds files asked.now.model.now asked.now.faults.now asked.now.top.now asked.now.depth s (D.told desk.old).said (D.told desk.new).said)) }
+        HasOdds files asked.now.model.now asked.now.faults.now asked.now.top.now asked.now.depth s (D.told desk.old).said
+        (D.told desk.new).said)) }
     ensures finished { IfOk result IsFinished }
     ensures depth { IfOk result (IsBoundedAt asked.now.depth) }
     ensures refused { (r : Refusal) → IsErrOf result (stop.Refused r) →

@@ -53,7 +53,8 @@ pub fn check_orders<D: Desk>(
         ((D.told desk.new).files ≡ (D.told desk.old).files) × ((D.told desk.new).said ≡ (D.told desk.old).said) }
     ensures failed { IsErrOf result stop.Desk → Rose (D.told desk.old).faults (D.told desk.new).faults }
     // However it ends, nothing was said, or the certificate is accepted, and a part of that was said.
-    ensures left { ((D.told desk.new).said ≡ (D.told desk.old).said) ⊎ (SaysPrefix (D.told desk.old).said (D.told desk.new).said (codes "accepted\n")
+    ensures left { ((D.told desk.new).said ≡ (D.told desk.old).said) ⊎
+        (SaysPrefix (D.told desk.old).said (D.told desk.new).said (codes "accepted\n")
         × (IsAskedPair asked.now.set.now asked.now.first asked.now.second → IfSome (D.told desk.old).files (λ files.
         AcceptsOrder files asked.now.model.now asked.now.faults.now asked.now.top.now
         (numbers_of asked.now.set.now) asked.now.first asked.now.second asked.now.claim.now asked.now.cert.now))) }

@@ -34,7 +34,8 @@ pub fn stopped<D: Desk>(alloc: Global, desk: &mut D, stop: Stop) -> Status
 /// Ends a run by what its work came to, which has written and said all but a refusal.
 pub(crate) fn concluded<D: Desk>(alloc: Global, desk: &mut D, done: Result<Status, Stop>) -> Status
     requires { IfOk done IsFinished }
-    ensures concluded { Concluded done result (D.told desk.old).files (D.told desk.new).files (D.told desk.old).said (D.told desk.new).said }
+    ensures concluded { Concluded done result (D.told desk.old).files (D.told desk.new).files (D.told desk.old).said (D.told desk.new).said
+        }
     ensures failed { result ≡ Status.Desk → IsErrOf done stops.Desk ⊎ Rose (D.told desk.old).faults (D.told desk.new).faults }
     ensures stays { IsLater (D.told desk.old) (D.told desk.new) }
 {
@@ -70,7 +71,8 @@ pub(crate) fn ended(status: Status, done: Result<(), WriteStop>) -> Status
 pub(crate) fn write_and_say<D: Desk>(desk: &mut D, file: &str, made: &Made) -> Result<(), WriteStop>
     ensures ok { OnOk result (((D.told desk.new).files ≡ told_with (D.told desk.old).files file.now made.now.text.items)
         × ((D.told desk.new).said ≡ said_more (D.told desk.old).said made.now.report)) }
-    ensures part { (WritesPrefix (D.told desk.old).files (D.told desk.new).files file.now made.now.text.items × ((D.told desk.new).said ≡ (D.told desk.old).said)) ⊎
+    ensures part { (WritesPrefix (D.told desk.old).files (D.told desk.new).files file.now made.now.text.items ×
+        ((D.told desk.new).said ≡ (D.told desk.old).said)) ⊎
         (((D.told desk.new).files ≡ told_with (D.told desk.old).files file.now made.now.text.items)
         × SaysPrefix (D.told desk.old).said (D.told desk.new).said made.now.report) }
     ensures failed { IsErrOf result write_stop.Failed → Rose (D.told desk.old).faults (D.told desk.new).faults }

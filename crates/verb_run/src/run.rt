@@ -59,7 +59,8 @@ pub fn run<D: Desk>(
 ) -> Status
     // Unless the desk failed or memory ran out, the whole of what words and files come to stands.
     ensures answered { IsAnswer result → IfSome (D.told desk.old).files (λ files.
-        HasAnswered files (map (λ w. w.now) words.now) result (D.told desk.old).files (D.told desk.new).files (D.told desk.old).said (D.told desk.new).said) }
+        HasAnswered files (map (λ w. w.now) words.now) result (D.told desk.old).files (D.told desk.new).files (D.told desk.old).said
+        (D.told desk.new).said) }
     // What the words and files come to is one, and it is the answer and what stands: the first rule that is broken, at its
     // place, the first moment that stops the trace from reaching the event, the extension and its report, the report of a
     // trace that reaches it, or the case and the event that were analysed.
@@ -101,7 +102,8 @@ pub fn run<D: Desk>(
     // A run that has finished a table has said it: each entry means what it says of the extended traces; no file was changed.
     ensures tabulated { (model faults tops : Text) (size depth : ℕ) → IsFinished result →
         AsksToTabulate (map (λ w. w.now) words.now) model faults tops size depth →
-        IfSome (D.told desk.old).files (λ files. IsTabulated files (D.told desk.old).said (D.told desk.new).said model faults tops size depth result
+        IfSome (D.told desk.old).files
+        (λ files. IsTabulated files (D.told desk.old).said (D.told desk.new).said model faults tops size depth result
         × ((D.told desk.new).files ≡ (D.told desk.old).files)) }
     // A run that has finished a generated case has written the generator's model and instructions, and said what they are and what
     // an analysis of them found.
@@ -120,7 +122,8 @@ pub fn run<D: Desk>(
     // changed.
     ensures caused_accepted { (model faults file top cert : Text) → result ≡ Status.Done →
         AsksToCheckCauses (map (λ w. w.now) words.now) model faults file top cert →
-        IfSome (D.told desk.old).files (λ files. HasCheckedCauses files model faults file top cert (D.told desk.old).said (D.told desk.new).said
+        IfSome (D.told desk.old).files
+        (λ files. HasCheckedCauses files model faults file top cert (D.told desk.old).said (D.told desk.new).said
         × ((D.told desk.new).files ≡ (D.told desk.old).files)) }
     // A run that has finished with an order has written and said one that is so of all extended traces that reach the event and
     // have failed exactly the set, or of those of at most so many steps.
@@ -152,8 +155,10 @@ pub fn run<D: Desk>(
     // and no others are.
     ensures meant { (f : WordFault) → result ≡ Status.Words f → RefusesWords (map (λ w. w.now) words.now) f }
     // However it ends, nothing was done, or a part of that stands: a prefix of what would be written and said.
-    ensures left { (((D.told desk.new).files ≡ (D.told desk.old).files) × ((D.told desk.new).said ≡ (D.told desk.old).said)) ⊎ IfSome (D.told desk.old).files (λ files.
-        HasStopped files (map (λ w. w.now) words.now) (D.told desk.old).files (D.told desk.new).files (D.told desk.old).said (D.told desk.new).said) }
+    ensures left { (((D.told desk.new).files ≡ (D.told desk.old).files) × ((D.told desk.new).said ≡ (D.told desk.old).said)) ⊎ IfSome
+        (D.told desk.old).files (λ files.
+        HasStopped files (map (λ w. w.now) words.now) (D.told desk.old).files (D.told desk.new).files (D.told desk.old).said
+        (D.told desk.new).said) }
     // The desk's status comes only where its count of faults rose.
     ensures failed { result ≡ Status.Desk → Rose (D.told desk.old).faults (D.told desk.new).faults }
     ensures later { (D.told desk.old).faults ≤ (D.told desk.new).faults }
@@ -165,9 +170,12 @@ pub fn run<D: Desk>(
 /// Reads the words, and carries out what they ask for.
 fn answer<D: Desk>(alloc: Global, words: &[&str], desk: &mut D, panel: &mut Panel) -> Status
     ensures answered { IsAnswer result → IfSome (D.told desk.old).files (λ files.
-        HasAnswered files (map (λ w. w.now) words.now) result (D.told desk.old).files (D.told desk.new).files (D.told desk.old).said (D.told desk.new).said) }
-    ensures left { (((D.told desk.new).files ≡ (D.told desk.old).files) × ((D.told desk.new).said ≡ (D.told desk.old).said)) ⊎ IfSome (D.told desk.old).files (λ files.
-        HasStopped files (map (λ w. w.now) words.now) (D.told desk.old).files (D.told desk.new).files (D.told desk.old).said (D.told desk.new).said) }
+        HasAnswered files (map (λ w. w.now) words.now) result (D.told desk.old).files (D.told desk.new).files (D.told desk.old).said
+        (D.told desk.new).said) }
+    ensures left { (((D.told desk.new).files ≡ (D.told desk.old).files) × ((D.told desk.new).said ≡ (D.told desk.old).said)) ⊎ IfSome
+        (D.told desk.old).files (λ files.
+        HasStopped files (map (λ w. w.now) words.now) (D.told desk.old).files (D.told desk.new).files (D.told desk.old).said
+        (D.told desk.new).said) }
     ensures depth { (c : Asked) (k : ℕ) → WordsMean (map (λ w. w.now) words.now) c → result ≡ Status.Bounded k → depth_of c ≡ Some k }
     ensures words { (rule place : ℕ) → IsAnswer result → BreaksFirst (map (λ w. w.now) words.now) rule place →
         (f : WordFault) × (rule_of f ≡ rule) × (place_of f ≡ place) × (result ≡ Status.Words f) }
