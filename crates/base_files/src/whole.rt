@@ -2,7 +2,7 @@
 //!
 //! A call of a desk moves as much as it likes, so each of these repeats it until all is read, written or said, and stops at
 //! the first call that failed.
-ghost use Rattle.std.specs.Prelude.{◌≡◌, ◌<◌, Some, length, IfOk, OnOk, OnErr, IfSome, IsErrOf};
+ghost use Rattle.std.specs.Prelude.{◌≡◌, ◌<◌, ◌≤◌, Some, length, IfOk, OnOk, OnErr, IfSome, IsErrOf};
 ghost use Rattle.base_files.specs.Files.{file_of, content_of};
 ghost use Rattle.base_files.specs.Desk.{OnlyReads, OnlyWrites, OnlySays, Rose, HasNoFile, told_with, WritesPrefix, said_more, SaysPrefix};
 ghost use Rattle.base_files.specs.Whole.{fault_of};

@@ -5,6 +5,7 @@ use Rattle.verb_run.specs.Tables.{IsEventOf}
 use Rattle.verb_tops.specs.Each.{HasReported}
 use Rattle.verb_tops.specs.Work.{case_of_asked, events_of_asked, size_of_asked}
 use Rattle.verb_tops.proofs.ReportLaws.{next_event, all_events, has_reported_more}
+use Rattle.base_files.proofs.Stays.{later_on}
 use Rattle.verb_tops.proofs.each.search_in.Goals as goal
 
 pub search_event-requires-clause-event : goal.search_event-requires-clause-event
@@ -29,8 +30,7 @@ loop-i-preserved g c =
           subst (λ es. HasReported (case_of_asked a) es a.loaded.depth (size_of_asked a) a.stem.now c.joined-status.result (g.D.Desk.told c.args.desk.now).files (g.D.Desk.told c.conclude.new.desk).files (g.D.Desk.told c.args.desk.now).said (g.D.Desk.told c.conclude.new.desk).said) (sym it.next)
           (has_reported_more (case_of_asked a) (take c.loop-i.i (events_of_asked a)) a.loaded.depth (size_of_asked a) a.stem.now c.loop-i.status _ _ _ _ _ _ c.loop-i.invariant.reported it.event (c.loop-i.i + 1)
           c.in_ok-found.found at (c.in_ok-found.ensures.found it.event it.is_event) c.as_str.result.now (c.as_str.ensures.value ∙ c.in_ok-name.ensures) c.in_ok-conclude.ensures.ok.0 c.in_ok-conclude.ensures.ok.1 c.joined-status.result c.joined-status.ensures);
-      later = omega (arith, c.loop-i.invariant.later, c.conclude.ensures.stays.later);
-      quiet = λ quiet. let first = c.loop-i.invariant.quiet quiet in let then = c.conclude.ensures.stays.quiet first.0 in (then.0, then.1 ∙ first.1);
+      stays = later_on _ _ _ c.loop-i.invariant.stays c.conclude.ensures.stays;
     }
 
 pub returns-clause-ok : goal.returns-clause-ok
