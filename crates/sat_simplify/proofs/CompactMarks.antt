@@ -60,21 +60,6 @@ listed_more places a b list i c lt is before h =
 pub listed_all : (places : ℕ) (a : List Bool) (list : List (List Literal)) (i : ℕ) → length list ≤ i → All (All (IsMarked places a)) (take i list) → All (All (IsMarked places a)) list
 listed_all places a list i over h = subst (All (All (IsMarked places a))) (take_all i list over) h
 
--- one gap more
-pub gaps_more : (marks : List Bool) (i gap next : ℕ) (b : Bool) (now all : List ℕ) → i < length marks → b ≡ get_or marks i b → next ≡ gap_after gap b → now ++ gaps gap (drop i marks) ≡ all → (now ++ gap ∷ []) ++ gaps next (drop (i + 1) marks) ≡ all
-gaps_more marks i gap next b now all lt is step e =
-    append_assoc now (gap ∷ []) (gaps next (drop (i + 1) marks))
-    ∙ (ap (λ n. now ++ gap ∷ gaps n (drop (i + 1) marks)) step
-    ∙ (ap (λ x. now ++ gap ∷ gaps (gap_after gap x) (drop (i + 1) marks)) is
-    ∙ (ap (λ s. now ++ gaps gap s) (sym (drop_more marks i b lt)) ∙ e)))
-
-pub gap_few : (gap next i : ℕ) (b : Bool) → next ≡ gap_after gap b → gap ≤ i → next ≤ i + 1
-gap_few gap next i true e le = omega (arith, e, le)
-gap_few gap next i false e le = omega (arith, e, le)
-
-pub gaps_all : (marks : List Bool) (i gap : ℕ) (now all : List ℕ) → length marks ≤ i → now ++ gaps gap (drop i marks) ≡ all → now ≡ all
-gaps_all marks i gap now all over e = sym (append-nil now) ∙ (ap (λ s. now ++ gaps gap s) (sym (drop_all i marks over)) ∙ e)
-
 pub ruleset growing_rules = (marks_grown, marks_itself, marks_all)
 
 pub ruleset setting_rules = (marks_set, marks_all, set_marked)

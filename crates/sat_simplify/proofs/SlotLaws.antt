@@ -152,10 +152,6 @@ pub noted_changed : (f : Slot → Slot) → Lessens f → (occurrences : List (L
 noted_changed f less occurrences slots [] noted = noted
 noted_changed f less occurrences slots (i ∷ at) noted = noted_changed f less occurrences (changed_at f slots i) at (noted_changed_one f less occurrences slots i noted)
 
--- more notes do no harm
-pub noted_kept : (old new : List (List ℕ)) (slots : List Slot) → KeepsNotes old new → AreNoted old slots → AreNoted new slots
-noted_kept old new slots keeps noted = record { at = λ i c l e has. keeps.at (code_of l) i (noted.at i c l e has) }
-
 -- a clause more, whose literals were noted
 pub noted_pushed : (old new : List (List ℕ)) (slots : List Slot) (c : List Literal) → HasNoted old new c (length slots) → AreNoted old slots → AreNoted new (slots ++ Some c ∷ [])
 noted_pushed old new slots c notes noted = record { at = λ i d l e has. by_place i d l (slice_get_within (slots ++ Some c ∷ []) i (Some d) e) (slot_from (slots ++ Some c ∷ []) i d e) has (cases_lt i (length slots)) } where

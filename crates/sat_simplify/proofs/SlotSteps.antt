@@ -28,10 +28,6 @@ pub dropped_lacks : (l : Literal) (o : Slot) → slot_has l o ≡ false → drop
 dropped_lacks l None e = refl
 dropped_lacks l (Some c) e = cond-false (has_literal l c) None (Some c) e
 
-pub shrunk_lacks : (l : Literal) (o : Slot) → slot_has l o ≡ false → shrunk l o ≡ o
-shrunk_lacks l None e = refl
-shrunk_lacks l (Some c) e = cond-false (has_literal l c) (Some (each_once (without l c))) (Some c) e
-
 pub covered_has : (c : List Literal) (o : Slot) → slot_covered c o ≡ true → covered c o ≡ None
 covered_has c None e = refl
 covered_has c (Some d) e = cond-true (subsumes c d) None (Some d) e

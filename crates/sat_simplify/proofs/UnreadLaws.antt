@@ -231,10 +231,6 @@ has_read places left list kept at marks gs b none f is from entered = record {
   };
 }
 
--- the highest variables of the beginnings, one by one
-pub tops_none : (list : List (List Literal)) → AreTops list []
-tops_none list = record { at = λ i lt. absurd (omega (arith, lt)) }
-
 pub tops_more : (list : List (List Literal)) (tops : List ℕ) (top : ℕ) → AreTops list tops → All (All (IsUpTo top)) (take (length tops) list) → AreTops list (tops ++ top ∷ [])
 tops_more list tops top f up = record { at = λ i lt. by_place i (cases_lt i (length tops)) lt } where
   by_place : (i : ℕ) → (i < length tops) ⊎ (length tops ≤ i) → i < length (tops ++ top ∷ []) → All (All (IsUpTo (get_or (tops ++ top ∷ []) i 0))) (take i list)

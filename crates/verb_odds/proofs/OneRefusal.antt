@@ -85,7 +85,3 @@ module _ (files : List NamedFile) (model faults top : Text) where
       no_mark d.instructions g k (subst (λ e. HasProbabilities e.instructions) (one_case files model faults h.c d h.holds other) h.all) mark
   marked_not_refused r h (at_top d g was other also bad) =
       word_not_wrong h.c.program h.holds.program.lawful.accepted top h.event g h.is_event (subst (λ p. IsWrongWord p top g) (one_held_model files model h.c.program d.program h.holds.program other.program) bad)
-
-  -- what was found was of such files
-  pub odds_of_marked : (depth : ℕ) (s : Status) (said now : Said) → HasOdds files model faults top depth s said now → HoldsMarked files model faults top
-  odds_of_marked depth s said now h = record { c = h.answer.c; holds = h.answer.holds; all = h.answer.all; event = h.answer.event; is_event = h.answer.is_event }

@@ -133,11 +133,6 @@ module _ (files : List NamedFile) (model faults top : Text) (set : List ℕ) (fi
   pub event_not_refused : (r : Refusal) → HoldsPairEvent files model faults top set first second → RefusesPair files model faults top set first second r → ⊥
   event_not_refused r h bad = pair_not_refused h.c h.event r h.holds h.is_event bad
 
-  -- an order was found of such files
-  pub order_of_event : (depth : ℕ) (cert : Text) (st : Status) (before after : Told) (said now : Said) → HasOrder files model faults top set first second depth cert st before after said now →
-      HoldsPairEvent files model faults top set first second
-  order_of_event depth cert st before after said now h = record { c = h.c; holds = h.holds; event = h.found.event; is_event = h.found.is_event }
-
 -- ---- a certificate
 
 module _ (m : FlatModel) (e : Tree FlatLeaf) (a : Certificate) where
