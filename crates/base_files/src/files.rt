@@ -39,17 +39,6 @@ impl NamedFile {
     }
 }
 
-/// A copy of its own of these files, in their order.
-pub fn copy_files(alloc: Global, files: &[NamedFile]) -> Result<FileList, OutOfMemory>
-    ensures { IfOk result (λ made. made ≡ files.now) }
-{
-    let mut made = Items::new(alloc);
-    for file in files {
-        made.push(file.copy()?)?;
-    }
-    Ok(made)
-}
-
 /// The bytes of the file with this name.
 pub(crate) fn find_file<'a>(files: &'a [NamedFile], name: &[u8]) -> Option<&'a [u8]>
     ensures { option_copied result ≡ file_of files.now name.now }

@@ -28,6 +28,6 @@ mod whole;
 
 pub use desk::{Desk, ReadStop, WriteStop};
 pub use fails::{CallKind, Fail, FailList};
-pub use files::{FileList, NamedFile, copy_files};
+pub use files::{FileList, NamedFile};
 pub use memory::MemoryDesk;
 pub use whole::{DeskFault, read_whole, say_whole, write_whole};

@@ -53,17 +53,6 @@ impl Column {
     }
 }
 
-/// A list of its own with a copy of each column.
-pub fn copy_columns(alloc: Global, columns: &[Column]) -> Result<ColumnList, OutOfMemory>
-    ensures { IfOk result (λ made. made ≡ columns.now) }
-{
-    let mut made = Items::new(alloc);
-    for column in columns {
-        made.push(column.copy()?)?;
-    }
-    Ok(made)
-}
-
 impl FmeaTable {
     /// A copy of its own, which is the same table.
     pub fn copy(&self) -> Result<FmeaTable, OutOfMemory>

@@ -22,7 +22,7 @@ mod print;
 mod rows;
 
 pub use columns::{
-    Column, ColumnList, EndingList, EntryList, EntryRows, FmeaTable, TableEntry, copy_columns,
+    Column, ColumnList, EndingList, EntryList, EntryRows, FmeaTable, TableEntry,
 };
 pub use entries::table;
 pub use print::print_table;

@@ -32,14 +32,3 @@ impl Cause {
         })
     }
 }
-
-/// A list of its own with a copy of each cause.
-pub fn copy_causes(alloc: Global, causes: &[Cause]) -> Result<CauseList, OutOfMemory>
-    ensures { IfOk result (λ made. made ≡ causes.now) }
-{
-    let mut made = Items::new(alloc);
-    for cause in causes {
-        made.push(cause.copy()?)?;
-    }
-    Ok(made)
-}

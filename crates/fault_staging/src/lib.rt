@@ -17,5 +17,5 @@ mod events;
 pub mod names;
 mod staging;
 
-pub use cause::{Cause, CauseList, copy_causes};
+pub use cause::{Cause, CauseList};
 pub use staging::{Staged, with_causes};

@@ -25,17 +25,6 @@ use std::alloc::Global;
 /// Signals, by numbers from 0.
 pub type SignalList = Items<Signal>;
 
-/// A list of its own with a copy of each signal.
-pub fn copy_signals(signals: &SignalList) -> Result<SignalList, OutOfMemory>
-    ensures { IfOk result (λ made. signals_of made ≡ signals_of signals.now) }
-{
-    let mut made = Items::new(signals.allocator());
-    for signal in signals.as_slice() {
-        made.push(signal.copy()?)?;
-    }
-    Ok(made)
-}
-
 /// A model's variables and definitions at one moment.
 #[derive(Drop)]
 pub struct Copied {
