@@ -63,20 +63,26 @@ fn question(alloc: Global, vars: u64, goal: &[Lit]) -> Result<Vec<Lit>, OutOfMem
     Ok(lits)
 }
 
-// A search over the clauses given, which keeps all its steps.
-fn search_over(
-    alloc: Global,
+// A part of a certificate: goals that follow from clauses given, whose highest variable is this.
+#[derive(Drop)]
+struct Part<'a> {
+    givens: &'a ClauseList,
+    goals: &'a ClauseList,
     vars: u64,
-    givens: &ClauseList,
-) -> Result<Search<KeepAll>, OutOfMemory>
-    requires small { vars < 2 ^ 62 }
-    requires vars { vars ≡ highest givens.now }
-    requires in_range { All (All (IsUpTo vars)) givens.now }
-    ensures begun { IfOk result (λ s. IsPartWay givens.now s.kept s.recorder []) }
+    ghost small: { highest givens.now < 2 ^ 62 },
+    ghost highest: { vars ≡ highest givens.now },
+    ghost in_range: { All (All (IsUpTo vars)) givens.now },
+    ghost follow: { All (FollowsFrom givens.now) goals.now },
+    ghost apart: { All HasNoOpposites goals.now },
+}
+
+// A search over the clauses given, which keeps all its steps.
+fn search_over(alloc: Global, part: &Part) -> Result<Search<KeepAll>, OutOfMemory>
+    ensures begun { IfOk result (λ s. IsPartWay part.now.givens.now s.kept s.recorder []) }
     ensures cores { IfOk result (λ s. s.cores ≡ true) }
 {
-    let mut search = Search::new(alloc, vars, KeepAll::new(alloc))?;
-    for clause in givens.as_slice() {
+    let mut search = Search::new(alloc, part.vars, KeepAll::new(alloc))?;
+    for clause in part.givens.as_slice() {
         search.add(clause)?;
     }
     Ok(search)
@@ -93,25 +99,20 @@ fn tell(derived: usize, count: usize, panel: &mut Panel)
 // Derives one more goal.
 fn cover(
     alloc: Global,
-    givens: &ClauseList,
-    goals: &ClauseList,
+    part: &Part,
     place: usize,
-    vars: u64,
     search: &mut Search<KeepAll>,
     panel: &mut Panel,
 ) -> Result<(), OutOfMemory>
-    requires small { highest givens.now < 2 ^ 62 }
-    requires follow { All (FollowsFrom givens.now) goals.now }
-    requires apart { All HasNoOpposites goals.now }
-    requires place { place < length goals.now }
-    requires vars { vars ≡ highest givens.now }
+    requires place { place < length part.now.goals.now }
     requires cores { search.old.cores ≡ true }
-    requires before { IsPartWay givens.now search.old.kept search.old.recorder (take place goals.now) }
-    ensures way { OnOk result (IsPartWay givens.now search.new.kept search.new.recorder (take (place + 1) goals.now)) }
+    requires before { IsPartWay part.now.givens.now search.old.kept search.old.recorder (take place part.now.goals.now) }
+    ensures way { OnOk result
+        (IsPartWay part.now.givens.now search.new.kept search.new.recorder (take (place + 1) part.now.goals.now)) }
     ensures cores { search.new.cores ≡ true }
 {
-    let assumed = question(alloc, vars, goals.at(place).lits())?;
-    tell(place, goals.len(), panel);
+    let assumed = question(alloc, part.vars, part.goals.at(place).lits())?;
+    tell(place, part.goals.len(), panel);
     let _verdict = search.ask(assumed.as_slice(), panel)?;
     Ok(())
 }
@@ -137,14 +138,9 @@ fn see_all_positive(steps: &StepsList)
 }
 
 // The steps of a derivation that is done. A derivation of 2^63 or more clauses has no text, and there is no memory for one.
-fn finished(
-    givens: &ClauseList,
-    goals: &ClauseList,
-    search: &Search<KeepAll>,
-) -> Result<StepsList, OutOfMemory>
-    requires small { highest givens.now < 2 ^ 62 }
-    requires done { IsPartWay givens.now search.now.kept search.now.recorder goals.now }
-    ensures derived { IfOk result (λ steps. IsSoFar givens.now steps goals.now) }
+fn finished(part: &Part, search: &Search<KeepAll>) -> Result<StepsList, OutOfMemory>
+    requires { IsPartWay part.now.givens.now search.now.kept search.now.recorder part.now.goals.now }
+    ensures derived { IfOk result (λ steps. IsSoFar part.now.givens.now steps part.now.goals.now) }
     ensures writable { IfOk result (λ steps. AreWritable steps) }
 {
     if search.count() as u64 >= END_OF_COUNTS {
@@ -175,9 +171,14 @@ pub fn derive(
         return Err(OutOfMemory);
     }
     panel.ready(vars)?;
-    let mut search = search_over(alloc, vars, givens)?;
+    let part = Part {
+        givens,
+        goals,
+        vars,
+    };
+    let mut search = search_over(alloc, &part)?;
     for place in 0..goals.len() {
-        cover(alloc, givens, goals, place, vars, &mut search, panel)?;
+        cover(alloc, &part, place, &mut search, panel)?;
     }
-    finished(givens, goals, &search)
+    finished(&part, &search)
 }

@@ -10,23 +10,23 @@ use Rattle.cert_making.proofs.derive.cover.Goals as goal
 pub ask-requires-clause-in_range : goal.ask-requires-clause-in_range
 ask-requires-clause-in_range g c =
     let is : c.as_slice.result.now ≡ asked c.args.search.now.kept.vars c.at.result.now =
-    c.as_slice.ensures.value ∙ c.in_ok-assumed.ensures ∙ ap (λ n. asked n c.lits.result.now) (c.requires.vars ∙ sym c.requires.before.vars) ∙ ap (asked c.args.search.now.kept.vars) c.lits.ensures in
+    c.as_slice.ensures.value ∙ c.in_ok-assumed.ensures ∙ ap (λ n. asked n c.lits.result.now) (c.args.part.now.highest ∙ sym c.requires.before.vars) ∙ ap (asked c.args.search.now.kept.vars) c.lits.ensures in
     subst (All (IsUpTo c.args.search.now.kept.vars)) (sym is)
-    (can_be_asked c.args.givens.now c.args.goals.now c.args.place c.at.result.now c.args.search.now.kept c.args.search.now.recorder c.requires.small c.requires.follow c.requires.apart c.at.ensures c.requires.before).assumptions_in_range
+    (can_be_asked c.args.part.now.givens.now c.args.part.now.goals.now c.args.place c.at.result.now c.args.search.now.kept c.args.search.now.recorder c.args.part.now.small c.args.part.now.follow c.args.part.now.apart c.at.ensures c.requires.before).assumptions_in_range
 
 pub ask-requires-clause-apart : goal.ask-requires-clause-apart
 ask-requires-clause-apart g c =
     let is : c.as_slice.result.now ≡ asked c.args.search.now.kept.vars c.at.result.now =
-    c.as_slice.ensures.value ∙ c.in_ok-assumed.ensures ∙ ap (λ n. asked n c.lits.result.now) (c.requires.vars ∙ sym c.requires.before.vars) ∙ ap (asked c.args.search.now.kept.vars) c.lits.ensures in
+    c.as_slice.ensures.value ∙ c.in_ok-assumed.ensures ∙ ap (λ n. asked n c.lits.result.now) (c.args.part.now.highest ∙ sym c.requires.before.vars) ∙ ap (asked c.args.search.now.kept.vars) c.lits.ensures in
     subst HasNoOpposites (sym is)
-    (can_be_asked c.args.givens.now c.args.goals.now c.args.place c.at.result.now c.args.search.now.kept c.args.search.now.recorder c.requires.small c.requires.follow c.requires.apart c.at.ensures c.requires.before).apart
+    (can_be_asked c.args.part.now.givens.now c.args.part.now.goals.now c.args.place c.at.result.now c.args.search.now.kept c.args.search.now.recorder c.args.part.now.small c.args.part.now.follow c.args.part.now.apart c.at.ensures c.requires.before).apart
 
 pub returns-clause-way : goal.returns-clause-way
 returns-clause-way g c =
     let is : c.as_slice.result.now ≡ asked c.args.search.now.kept.vars c.at.result.now =
-    c.as_slice.ensures.value ∙ c.in_ok-assumed.ensures ∙ ap (λ n. asked n c.lits.result.now) (c.requires.vars ∙ sym c.requires.before.vars) ∙ ap (asked c.args.search.now.kept.vars) c.lits.ensures in
+    c.as_slice.ensures.value ∙ c.in_ok-assumed.ensures ∙ ap (λ n. asked n c.lits.result.now) (c.args.part.now.highest ∙ sym c.requires.before.vars) ∙ ap (asked c.args.search.now.kept.vars) c.lits.ensures in
     let old = c.args.search.now.kept in
     let cored = subst (λ b. IsAnswer b old.vars (added_of old.clauses old.marks) c.ask.new.self.kept.clauses c.as_slice.result.now c.in_ok-_verdict._verdict) c.requires.cores c.in_ok-_verdict.ensures.answer in
-    further c.args.givens.now c.args.goals.now c.args.place c.at.result.now old c.args.search.now.recorder c.requires.small c.requires.follow c.requires.apart c.at.ensures c.requires.before
+    further c.args.part.now.givens.now c.args.part.now.goals.now c.args.place c.at.result.now old c.args.search.now.recorder c.args.part.now.small c.args.part.now.follow c.args.part.now.apart c.at.ensures c.requires.before
     c.ask.new.self.kept c.ask.new.self.recorder c.in_ok-_verdict._verdict
     (subst (λ lits. IsAnswer true old.vars (added_of old.clauses old.marks) c.ask.new.self.kept.clauses lits c.in_ok-_verdict._verdict) is cored) c.in_ok-_verdict.ensures.learned c.in_ok-_verdict.ensures.vars

@@ -5,8 +5,8 @@ use Rattle.cert_making.proofs.Queries.{clauses_bounded}
 use Rattle.cert_making.proofs.DeriveLemmas.{no_goal_yet, ends}
 use Rattle.cert_making.proofs.derive.derive.Goals as goal
 
-pub search_over-requires-clause-in_range : goal.search_over-requires-clause-in_range
-search_over-requires-clause-in_range g c = subst (λ (n : ℕ). All (All (IsUpTo n)) c.args.givens.now) (sym c.highest-vars.ensures) (clauses_bounded c.args.givens.now)
+pub invariant_of-part-clause-in_range : goal.invariant_of-part-clause-in_range
+invariant_of-part-clause-in_range g c = subst (λ (n : ℕ). All (All (IsUpTo n)) c.args.givens.now) (sym c.highest-vars.ensures) (clauses_bounded c.args.givens.now)
 
 pub loop-place-init : goal.loop-place-init
 loop-place-init g c = record {
@@ -23,7 +23,7 @@ cover-requires-clause-before g c = c.loop-place.invariant.way
 pub loop-place-preserved : goal.loop-place-preserved
 loop-place-preserved g c = record { way = c.in_ok-cover.ensures.way; cores = c.cover.ensures.cores }
 
-pub finished-requires-clause-done : goal.finished-requires-clause-done
-finished-requires-clause-done g c =
+pub finished-requires : goal.finished-requires
+finished-requires g c =
     let over : length c.args.goals.now ≤ c.loop-place.place = omega arith in
     ends c.args.givens.now c.args.goals.now c.loop-place.search.kept c.loop-place.search.recorder c.loop-place.place over c.loop-place.invariant.way

@@ -11,4 +11,4 @@ returns-clause-writable c =
     let made : c.steps-made.result.now ≡ c.args.search.now.recorder = c.steps-made.ensures ∙ c.recorder.ensures in
     let positive : All HasPositive c.args.search.now.recorder = subst (All HasPositive) made c.see_all_positive.ensures in
     subst AreWritable (sym (c.in_ok-steps.ensures ∙ made))
-    (writable c.args.givens.now c.args.search.now.kept c.args.search.now.recorder c.args.goals.now c.requires.done c.requires.small few positive)
+    (writable c.args.part.now.givens.now c.args.search.now.kept c.args.search.now.recorder c.args.part.now.goals.now c.requires c.args.part.now.small few positive)
