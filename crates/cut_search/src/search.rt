@@ -1,7 +1,7 @@
 //! The search: looks at one frontier after the other, until an invariant is found or the depth is reached.
-ghost use Rattle.std.specs.Prelude.{◌≡◌, ◌↔◌, ◌≤◌, ◌<◌, ◌^◌, IfOk, true};
+ghost use Rattle.std.specs.Prelude.{◌≡◌, ◌↔◌, ◌<◌, ◌^◌, IfOk, true};
 ghost use Rattle.cut_search_laws.specs.FoundSets.{sets_of};
-ghost use Rattle.cut_search_laws.specs.FlatSearch.{IsSearched, IsBadFor};
+ghost use Rattle.cut_search_laws.specs.FlatSearch.{IsBadFor};
 ghost use Rattle.cut_frames.specs.Chain.{State, IsFirstState};
 ghost use Rattle.cut_frames.specs.FramesRecord.{frontier};
 ghost use Rattle.cut_frames.specs.FramesByNumber.{AreNumbered};
@@ -55,7 +55,6 @@ fn look<E: Encoded>(
     panel: &mut Panel,
 ) -> Result<(Vec<WitnessedSet>, bool), OutOfMemory>
     requires able { E.searchable model.now }
-    requires searched { IsSearched (E.problem model.now) }
     requires system { frames.old.system ≡ (E.problem model.now).system }
     requires numbered { AreNumbered (E.problem model.now).system frames.old.frames }
     requires listed { AreListed (E.problem model.now) size found.items }
@@ -64,6 +63,7 @@ fn look<E: Encoded>(
     ensures kept { AreKept (E.problem model.now) frames.old.frames frames.new.frames }
     ensures looked { IfOk result (λ r. IsLooked (E.problem model.now) size found.items r.0.items frames.new r.1) }
 {
+    model.is_searched();
     match frames.clear(model.history(), panel)? {
         Cleared::Clear => Ok((found, true)),
         Cleared::Path(path) => {
@@ -88,7 +88,6 @@ fn clear_all<E: Encoded>(
     panel: &mut Panel,
 ) -> Result<Vec<WitnessedSet>, OutOfMemory>
     requires able { E.searchable model.now }
-    requires searched { IsSearched (E.problem model.now) }
     requires system { frames.old.system ≡ (E.problem model.now).system }
     requires numbered { AreNumbered (E.problem model.now).system frames.old.frames }
     requires listed { AreListed (E.problem model.now) size found.items }
@@ -118,12 +117,12 @@ fn further<E: Encoded>(
     panel: &mut Panel,
 ) -> Result<(Vec<WitnessedSet>, Option<ClauseList>), OutOfMemory>
     requires able { E.searchable model.now }
-    requires searched { IsSearched (E.problem model.now) }
     requires system { frames.old.system ≡ (E.problem model.now).system }
     requires between { IsBetween (E.problem model.now) size found.items frames.old }
     ensures system { frames.new.system ≡ frames.old.system }
     ensures gone { IfOk result (λ r. HasGone (E.problem model.now) size found.items r.0.items frames.old.frames frames.new r.1) }
 {
+    model.is_searched();
     match frames.advance(panel)? {
         Advanced::Fixed(clauses) => Ok((found, Some(clauses))),
         Advanced::Further => {
@@ -159,7 +158,6 @@ fn begin<E: Encoded>(
     panel: &mut Panel,
 ) -> Result<Vec<WitnessedSet>, OutOfMemory>
     requires able { E.searchable model.now }
-    requires searched { IsSearched (E.problem model.now) }
     requires system { frames.old.system ≡ (E.problem model.now).system }
     requires frontier { frontier frames.old ≡ 0 }
     requires numbered { AreNumbered (E.problem model.now).system frames.old.frames }
@@ -176,26 +174,25 @@ fn begin<E: Encoded>(
     Ok(begun)
 }
 
-/// Searches frontier after frontier up to the depth.
+/// Searches in frames that stand at frontier 0, frontier after frontier up to the depth.
 fn search<E: Encoded>(
     alloc: Global,
     model: &E,
     depth: u32,
     size: u32,
     frames: &mut Frames,
-    found: Vec<WitnessedSet>,
     panel: &mut Panel,
 ) -> Result<(Vec<WitnessedSet>, End), OutOfMemory>
     requires able { E.searchable model.now }
-    requires searched { IsSearched (E.problem model.now) }
     requires system { frames.old.system ≡ (E.problem model.now).system }
-    requires between { IsBetween (E.problem model.now) size found.items frames.old }
-    requires frontier { frontier frames.old ≤ depth }
+    requires frontier { frontier frames.old ≡ 0 }
+    requires numbered { AreNumbered (E.problem model.now).system frames.old.frames }
     ensures system { frames.new.system ≡ frames.old.system }
     ensures listed { IfOk result (λ r. AreListed (E.problem model.now) size r.0.items) }
     ensures ends { IfOk result (λ r. IsEnd (E.problem model.now) depth size r.0.items r.1) }
 {
-    let mut list = found;
+    model.is_searched();
+    let mut list = begin(alloc, model, size, frames, panel)?;
     'frontiers: loop {
         if frames.frontier() >= depth as usize {
             return Ok((list, End::Bounded(depth)));
@@ -237,8 +234,7 @@ fn analyse_from_first<E: Encoded>(
 {
     model.is_searched();
     let first = has_first(alloc, frames, panel)?;
-    let begun = begin(alloc, model, size, frames, panel)?;
-    let (found, end) = search(alloc, model, depth, size, frames, begun, panel)?;
+    let (found, end) = search(alloc, model, depth, size, frames, panel)?;
     let made = answer(alloc, found, first, end, size)?;
     Ok(made)
 }

@@ -12,18 +12,18 @@ clear-requires-clause-history g c = subst (λ s. IsOverBits s c.history.result.n
 pub show-requires-clause-lawful : goal.show-requires-clause-lawful
 show-requires-clause-lawful g c =
     lawful_path (g.E.Encoded.problem c.args.model.now) c.args.size (sets_of c.args.found.items) c.args.frames.now.system c.args.frames.now.bad c.clear.new.self.frames c.in_ok-clear.field-0 c.in-Path.path
-    c.requires.searched c.requires.bad c.requires.system c.in-Path.is c.in_ok-clear.ensures.cleared
+    c.is_searched.ensures c.requires.bad c.requires.system c.in-Path.is c.in_ok-clear.ensures.cleared
 
 pub set_clause-requires-clause-numbered : goal.set_clause-requires-clause-numbered
 set_clause-requires-clause-numbered g c =
     subst (IsNumbered (length (g.E.Encoded.problem c.args.model.now).modes)) (sym c.set.ensures)
     (found_path (g.E.Encoded.problem c.args.model.now) c.args.size c.args.found.items c.args.frames.now.system c.args.frames.now.bad c.clear.new.self.frames c.in_ok-clear.field-0 c.in-Path.path c.in_ok-new-in-Path.new
-    c.requires.searched c.requires.listed c.requires.bad c.requires.system c.in-Path.is c.in_ok-clear.ensures.cleared c.in_ok-new-in-Path.ensures).0.numbered
+    c.is_searched.ensures c.requires.listed c.requires.bad c.requires.system c.in-Path.is c.in_ok-clear.ensures.cleared c.in_ok-new-in-Path.ensures).0.numbered
 
 pub returns-in_ok-list_found-in-Path-clause-looked : goal.returns-in_ok-list_found-in-Path-clause-looked
 returns-in_ok-list_found-in-Path-clause-looked g c =
     looks_along (g.E.Encoded.problem c.args.model.now) c.args.size c.args.found.items c.list_found.new.found.items c.args.frames.now.system c.args.frames.now.bad c.clear.new.self.frames c.in_ok-clear.field-0 c.in-Path.path
     c.in_ok-new-in-Path.new c.in_ok-clause-in-Path.clause c.add_bad.new.self
-    c.requires.searched c.requires.listed c.requires.bad c.requires.system c.in-Path.is c.in_ok-clear.ensures.cleared c.in_ok-new-in-Path.ensures
+    c.is_searched.ensures c.requires.listed c.requires.bad c.requires.system c.in-Path.is c.in_ok-clear.ensures.cleared c.in_ok-new-in-Path.ensures
     (subst (λ set. IsClauseOf (g.E.Encoded.problem c.args.model.now) set c.in_ok-clause-in-Path.clause) c.set.ensures c.in_ok-clause-in-Path.ensures)
     c.in_ok-list_found-in-Path.ensures (c.in_ok-add_bad-in-Path.ensures.bad ∙ ap (λ b. b ++ c.in_ok-clause-in-Path.clause ∷ []) c.clear.ensures.bad)
