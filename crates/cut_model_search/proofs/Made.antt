@@ -13,8 +13,6 @@ use Rattle.base_values.specs.declared.value.Value.{Value}
 use Rattle.smv_language.specs.Flat.{FlatLeaf, FlatModel}
 use Rattle.smv_flat_laws.specs.FlatTrace.{AreInDomains, IsFlatMoment, IsFlatTrace}
 use Rattle.smv_flat_laws.specs.History.{Mode, with_history}
-use Rattle.smv_language.specs.declared.model.FlatModel.{FlatModel as Model}
-use Rattle.smv_language.specs.ModelTree.{model_tree}
 use Rattle.smv_type_laws.specs.Costs.{model_cost, state_bits}
 use Rattle.sat_clauses.specs.Literal.{Literal}
 use Rattle.sat_clauses.specs.States.{State, IsBad, InFrame, IsOverBits, IsInvariant}
@@ -54,11 +52,10 @@ use Rattle.cert_laws.proofs.Analysed.{analysed_is_accepted}
 use Rattle.cert_laws.specs.Subject.{subject_of}
 use Rattle.cert_laws.proofs.Subjects.{subjects_right}
 use Rattle.cut_model_search.specs.Texts.{text_lines, CanBePrinted}
-use Rattle.cut_model_search.specs.Certifiable.{IsCertifiable, IsCompleteAnswer, IsProof, bad_of, certificate_of}
+use Rattle.cut_model_search.specs.Certifiable.{IsCertifiable, IsProof, certificate_of}
+use Rattle.cut_model_search.specs.FaultyModels.{FaultyValue, flat_in, modes_in, event_in, whole_in, bad_in, CanBeSearched}
 use Rattle.cut_model_search.proofs.Places.{all_by_place, recursion_from_each, recursion_from_all, pair_at, both_mapped}
-use Rattle.smv_flat_laws.proofs.HistoryLaws.{all_variables}
 use Rattle.cut_report_laws.proofs.Printed.{same_value, map_same as same_maps}
-use Rattle.cut_model_search.proofs.BadLists.{last_history as history_is_last}
 use Rattle.sat_encoding_laws.proofs.SetLaws.{each_kept}
 use Rattle.smv_flat_laws.proofs.Conditions.{each_at}
 use Rattle.smv_language.proofs.ListLaws.{get_map}
@@ -88,18 +85,24 @@ module _ (m : FlatModel) (fs : List Mode) (is : IsEncodable (with_history m fs))
   few_faults = let bits : state_bits (with_history m fs) ≡ state_bits m + length fs = (history_last m fs).1 in omega (arith, few_bits, bits)
 
 -- The analysis is complete.
-module _ (plain : Model) (fs : List Mode) (top : Tree FlatLeaf) (able : IsCertifiable (model_tree plain) fs top) (a : Analysis) (is : IsCompleteAnswer (model_tree plain) fs top a) where
+module _ (v : FaultyValue) (can : CanBeSearched v) (a : Analysis) (is : IsCertifiable v a) (clauses : List (List Literal)) (complete : a.end ≡ Complete clauses) where
   abbrev m : FlatModel
-  m = model_tree plain
+  m = flat_in v
+
+  abbrev fs : List Mode
+  fs = modes_in v
+
+  abbrev top : Tree FlatLeaf
+  top = event_in v
 
   abbrev full : FlatModel
-  full = with_history m fs
+  full = whole_in v
 
   abbrev subject : Subject
   subject = subject_of full m fs top
 
-  ends : IsEnd (problem_of m fs top) is.depth a.size is.answer.found (Complete is.clauses)
-  ends = subst (IsEnd (problem_of m fs top) is.depth a.size is.answer.found) is.complete is.answer.ends
+  ends : IsEnd (problem_of m fs top) is.depth a.size is.answer.found (Complete clauses)
+  ends = subst (IsEnd (problem_of m fs top) is.depth a.size is.answer.found) complete is.answer.ends
 
   right : IsRightFlat m fs top a.size (IsFlatTrace m) a.sets (map (trace_of m.symbols) a.traces)
   right =
@@ -111,29 +114,22 @@ module _ (plain : Model) (fs : List Mode) (top : Tree FlatLeaf) (able : IsCertif
 
   -- Its invariant is one of the exact lists.
   exact_bad : IsBadListOf full (system_of full) (state_of full) top (history_of m fs) a.sets a.size (bad_list full top (history_of m fs) a.sets a.size)
-  exact_bad = bad_states_encoded full able.encodable top able.fits (history_of m fs) (history_last m fs).0 a.sets a.size
+  exact_bad = bad_states_encoded full can.encodable top can.fits (history_of m fs) (history_last m fs).0 a.sets a.size
 
-  excluded : (s : State) → InFrame (system_of full) is.clauses s → ((v : List Told) × IsBadMoment full top (history_of m fs) a.sets a.size v × (state_of full v ≡ s)) → ⊥
+  excluded : (s : State) → InFrame (system_of full) clauses s → ((v : List Told) × IsBadMoment full top (history_of m fs) a.sets a.size v × (state_of full v ≡ s)) → ⊥
   excluded s inside v =
       ends.0.invariant.excludes s inside
       (subst (IsBad (system_of full) ends.0.bad) v.2 (ends.0.is_bad.bad_comes v.0 (subst (λ ss. IsBadMoment full top (history_of m fs) ss a.size v.0) is.answer.sets v.1)))
 
-  invariant : IsInvariant (system_of full) (bad_list full top (history_of m fs) a.sets a.size) is.clauses
+  invariant : IsInvariant (system_of full) (bad_list full top (history_of m fs) a.sets a.size) clauses
   invariant = record {
     holds_first = ends.0.invariant.inductive.holds_first;
     is_kept = ends.0.invariant.inductive.is_kept;
     excludes = λ s inside here. excluded s inside (exact_bad.bad_means s here);
   }
 
-  pub proof : IsProof full top (length fs) a is.clauses
-  proof = record {
-    encodable = able.encodable;
-    fits = able.fits;
-    within = let e : length full.variables ≡ length m.variables + length fs = all_variables m fs in omega (arith, e);
-    over_bits = ends.0.invariant.inductive.over_bits;
-    apart = ends.0.invariant.inductive.apart;
-    invariant = subst (λ hs. IsInvariant (system_of full) (bad_list full top hs a.sets a.size) is.clauses) (sym (history_is_last m fs)) invariant;
-  }
+  pub proof : IsProof v a clauses
+  proof = record { over_bits = ends.0.invariant.inductive.over_bits; apart = ends.0.invariant.inductive.apart; invariant = invariant }
 
   -- Each of its traces shows a set.
   shown : (k : ℕ) (trace : List (List Value)) → slice_get a.traces k ≡ Some trace →
@@ -150,41 +146,38 @@ module _ (plain : Model) (fs : List Mode) (top : Tree FlatLeaf) (able : IsCertif
   domains : (k : ℕ) (trace : List (List Value)) → slice_get a.traces k ≡ Some trace → Each (AreInDomains m.variables) (trace_of m.symbols trace)
   domains k trace at = each_kept (IsFlatMoment m) (AreInDomains m.variables) (λ v h. h.domains) (trace_of m.symbols trace) (shown k trace at).2.is_one.moments
 
-  can_print : (k : ℕ) (trace : List (List Value)) → slice_get a.traces k ≡ Some trace → CanBePrinted plain trace
+  can_print : (k : ℕ) (trace : List (List Value)) → slice_get a.traces k ≡ Some trace → CanBePrinted v.model trace
   can_print k trace at = record {
     printable = is.printable (some_set k (shown k trace at).0 (shown k trace at).1);
     within = subst (Each (AreInDomains m.variables)) (sym (same_told m.symbols trace)) (domains k trace at);
   }
 
-  pub all_print : All (CanBePrinted plain) a.traces
-  all_print = all_by_place (CanBePrinted plain) a.traces can_print
+  pub all_print : All (CanBePrinted v.model) a.traces
+  all_print = all_by_place (CanBePrinted v.model) a.traces can_print
 
   -- So its texts give its traces, and no other.
   not_empty : (trace : List (List Told)) → IsFlatTrace m trace → trace ≢ []
   not_empty [] h e = h.first
   not_empty (v ∷ vs) h e = let bad : length (v ∷ vs) ≡ 0 = ap length e in absurd (omega (arith, bad))
 
-  gives_alone : (k : ℕ) (trace : List (List Value)) → slice_get a.traces k ≡ Some trace → GivesAlone (GivesTrace m) (text_lines plain trace) (trace_of m.symbols trace)
+  gives_alone : (k : ℕ) (trace : List (List Value)) → slice_get a.traces k ≡ Some trace → GivesAlone (GivesTrace m) (text_lines v.model trace) (trace_of m.symbols trace)
   gives_alone k trace at =
       subst (λ t. GivesAlone (GivesTrace m) (trace_lines m 0 t) (trace_of m.symbols trace)) (sym (same_told m.symbols trace))
       (let printed = printed_gives_alone m (can_print k trace at).printable (trace_of m.symbols trace) (not_empty (trace_of m.symbols trace) (shown k trace at).2.is_one) (domains k trace at) in
       record { gives = printed.0; alone = printed.1 })
 
-  texts_both : AreBoth (GivesAlone (GivesTrace m)) (map (text_lines plain) a.traces) (map (trace_of m.symbols) a.traces)
-  texts_both = both_mapped (GivesAlone (GivesTrace m)) (text_lines plain) (trace_of m.symbols) a.traces gives_alone
+  texts_both : AreBoth (GivesAlone (GivesTrace m)) (map (text_lines v.model) a.traces) (map (trace_of m.symbols) a.traces)
+  texts_both = both_mapped (GivesAlone (GivesTrace m)) (text_lines v.model) (trace_of m.symbols) a.traces gives_alone
 
   -- The certificate of its parts.
-  module _ (parts : PartDerivations) (derived : AreDerived (system_of full) is.clauses (bad_of full top (length fs) a) parts) where
+  module _ (parts : PartDerivations) (derived : AreDerived (system_of full) clauses (bad_in v a.sets a.size) parts) where
     abbrev made : Certificate
-    made = certificate_of (system_of full).state_bits (length fs) a (map (text_lines plain) a.traces) is.clauses parts
-
-    bad_derived : IsSoFar (bad_list full top (history_of m fs) a.sets a.size ++ is.clauses) parts.bad ([] ∷ [])
-    bad_derived = subst (λ hs. IsSoFar (bad_list full top hs a.sets a.size ++ is.clauses) parts.bad ([] ∷ [])) (history_is_last m fs) derived.bad
+    made = certificate_of v a (map (text_lines v.model) a.traces) clauses parts
 
     so_far : (part : Part) → IsSoFar (givens subject made part) (steps_in made part) (goals subject made part)
     so_far part_first = derived.first
     so_far part_next = derived.next
-    so_far part_bad = bad_derived
+    so_far part_bad = derived.bad
 
     of_analysis : IsOfAnalysis (GivesTrace m) m fs top subject made
     of_analysis = record {
@@ -200,21 +193,21 @@ module _ (plain : Model) (fs : List Mode) (top : Tree FlatLeaf) (able : IsCertif
     }
 
     pub certified : IsCertified m fs top (GivesTrace m) subject made
-    certified = analysed_is_accepted (GivesTrace m) m fs top subject (subjects_right m fs top able.encodable able.fits) made of_analysis
+    certified = analysed_is_accepted (GivesTrace m) m fs top subject (subjects_right m fs top can.encodable can.fits) made of_analysis
 
     -- Its numbers are small.
     small_below : (n : ℕ) → n ≤ 4096 → n < 2 ^ 31
     small_below n h = omega (arith, h)
 
     small_set : (set : List ℕ) → IsNumbered (length fs) set → AllByRecursion IsSmall set
-    small_set set h = recursion_from_each (λ i. (Rattle.std.proofs.Common.◌≤◌ 1 i) × (i ≤ length fs)) IsSmall (λ i h. small_below i (below i (length fs) h.1 (few_faults m fs able.encodable))) set h
+    small_set set h = recursion_from_each (λ i. (Rattle.std.proofs.Common.◌≤◌ 1 i) × (i ≤ length fs)) IsSmall (λ i h. small_below i (below i (length fs) h.1 (few_faults m fs can.encodable))) set h
       where
         below : (i n : ℕ) → i ≤ n → n ≤ 4096 → i ≤ 4096
         below i n h k = omega (arith, h, k)
 
     small_clause : (c : List Literal) → IsOverBits (system_of full) c → AllByRecursion IsLiteral c
     small_clause c h = recursion_from_all (λ (l : Literal). (2 ≤ l.var) × (l.var < state_bits full + 2)) IsLiteral
-        (λ l k. (low l.var k.0, high l.var (state_bits full) k.1 (few_bits m fs able.encodable))) c h
+        (λ l k. (low l.var k.0, high l.var (state_bits full) k.1 (few_bits m fs can.encodable))) c h
       where
         low : (n : ℕ) → 2 ≤ n → 1 ≤ n
         low n h = omega (arith, h)
@@ -222,17 +215,17 @@ module _ (plain : Model) (fs : List Mode) (top : Tree FlatLeaf) (able : IsCertif
         high : (n k : ℕ) → n < k + 2 → k ≤ 4096 → n < 2 ^ 63
         high n k h l = omega (arith, h, l)
 
-    pub writable : length a.sets < 2 ^ 63 → length is.clauses < 2 ^ 63 → All IsWritableText (map (text_lines plain) a.traces) → IsWritable made
+    pub writable : length a.sets < 2 ^ 63 → length clauses < 2 ^ 63 → All IsWritableText (map (text_lines v.model) a.traces) → IsWritable made
     writable few_sets few_clauses texts = record {
-      one_each = length-map a.traces (text_lines plain) ∙ sym (length-map a.traces (trace_of m.symbols)) ∙ right.one_each;
-      bits = small_below (state_bits full) (few_bits m fs able.encodable);
-      faults = small_below (length fs) (few_faults m fs able.encodable);
-      size = small_below a.size (let few : length fs ≤ 4096 = few_faults m fs able.encodable in omega (arith, few, is.small));
+      one_each = length-map a.traces (text_lines v.model) ∙ sym (length-map a.traces (trace_of m.symbols)) ∙ right.one_each;
+      bits = small_below (state_bits full) (few_bits m fs can.encodable);
+      faults = small_below (length fs) (few_faults m fs can.encodable);
+      size = small_below a.size (let few : length fs ≤ 4096 = few_faults m fs can.encodable in omega (arith, few, is.small));
       count_of_sets = few_sets;
       sets = recursion_from_each (IsNumbered (length fs)) (AllByRecursion IsSmall) small_set a.sets numbered;
-      traces = recursion_from_All IsWritableText (map (text_lines plain) a.traces) texts;
+      traces = recursion_from_All IsWritableText (map (text_lines v.model) a.traces) texts;
       count_of_clauses = few_clauses;
-      clauses = recursion_from_all (IsOverBits (system_of full)) (AllByRecursion IsLiteral) small_clause is.clauses ends.0.invariant.inductive.over_bits;
+      clauses = recursion_from_all (IsOverBits (system_of full)) (AllByRecursion IsLiteral) small_clause clauses ends.0.invariant.inductive.over_bits;
       first = derived.first_writable;
       next = derived.next_writable;
       bad = derived.bad_writable;

@@ -1,6 +1,7 @@
 pub mod CaseAnalysis
 pub mod Searches
-pub mod Wholes
+pub mod FaultyModels
 pub mod MomentReading
 pub mod Texts
 pub mod Certifiable
+pub mod Reports

@@ -1,33 +1,33 @@
-//! A model with faults and a top event, as a search sees it.
+//! A model with faults and a top event: what is searched.
 //!
-//! [`Faulty`] has the one impl of `Encoded`, the trait by which the search of `cut_search` asks for clause lists and reads moments. What
-//! they are stands in the trait; the lists are made in `sat_encoding`.
-ghost use Rattle.std.specs.Prelude.{◌≡◌, IfOk, length};
+//! [`FaultyModel`] is the one type that carries these. Contracts see its flat model, its faults and its top event, of which
+//! `specs/FaultyModels.antt` speaks; that they can be searched, and that the model with history belongs to them, holds of every one.
+ghost use Rattle.std.specs.Prelude.{◌≡◌, ◌≤◌, ◌<◌, ◌^◌, IfOk, OnOk, IsOk, length, map};
 ghost use Rattle.smv_language.specs.ModelTree.{model_tree, flat_tree};
-ghost use Rattle.sat_encoding_laws.specs.Encodable.{IsEncodable};
-ghost use Rattle.cut_search_laws.specs.Problem.{problem_of};
+ghost use Rattle.smv_flat_laws.specs.FaultModes.{mode_of};
+ghost use Rattle.smv_flat_laws.specs.History.{with_history};
+ghost use Rattle.smv_type_laws.specs.Costs.{state_bits};
 ghost use Rattle.cut_search_laws.specs.Searchable.{IsSearchable};
-ghost use Rattle.cut_model_search.specs.MomentReading.{IsRead};
-ghost use Rattle.cut_model_search.specs.Wholes.{modes_of, whole_of, CanBeSearched};
+ghost use Rattle.cut_model_search.specs.FaultyModels.{faulty_of, faulty_case, modes_in, whole_in, history_in, CanBeSearched};
 
-use base_values::{Items, OutOfMemory, SetList, Valuation, Value};
-use cut_search::encoded::Encoded;
-use sat_clauses::System;
-use sat_clauses::assign::Assign;
-use sat_clauses::clause::{Clause, ClauseList};
+use base_values::{Items, OutOfMemory};
 use sat_clauses::lit::Lit;
-use sat_encoding::{
-    bad_clauses, encode, history_literals, state_of, unlisted_clause, valuation_of,
-};
+use sat_encoding::history_literals;
 use smv_language::Expr;
 use smv_language::model::{FaultList, Flat};
 use smv_types::Typed;
 use std::alloc::Global;
+use std::marker::Model;
+use verb_loading::loaded::LoadedCase;
 
-/// A model, the model with the history of its faults, and a top event.
+/// A search gives each symbol a number below this. A model of two files within their limits has far fewer.
+const MOST_SYMBOLS: usize = 2_147_483_648;
+
+/// A model, its faults, and a top event that can be searched for.
 #[derive(Drop)]
-pub(crate) struct Faulty<'a> {
+pub struct FaultyModel<'a> {
     plain: &'a Typed,
+    // The model with the history of its faults.
     full: &'a Typed,
     faults: &'a FaultList,
     top: &'a Expr<Flat>,
@@ -35,23 +35,37 @@ pub(crate) struct Faulty<'a> {
     history: Items<Lit>,
 }
 
-impl<'a> Faulty<'a> {
-    /// The model with the literals of its history bits.
-    pub(crate) fn new(
+impl<'a> Model for FaultyModel<'a> {
+    ghost use Rattle.std.specs.Coded.{codes};
+    ghost use Rattle.base_values.specs.contracts.name.Dotted as dotted;
+    ghost use Rattle.smv_language.specs.contracts.expr.Expr as expr;
+    ghost use Rattle.smv_language.specs.contracts.model.Flat as flat;
+    ghost use Rattle.cut_model_search.specs.FaultyModels.{FaultyValue, faulty_of, IsFaultyModel};
+
+    ghost Value = { FaultyValue };
+
+    ghost coded = { Prim.hlevel (codes, (expr.the_row flat.the_row).coded, (expr.the_row dotted.the_row).coded) };
+
+    ghost view = { λ f. faulty_of f.plain.now.model f.faults.now f.top.now };
+
+    ghost invariant = { λ f. IsFaultyModel (faulty_of f.plain.now.model f.faults.now f.top.now) f.full.now.model f.history };
+}
+
+impl<'a> FaultyModel<'a> {
+    /// The faults of a model, whose history the full model has, with a top event.
+    pub fn new(
         alloc: Global,
         plain: &'a Typed,
         full: &'a Typed,
         faults: &'a FaultList,
         top: &'a Expr<Flat>,
-    ) -> Result<Faulty<'a>, OutOfMemory>
-        requires whole { model_tree full.now.model ≡ whole_of plain.now.model faults.now }
-        requires searchable { IsSearchable (model_tree plain.now.model) (modes_of faults.now) (flat_tree top.now) }
-        ensures can { IfOk result (λ f. CanBeSearched f.plain.now.model f.full.now.model f.faults.now (flat_tree f.top.now) f.history) }
-        ensures problem { IfOk result (λ f. problem_of (model_tree f.plain.now.model) (modes_of f.faults.now) (flat_tree f.top.now)
-            ≡ problem_of (model_tree plain.now.model) (modes_of faults.now) (flat_tree top.now)) }
+    ) -> Result<FaultyModel<'a>, OutOfMemory>
+        requires whole { model_tree full.now.model ≡ with_history (model_tree plain.now.model) (map mode_of faults.now) }
+        requires searchable { IsSearchable (model_tree plain.now.model) (map mode_of faults.now) (flat_tree top.now) }
+        ensures { IfOk result (λ f. f ≡ faulty_of plain.now.model faults.now top.now) }
     {
         let history = history_literals(alloc, full, faults.len() as u32)?;
-        Ok(Faulty {
+        Ok(FaultyModel {
             plain,
             full,
             faults,
@@ -59,92 +73,92 @@ impl<'a> Faulty<'a> {
             history,
         })
     }
-}
 
-/// A valuation with a value for each variable of a model, which no one has asked for.
-fn blank(alloc: Global, t: &Typed) -> Result<Valuation, OutOfMemory>
-    ensures { IfOk result (λ v. length v ≡ length t.now.model.variables) }
-{
-    let mut blank = Valuation::new(alloc);
-    for _variable in t.model().variables.as_slice() {
-        blank.push(Value::Bool(false))?;
-    }
-    Ok(blank)
-}
-
-/// Reads a moment that gives its state, and its inputs unless it is the last one: these get the least values.
-fn fill(t: &Typed, moment: &Assign, last: bool, values: &mut Valuation)
-    requires encodable { IsEncodable (model_tree t.now.model) }
-    requires long { length values.old ≡ length t.now.model.variables }
-    ensures { IsRead (model_tree t.now.model) last moment.now values.new }
-{
-    if last {
-        state_of(t, moment, values);
-    } else {
-        valuation_of(t, moment, values);
-    }
-}
-
-/// The valuation of a moment.
-fn read(alloc: Global, t: &Typed, moment: &Assign, last: bool) -> Result<Valuation, OutOfMemory>
-    requires { IsEncodable (model_tree t.now.model) }
-    ensures { IfOk result (λ v. IsRead (model_tree t.now.model) last moment.now v) }
-{
-    let mut values = blank(alloc, t)?;
-    fill(t, moment, last, &mut values);
-    Ok(values)
-}
-
-impl<'a> Encoded for Faulty<'a> {
-    ghost use Rattle.smv_language.specs.ModelTree.{model_tree, flat_tree};
-    ghost use Rattle.cut_search_laws.specs.Problem.{problem_of};
-    ghost use Rattle.cut_model_search.specs.Wholes.{modes_of, CanBeSearched};
-
-    ghost problem = { λ f. problem_of (model_tree f.plain.now.model) (modes_of f.faults.now) (flat_tree f.top.now) };
-
-    ghost searchable = { λ f. CanBeSearched f.plain.now.model f.full.now.model f.faults.now (flat_tree f.top.now) f.history };
-
-    fn encode(&self, alloc: Global) -> Result<System, OutOfMemory> {
-        let system = encode(alloc, self.full)?;
-        Ok(system)
-    }
-
-    fn is_searched(&self) {}
-
-    fn bad_clauses(
-        &self,
+    /// The model of a case with a top event. More symbols than a search has numbers for are want of memory.
+    pub fn of_case(
         alloc: Global,
-        listed: &SetList,
-        size: u32,
-    ) -> Result<ClauseList, OutOfMemory> {
-        let faults = self.faults.len() as u32;
-        let clauses = bad_clauses(alloc, self.full, self.top, listed, faults, size.min(faults))?;
-        Ok(clauses)
+        case: &'a LoadedCase,
+        top: &'a Expr<Flat>,
+    ) -> Result<FaultyModel<'a>, OutOfMemory>
+        requires whole { model_tree case.now.limited.full.model
+            ≡ with_history (model_tree case.now.limited.typed.model) (map mode_of case.now.limited.faults) }
+        requires searchable { length case.now.limited.typed.model.symbols < 2 ^ 31 →
+            IsSearchable (model_tree case.now.limited.typed.model) (map mode_of case.now.limited.faults) (flat_tree top.now) }
+        ensures few { OnOk result (length case.now.limited.typed.model.symbols < 2 ^ 31) }
+        ensures model { IfOk result (λ f. f ≡ faulty_case case.now top.now) }
+    {
+        count_symbols(case)?;
+        let limited = &case.limited;
+        let model = FaultyModel::new(alloc, &limited.typed, &limited.full, &limited.faults, top)?;
+        Ok(model)
     }
 
-    fn history(&self) -> &[Lit] {
+    /// That the model can be searched: a law, carried as a call that does nothing.
+    pub(crate) fn can_be_searched(&self)
+        ensures { CanBeSearched self.now }
+    {
+        let _plain = self.plain;
+    }
+
+    /// The model without history.
+    pub(crate) fn plain(&self) -> &Typed
+        ensures { result.now.model ≡ self.now.model }
+    {
+        self.plain
+    }
+
+    /// The model with the history of its faults.
+    pub(crate) fn full(&self) -> &Typed
+        ensures { model_tree result.now.model ≡ whole_in self.now }
+    {
+        self.full
+    }
+
+    /// The number of its state bits.
+    pub(crate) fn bits(&self) -> u32
+        ensures { result ≡ state_bits (whole_in self.now) }
+    {
+        self.full().bits()
+    }
+
+    /// The faults.
+    pub(crate) fn listed(&self) -> &FaultList
+        ensures { result.now ≡ self.now.faults }
+    {
+        self.faults
+    }
+
+    /// The number of the faults.
+    pub(crate) fn count(&self) -> u32
+        ensures count { result ≡ length (modes_in self.now) }
+        ensures few { result ≤ 4096 }
+    {
+        self.can_be_searched();
+        self.listed().len() as u32
+    }
+
+    /// The top event.
+    pub(crate) fn top(&self) -> &Expr<Flat>
+        ensures { result.now ≡ self.now.top }
+    {
+        self.top
+    }
+
+    /// The literals of the history bits, in the order of the faults.
+    pub(crate) fn literals(&self) -> &[Lit]
+        ensures { result.now ≡ history_in self.now }
+    {
         self.history.as_slice()
     }
+}
 
-    fn set_clause(&self, alloc: Global, set: &[u32]) -> Result<Clause, OutOfMemory> {
-        let clause = unlisted_clause(alloc, self.history.as_slice(), set)?;
-        Ok(clause)
+/// Want of memory where a flat model has more symbols than a search has numbers for.
+fn count_symbols(case: &LoadedCase) -> Result<(), OutOfMemory>
+    ensures few { OnOk result (length case.now.limited.typed.model.symbols < 2 ^ 31) }
+    ensures fits { length case.now.limited.typed.model.symbols < 2 ^ 31 → IsOk result }
+{
+    if case.limited.typed.model().symbols.len() >= MOST_SYMBOLS {
+        return Err(OutOfMemory);
     }
-
-    fn valuation_of(
-        &self,
-        alloc: Global,
-        moment: &Assign,
-        last: bool,
-    ) -> Result<Valuation, OutOfMemory> {
-        read(alloc, self.full, moment, last)
-    }
-
-    fn variables(&self) -> usize {
-        self.plain.model().variables.len()
-    }
-
-    fn faults(&self) -> usize {
-        self.faults.len()
-    }
+    Ok(())
 }

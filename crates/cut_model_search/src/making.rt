@@ -1,30 +1,32 @@
-//! A certificate put together.
+//! The certificate of a complete answer.
 //!
-//! [`certify`] is the main function. What it answers is the certificate with the sets and the size of the analysis, the texts of its
-//! traces, its invariant, and the derivations of that.
+//! [`FaultyModel::certificate`] is the main call. It derives the three parts of the invariant by searches over the exact lists of the
+//! model with history, and puts together the certificate with the sets and the size of the analysis, the texts of its traces, its
+//! invariant, and these derivations.
 ghost use Rattle.std.specs.Prelude.{◌≡◌, ◌<◌, ◌^◌, map, length, IfOk};
-ghost use Rattle.smv_language.specs.ModelTree.{model_tree, flat_tree};
-ghost use Rattle.smv_flat_laws.specs.FaultModes.{mode_of};
-ghost use Rattle.smv_flat_laws.specs.History.{with_history};
+ghost use Rattle.smv_language.specs.NumberedValues.{told_trace};
+ghost use Rattle.sat_encoding_laws.specs.Lists.{system_of};
 ghost use Rattle.cut_text_laws.specs.TraceOfText.{GivesTrace};
 ghost use Rattle.cert_laws.specs.CertificateText.{IsWritable};
 ghost use Rattle.cert_laws.specs.Certification.{IsCertified};
 ghost use Rattle.cert_laws.specs.Subject.{subject_of};
+ghost use Rattle.cert_making.specs.PartDerivations.{AreDerived};
 ghost use Rattle.cert_text.specs.CertificateView.{seen};
+ghost use Rattle.cut_search.specs.declared.answer.End.TheVariants as ends;
+ghost use Rattle.cut_model_search.specs.CaseAnalysis.{IsCertificateFor};
+ghost use Rattle.cut_model_search.specs.Certifiable.{IsCertifiable, IsProof, certificate_of};
+ghost use Rattle.cut_model_search.specs.FaultyModels.{flat_in, modes_in, event_in, whole_in, bad_in};
+ghost use Rattle.cut_model_search.specs.Reports.{IsCertificateOf};
 ghost use Rattle.cut_model_search.specs.Texts.{text_lines};
-ghost use Rattle.cut_model_search.specs.Certifiable.{IsCertifiable, IsCompleteAnswer, certificate_of};
 
-use crate::lists::parts_of;
+use crate::faulty::FaultyModel;
 use crate::texts::texts_of;
-use base_values::{FaultSet, OutOfMemory, SetList};
-use cert_making::parts::PartDerivations;
-use cert_text::{Certificate, PackedSteps, TextList};
+use base_values::{ByteList, FaultSet, OutOfMemory, SetList};
+use cert_making::parts::{PartDerivations, derive_parts};
+use cert_text::{Certificate, PackedSteps, TextList, write};
 use cut_search::answer::{Analysis, End};
 use sat_adviser::Panel;
 use sat_clauses::clause::ClauseList;
-use smv_language::Expr;
-use smv_language::model::{FaultList, Flat};
-use smv_types::Typed;
 use std::alloc::Global;
 
 // Sets of their own with the same faults.
@@ -50,94 +52,117 @@ fn copied_clauses(clauses: &ClauseList) -> Result<ClauseList, OutOfMemory>
     Ok(copy)
 }
 
-// The certificate of these numbers, with the sets and the size of an analysis.
-fn assembled(
-    alloc: Global,
-    bits: u32,
-    faults: u32,
-    a: &Analysis,
-    traces: TextList,
-    invariant: &ClauseList,
-    parts: PartDerivations,
-) -> Result<Certificate, OutOfMemory>
-    ensures made { IfOk result (λ c. seen c ≡ certificate_of bits faults a.now traces invariant.now parts) }
-    ensures few_sets { IfOk result (λ c. length a.now.sets < 2 ^ 63) }
-    ensures few_clauses { IfOk result (λ c. length invariant.now < 2 ^ 63) }
-{
-    let sets = copied(alloc, a.sets.as_slice())?;
-    let clauses = copied_clauses(invariant)?;
-    let first = PackedSteps::of_list(alloc, &parts.first)?;
-    let next = PackedSteps::of_list(alloc, &parts.next)?;
-    let bad = PackedSteps::of_list(alloc, &parts.bad)?;
-    Ok(Certificate {
-        bits,
-        faults,
-        size: a.size,
-        sets,
-        traces,
-        invariant: clauses,
-        first,
-        next,
-        bad,
-    })
-}
+impl<'a> FaultyModel<'a> {
+    /// The text of a certificate of a complete answer; of one that is bounded there is none. The certificate has the sets and the size of
+    /// the analysis, the lines of its traces' texts, and its invariant with the derivations of that. It is accepted for the model, its
+    /// faults and the top event.
+    pub fn certificate(
+        &self,
+        alloc: Global,
+        a: &Analysis,
+        panel: &mut Panel,
+    ) -> Result<Option<ByteList>, OutOfMemory>
+        requires { IsCertifiable self.now a.now }
+        ensures { IfOk result (IsCertificateOf self.now a.now) }
+    {
+        match &a.end {
+            End::Complete(invariant) => {
+                let text = self.certificate_text(alloc, a, invariant, panel)?;
+                Ok(Some(text))
+            }
+            End::Bounded(_steps) => Ok(None),
+        }
+    }
 
-// The certificate of an analysis with this invariant.
-fn made(
-    alloc: Global,
-    full: &Typed,
-    plain: &Typed,
-    faults: &FaultList,
-    top: &Expr<Flat>,
-    a: &Analysis,
-    invariant: &ClauseList,
-    panel: &mut Panel,
-) -> Result<Certificate, OutOfMemory>
-    requires history { model_tree full.now.model ≡ with_history (model_tree plain.now.model) (map mode_of faults.now) }
-    requires model { IsCertifiable (model_tree plain.now.model) (map mode_of faults.now) (flat_tree top.now) }
-    requires answer { IsCompleteAnswer (model_tree plain.now.model) (map mode_of faults.now) (flat_tree top.now) a.now }
-    requires ends { a.now.end ≡ End.Complete invariant.now }
-    ensures certified { IfOk result (λ c. IsCertified (model_tree plain.now.model) (map mode_of faults.now)
-        (flat_tree top.now) (GivesTrace (model_tree plain.now.model))
-        (subject_of (model_tree full.now.model) (model_tree plain.now.model) (map mode_of faults.now) (flat_tree top.now)) (seen c)) }
-    ensures writable { IfOk result (λ c. IsWritable (seen c)) }
-    ensures sets { IfOk result (λ c. c.sets ≡ a.now.sets) }
-    ensures size { IfOk result (λ c. c.size ≡ a.now.size) }
-    ensures traces { IfOk result (λ c. c.traces ≡ map (text_lines plain.now.model) a.now.traces) }
-{
-    let count = faults.len() as u32;
-    let bits = full.bits();
-    let texts = texts_of(alloc, plain, a.traces.as_slice())?;
-    let parts = parts_of(alloc, full, top, count, a, invariant, panel)?;
-    let certificate = assembled(alloc, bits, count, a, texts, invariant, parts)?;
-    Ok(certificate)
-}
+    // The text of a certificate of an answer with this invariant.
+    fn certificate_text(
+        &self,
+        alloc: Global,
+        a: &Analysis,
+        invariant: &ClauseList,
+        panel: &mut Panel,
+    ) -> Result<ByteList, OutOfMemory>
+        requires answer { IsCertifiable self.now a.now }
+        requires complete { a.now.end ≡ ends.Complete invariant.now }
+        ensures { IfOk result (IsCertificateFor (flat_in self.now) (modes_in self.now) (event_in self.now)
+            a.now.size a.now.sets (map (told_trace self.now.model.symbols) a.now.traces)) }
+    {
+        let certificate = self.certify(alloc, a, invariant, panel)?;
+        write(alloc, &certificate)
+    }
 
-/// The certificate of a complete analysis: its sets and its size, the lines of its traces' texts, its invariant, and the three
-/// derivations of that, made by searches over the lists of the model with history that keep all their steps. `full` is `plain` with the
-/// history of the faults. The certificate is accepted for that model, its faults and the top event, and some text spells it.
-pub fn certify(
-    alloc: Global,
-    full: &Typed,
-    plain: &Typed,
-    faults: &FaultList,
-    top: &Expr<Flat>,
-    a: &Analysis,
-    panel: &mut Panel,
-) -> Result<Certificate, OutOfMemory>
-    requires history { model_tree full.now.model ≡ with_history (model_tree plain.now.model) (map mode_of faults.now) }
-    requires model { IsCertifiable (model_tree plain.now.model) (map mode_of faults.now) (flat_tree top.now) }
-    requires answer { IsCompleteAnswer (model_tree plain.now.model) (map mode_of faults.now) (flat_tree top.now) a.now }
-    ensures certified { IfOk result (λ c. IsCertified (model_tree plain.now.model) (map mode_of faults.now)
-        (flat_tree top.now) (GivesTrace (model_tree plain.now.model))
-        (subject_of (model_tree full.now.model) (model_tree plain.now.model) (map mode_of faults.now) (flat_tree top.now)) (seen c)) }
-    ensures writable { IfOk result (λ c. IsWritable (seen c)) }
-    ensures sets { IfOk result (λ c. c.sets ≡ a.now.sets) }
-    ensures size { IfOk result (λ c. c.size ≡ a.now.size) }
-    ensures traces { IfOk result (λ c. c.traces ≡ map (text_lines plain.now.model) a.now.traces) }
-{
-    match &a.end {
-        End::Complete(invariant) => made(alloc, full, plain, faults, top, a, invariant, panel),
-        End::Bounded(_) => unreachable!(),
+    // The certificate of an answer with this invariant. It is accepted, and some text spells it.
+    fn certify(
+        &self,
+        alloc: Global,
+        a: &Analysis,
+        invariant: &ClauseList,
+        panel: &mut Panel,
+    ) -> Result<Certificate, OutOfMemory>
+        requires answer { IsCertifiable self.now a.now }
+        requires complete { a.now.end ≡ ends.Complete invariant.now }
+        ensures certified { IfOk result (λ c. IsCertified (flat_in self.now) (modes_in self.now) (event_in self.now)
+            (GivesTrace (flat_in self.now))
+            (subject_of (whole_in self.now) (flat_in self.now) (modes_in self.now) (event_in self.now)) (seen c)) }
+        ensures writable { IfOk result (λ c. IsWritable (seen c)) }
+        ensures sets { IfOk result (λ c. c.sets ≡ a.now.sets) }
+        ensures size { IfOk result (λ c. c.size ≡ a.now.size) }
+        ensures traces { IfOk result (λ c. c.traces ≡ map (text_lines self.now.model) a.now.traces) }
+    {
+        self.can_be_searched();
+        let texts = texts_of(alloc, self.plain(), a.traces.as_slice())?;
+        let parts = self.parts(alloc, a, invariant, panel)?;
+        let certificate = self.assembled(alloc, a, texts, invariant, parts)?;
+        Ok(certificate)
+    }
+
+    // The derivations that the invariant of an analysis holds first, is kept by every step, and excludes the bad states of the listed
+    // sets.
+    fn parts(
+        &self,
+        alloc: Global,
+        a: &Analysis,
+        invariant: &ClauseList,
+        panel: &mut Panel,
+    ) -> Result<PartDerivations, OutOfMemory>
+        requires { IsProof self.now a.now invariant.now }
+        ensures { IfOk result
+            (AreDerived (system_of (whole_in self.now)) invariant.now (bad_in self.now a.now.sets a.now.size)) }
+    {
+        let system = self.system(alloc)?;
+        let bad = self.bad(alloc, &a.sets, a.size)?;
+        let parts = derive_parts(alloc, &system, invariant, &bad, panel)?;
+        Ok(parts)
+    }
+
+    // The certificate with the sets and the size of an analysis, and these parts.
+    fn assembled(
+        &self,
+        alloc: Global,
+        a: &Analysis,
+        traces: TextList,
+        invariant: &ClauseList,
+        parts: PartDerivations,
+    ) -> Result<Certificate, OutOfMemory>
+        ensures made { IfOk result (λ c. seen c ≡ certificate_of self.now a.now traces invariant.now parts) }
+        ensures few_sets { IfOk result (λ c. length a.now.sets < 2 ^ 63) }
+        ensures few_clauses { IfOk result (λ c. length invariant.now < 2 ^ 63) }
+    {
+        let sets = copied(alloc, a.sets.as_slice())?;
+        let clauses = copied_clauses(invariant)?;
+        let first = PackedSteps::of_list(alloc, &parts.first)?;
+        let next = PackedSteps::of_list(alloc, &parts.next)?;
+        let bad = PackedSteps::of_list(alloc, &parts.bad)?;
+        Ok(Certificate {
+            bits: self.bits(),
+            faults: self.count(),
+            size: a.size,
+            sets,
+            traces,
+            invariant: clauses,
+            first,
+            next,
+            bad,
+        })
     }
 }

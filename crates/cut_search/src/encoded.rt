@@ -15,23 +15,18 @@ use sat_clauses::clause::{Clause, ClauseList};
 use sat_clauses::lit::Lit;
 use std::alloc::Global;
 
-/// A model, its faults and a top event, with the clause lists of the model with history.
+/// A model, its faults and a top event that can be searched, with the clause lists of the model with history.
 pub trait Encoded {
     /// The model without history, its faults and the top event, with the clause lists and the bits of the model with history.
     ghost problem: { Self → Problem };
 
-    /// That the model can be searched, which the calls below ask.
-    ghost searchable: { Self → Type 0 };
-
     /// The clause lists of the model with history.
     fn encode(&self, alloc: Global) -> Result<System, OutOfMemory>
-        requires { searchable self.now }
         ensures system { IfOk result (λ s. s ≡ (problem self.now).system) }
         ensures fit { IfOk result IsFit };
 
     /// That the clause lists mean the model: a law, carried as a call that does nothing.
     fn is_searched(&self)
-        requires { searchable self.now }
         ensures { IsSearched (problem self.now) };
 
     /// The list bad of these sets and this size.
@@ -41,20 +36,17 @@ pub trait Encoded {
         listed: &SetList,
         size: u32,
     ) -> Result<ClauseList, OutOfMemory>
-        requires able { searchable self.now }
-        requires numbered { Each (IsNumbered (length (problem self.now).modes)) listed.now }
+        requires { Each (IsNumbered (length (problem self.now).modes)) listed.now }
         ensures over_now { IfOk result (λ bad. All (All (IsOverNow (problem self.now).system)) bad) }
         ensures bad { IfOk result (λ bad. IsBadFor (problem self.now) size listed.now bad) };
 
     /// The literals of the history bits of a state now, in the order of the faults: each is true where its fault has failed.
     fn history(&self) -> &[Lit]
-        requires { searchable self.now }
         ensures { AreHistory (problem self.now) result.now };
 
     /// The clause of a set: it is true where some fault of the set has not failed.
     fn set_clause(&self, alloc: Global, set: &[u32]) -> Result<Clause, OutOfMemory>
-        requires able { searchable self.now }
-        requires numbered { IsNumbered (length (problem self.now).modes) set.now }
+        requires { IsNumbered (length (problem self.now).modes) set.now }
         ensures { IfOk result (IsClauseOf (problem self.now) set.now) };
 
     /// The valuation of a moment of a path. The last moment gives no inputs: they get the least values of their
@@ -65,8 +57,7 @@ pub trait Encoded {
         moment: &Assign,
         last: bool,
     ) -> Result<Valuation, OutOfMemory>
-        requires able { searchable self.now }
-        requires readable { IsReadable (problem self.now) last moment.now }
+        requires { IsReadable (problem self.now) last moment.now }
         ensures { IfOk result (λ v. IsReadOf (problem self.now) last moment.now v) };
 
     /// The number of the model's own variables; history bits follow.
@@ -75,7 +66,6 @@ pub trait Encoded {
 
     /// The number of faults.
     fn faults(&self) -> usize
-        requires { searchable self.now }
         ensures count { result ≡ length (problem self.now).modes }
         ensures few { result < 2 ^ 24 };
 }

@@ -5,8 +5,8 @@
 //! to which the clause of each new set is added, in the order in which sets are found. Then the frames advance, until
 //! they are inductive or the frontier is the depth. [`search::analyse`] does this for any model with clause
 //! lists (the trait [`encoded::Encoded`], which is all that it knows of the encoding) and answers the sets in
-//! order, a trace for each, and how the search ended. [`search::analyse_in`] does the same in frames that have served for
-//! other top events of the model; these begin again: their clauses go, and all that their search has learned stays.
+//! order, a trace for each, and how the search ended. The frames of the model ([`search::frames_of`]) serve for one top event after
+//! another; they begin again for each: their clauses go, and all that their search has learned stays.
 //!
 //! `specs/` says what that answer means (`IsAnswer`): sets that are right for all traces where it is complete,
 //! and for traces of at most as many steps as the depth where it is bounded. The laws stand in `cut_search_laws`.

@@ -54,7 +54,6 @@ fn look<E: Encoded>(
     found: Vec<WitnessedSet>,
     panel: &mut Panel,
 ) -> Result<(Vec<WitnessedSet>, bool), OutOfMemory>
-    requires able { E.searchable model.now }
     requires system { frames.old.system ≡ (E.problem model.now).system }
     requires numbered { AreNumbered (E.problem model.now).system frames.old.frames }
     requires listed { AreListed (E.problem model.now) size found.items }
@@ -87,7 +86,6 @@ fn clear_all<E: Encoded>(
     found: Vec<WitnessedSet>,
     panel: &mut Panel,
 ) -> Result<Vec<WitnessedSet>, OutOfMemory>
-    requires able { E.searchable model.now }
     requires system { frames.old.system ≡ (E.problem model.now).system }
     requires numbered { AreNumbered (E.problem model.now).system frames.old.frames }
     requires listed { AreListed (E.problem model.now) size found.items }
@@ -116,7 +114,6 @@ fn further<E: Encoded>(
     found: Vec<WitnessedSet>,
     panel: &mut Panel,
 ) -> Result<(Vec<WitnessedSet>, Option<ClauseList>), OutOfMemory>
-    requires able { E.searchable model.now }
     requires system { frames.old.system ≡ (E.problem model.now).system }
     requires between { IsBetween (E.problem model.now) size found.items frames.old }
     ensures system { frames.new.system ≡ frames.old.system }
@@ -157,7 +154,6 @@ fn begin<E: Encoded>(
     frames: &mut Frames,
     panel: &mut Panel,
 ) -> Result<Vec<WitnessedSet>, OutOfMemory>
-    requires able { E.searchable model.now }
     requires system { frames.old.system ≡ (E.problem model.now).system }
     requires frontier { frontier frames.old ≡ 0 }
     requires numbered { AreNumbered (E.problem model.now).system frames.old.frames }
@@ -183,7 +179,6 @@ fn search<E: Encoded>(
     frames: &mut Frames,
     panel: &mut Panel,
 ) -> Result<(Vec<WitnessedSet>, End), OutOfMemory>
-    requires able { E.searchable model.now }
     requires system { frames.old.system ≡ (E.problem model.now).system }
     requires frontier { frontier frames.old ≡ 0 }
     requires numbered { AreNumbered (E.problem model.now).system frames.old.frames }
@@ -208,7 +203,6 @@ fn search<E: Encoded>(
 
 /// The frames of a model. They know nothing of its top event, and serve for one after another.
 pub fn frames_of<E: Encoded>(alloc: Global, model: &E) -> Result<Frames, OutOfMemory>
-    requires { E.searchable model.now }
     ensures system { IfOk result (λ f. f.system ≡ (E.problem model.now).system) }
     ensures frontier { IfOk result (λ f. frontier f ≡ 0) }
 {
@@ -217,60 +211,28 @@ pub fn frames_of<E: Encoded>(alloc: Global, model: &E) -> Result<Frames, OutOfMe
     Ok(frames)
 }
 
-/// The analysis in frames of the model that stand at frontier 0.
-fn analyse_from_first<E: Encoded>(
-    alloc: Global,
-    model: &E,
-    depth: u32,
-    size: u32,
-    frames: &mut Frames,
-    panel: &mut Panel,
-) -> Result<Analysis, OutOfMemory>
-    requires able { E.searchable model.now }
-    requires system { frames.old.system ≡ (E.problem model.now).system }
-    requires frontier { frontier frames.old ≡ 0 }
-    ensures system { frames.new.system ≡ frames.old.system }
-    ensures answer { IfOk result (IsAnswer (E.problem model.now) depth size) }
-{
-    model.is_searched();
-    let first = has_first(alloc, frames, panel)?;
-    let (found, end) = search(alloc, model, depth, size, frames, panel)?;
-    let made = answer(alloc, found, first, end, size)?;
-    Ok(made)
-}
-
 /// The minimal cut sets of at most so many faults, each with a trace that shows it: for all traces, or for those of at
 /// most as many steps as the depth.
+///
+/// The frames are those of the model, and may have served for other top events. They begin again: the clauses of later
+/// frames go, and the search stays with all that it has learned. What was learned under one top event's bad states stands under their
+/// guard, which is false from then on.
 pub fn analyse<E: Encoded>(
     alloc: Global,
     model: &E,
     depth: u32,
     size: u32,
-    panel: &mut Panel,
-) -> Result<Analysis, OutOfMemory>
-    requires { E.searchable model.now }
-    ensures { IfOk result (IsAnswer (E.problem model.now) depth size) }
-{
-    let mut frames = frames_of(alloc, model)?;
-    analyse_from_first(alloc, model, depth, size, &mut frames, panel)
-}
-
-/// The same analysis, in frames of the model that may have served for other top events. They begin again: the clauses of later
-/// frames go, and the search stays with all that it has learned. What was learned under one top event's bad states stands under their
-/// guard, which is false from then on.
-pub fn analyse_in<E: Encoded>(
-    alloc: Global,
-    model: &E,
-    depth: u32,
-    size: u32,
     frames: &mut Frames,
     panel: &mut Panel,
 ) -> Result<Analysis, OutOfMemory>
-    requires able { E.searchable model.now }
-    requires system { frames.old.system ≡ (E.problem model.now).system }
+    requires { frames.old.system ≡ (E.problem model.now).system }
     ensures system { frames.new.system ≡ frames.old.system }
     ensures answer { IfOk result (IsAnswer (E.problem model.now) depth size) }
 {
+    model.is_searched();
     frames.begin_again()?;
-    analyse_from_first(alloc, model, depth, size, frames, panel)
+    let first = has_first(alloc, frames, panel)?;
+    let (found, end) = search(alloc, model, depth, size, frames, panel)?;
+    let made = answer(alloc, found, first, end, size)?;
+    Ok(made)
 }

@@ -80,7 +80,6 @@ fn read_moment<E: Encoded>(
     path: &StepList,
     i: usize,
 ) -> Result<Valuation, OutOfMemory>
-    requires able { E.searchable model.now }
     requires within { i < length path.now }
     requires lawful { IsLawfulMoment (E.problem model.now) path.now i }
     ensures { IfOk result (λ v. IsReadOf (E.problem model.now) (nat_eq (i + 1) (length path.now)) (slice_index_or path.now i []) v) }
@@ -96,7 +95,6 @@ fn read_path<E: Encoded>(
     model: &E,
     path: &StepList,
 ) -> Result<MomentList, OutOfMemory>
-    requires able { E.searchable model.now }
     requires lawful { (i : ℕ) → i < length path.now → IsLawfulMoment (E.problem model.now) path.now i }
     ensures { IfOk result (λ long. AreReadFrom (E.problem model.now) path.now (trace_of (E.problem model.now).model.symbols long)) }
 {
@@ -113,7 +111,6 @@ pub fn show<E: Encoded>(
     model: &E,
     path: &StepList,
 ) -> Result<WitnessedSet, OutOfMemory>
-    requires able { E.searchable model.now }
     requires some { 0 < length path.now }
     requires lawful { (i : ℕ) → i < length path.now → IsLawfulMoment (E.problem model.now) path.now i }
     ensures { IfOk result (λ f. Shown (E.problem model.now) path.now f) }

@@ -1,16 +1,13 @@
 //! Common causes: their minimal cut sets, and certificates of them.
 //!
 //! The main functions are [`find_causes`] and [`check_causes`], one for each verb. What both load stands in `staged`.
-ghost use Rattle.std.specs.Prelude.{◌≡◌, ◌<◌, ◌≤◌, ◌^◌, ℕ, length, map, IfOk, IsOk, OnOk, IfSome, IsErrOf};
+ghost use Rattle.std.specs.Prelude.{◌≡◌, ◌<◌, ◌≤◌, ◌^◌, length, IfOk, IsOk, OnOk, IfSome, IsErrOf};
 ghost use Rattle.base_files.specs.Desk.{OnlyReads, OnlySays, IsLater, Rose};
 ghost use Rattle.smv_language.specs.ModelTree.{flat_tree};
 ghost use Rattle.cert_text.specs.CertificateView.{seen};
 ghost use Rattle.cert_check.specs.Fit.{IsCheckable};
-ghost use Rattle.cut_search.specs.declared.answer.End.TheVariants as ends;
 ghost use Rattle.cut_text_laws.specs.Analysis.{told_ending};
-ghost use Rattle.smv_language.specs.NumberedValues.{told_trace};
-ghost use Rattle.cut_model_search.specs.CaseAnalysis.{IsCertificateFor};
-ghost use Rattle.cut_model_search.specs.Searches.{IsSearched, HasCertificate};
+ghost use Rattle.cut_model_search.specs.FaultyModels.{faulty_of};
 ghost use Rattle.verb_loading.specs.declared.status.Refusal.{Refusal};
 ghost use Rattle.verb_loading.specs.declared.input.Stop.TheVariants as stop;
 ghost use Rattle.verb_loading.specs.Statuses.{ended_with, IsBoundedAt, IsFinished};
@@ -24,10 +21,8 @@ use base_values::{ByteList, OutOfMemory};
 use cert_check::{Judged, check};
 use cert_file::certificate::{accepted_report, line_stop, load_certificate};
 use cert_file::conclusion::{Conclusion, conclude};
-use cert_text::{Certificate, write};
-use cut_model_search::{analyse, certify, told};
-use cut_report::print_analysis;
-use cut_search::answer::{Analysis, End};
+use cert_text::Certificate;
+use cut_model_search::{FaultyModel, told};
 use sat_adviser::Panel;
 use smv_scope::items::number_of;
 use std::alloc::Global;
@@ -212,7 +207,8 @@ fn judge(alloc: Global, staged: &StagedEvent, certificate: &Certificate) -> Resu
     }
 }
 
-/// Searches for the minimal cut sets of the top event among the events, and makes what is to be written and said.
+/// Searches for the minimal cut sets of the top event among the events, with as many events in a set as there are, and makes what is to
+/// be written and said.
 fn search(
     alloc: Global,
     staged: &StagedEvent,
@@ -222,98 +218,31 @@ fn search(
     requires { IsStagedEvent staged.now }
     ensures { IfOk result (IsCausesFinding staged.now depth) }
 {
-    let a = analysed(alloc, staged, depth, panel)?;
-    let cert = certificate(alloc, staged, depth, &a, panel)?;
-    let ending = told(&a.end);
-    let report = print_analysis(
-        alloc,
-        &staged.typed,
-        &staged.events,
-        &a.sets,
-        &a.traces,
-        a.first,
-        staged.full.bits(),
-        a.size,
-        ending,
-    )?;
+    let model = staged_model(alloc, staged)?;
+    let size = number_of(staged.events.len())?;
+    let a = model.analyse(alloc, depth, size, panel)?;
+    let cert = model.certificate(alloc, &a, panel)?;
+    let report = model.report(alloc, &a)?;
     Ok(Conclusion {
         cert,
         report,
-        ending,
+        ending: told(&a.end),
     })
 }
 
-/// The analysis of the staged model, with as many events in a set as there are. More symbols than numbers of them are want
-/// of memory.
-fn analysed(
-    alloc: Global,
-    staged: &StagedEvent,
-    depth: u32,
-    panel: &mut Panel,
-) -> Result<Analysis, OutOfMemory>
+/// The staged model with the events, for the top event. More symbols than numbers of them are want of memory.
+fn staged_model<'a>(alloc: Global, staged: &'a StagedEvent) -> Result<FaultyModel<'a>, OutOfMemory>
     requires { IsStagedEvent staged.now }
     ensures few { OnOk result (length staged.now.typed.model.symbols < 2 ^ 31) }
-    ensures searched { IfOk result (IsSearched (staged_in staged.now) (events_in staged.now)
-        (flat_tree staged.now.loaded.top) depth (length (events_in staged.now))) }
+    ensures model { IfOk result (λ m. m ≡ faulty_of staged.now.typed.model staged.now.events staged.now.loaded.top) }
 {
     count_symbols(staged)?;
-    let size = number_of(staged.events.len())?;
-    analyse(
+    let model = FaultyModel::new(
         alloc,
         &staged.typed,
         &staged.full,
         &staged.events,
         &staged.loaded.top,
-        depth,
-        size,
-        panel,
-    )
-}
-
-/// The text of a certificate, where the analysis is complete.
-fn certificate(
-    alloc: Global,
-    staged: &StagedEvent,
-    depth: u32,
-    a: &Analysis,
-    panel: &mut Panel,
-) -> Result<Option<ByteList>, OutOfMemory>
-    requires staged { IsStagedEvent staged.now }
-    requires searched { IsSearched (staged_in staged.now) (events_in staged.now) (flat_tree staged.now.loaded.top) depth a.now.size a.now }
-    ensures { IfOk result (HasCertificate (staged_in staged.now) (events_in staged.now)
-        (flat_tree staged.now.loaded.top) staged.now.typed.model.symbols a.now a.now.end) }
-{
-    match &a.end {
-        End::Complete(_clauses) => {
-            let text = certificate_text(alloc, staged, depth, a, panel)?;
-            Ok(Some(text))
-        }
-        End::Bounded(_steps) => Ok(None),
-    }
-}
-
-/// The text of a certificate of a complete analysis.
-fn certificate_text(
-    alloc: Global,
-    staged: &StagedEvent,
-    depth: u32,
-    a: &Analysis,
-    panel: &mut Panel,
-) -> Result<ByteList, OutOfMemory>
-    requires staged { IsStagedEvent staged.now }
-    requires searched { IsSearched (staged_in staged.now) (events_in staged.now) (flat_tree staged.now.loaded.top) depth a.now.size a.now }
-    requires complete { (k : ℕ) → a.now.end ≡ ends.Bounded k → ⊥ }
-    ensures { IfOk result (IsCertificateFor (staged_in staged.now) (events_in staged.now)
-        (flat_tree staged.now.loaded.top) a.now.size a.now.sets (map (told_trace staged.now.typed.model.symbols) a.now.traces)) }
-{
-    let certificate = certify(
-        alloc,
-        &staged.full,
-        &staged.typed,
-        &staged.events,
-        &staged.loaded.top,
-        a,
-        panel,
     )?;
-    write(alloc, &certificate)
+    Ok(model)
 }

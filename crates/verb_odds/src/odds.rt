@@ -24,8 +24,7 @@ ghost use Rattle.verb_odds.specs.Odds.{SaysOddsInPart};
 use crate::report::{append_ending, append_sets};
 use base_files::{Desk, say_whole};
 use base_values::{ByteList, Ending, OutOfMemory};
-use cut_model_search::search::{analysed, size_of};
-use cut_model_search::told;
+use cut_model_search::{FaultyModel, size_of, told};
 use cut_report::print_faults;
 use cut_search::answer::Analysis;
 use fault_odds::{MarkFault, OddsFault, OddsList, marks, print_odds};
@@ -189,7 +188,8 @@ fn search_marked(
 {
     let case = &marked.loaded.case;
     let size = size_of(None, case.limited.faults.len());
-    let a = analysed(alloc, case, &marked.loaded.top, marked.depth, size, panel)?;
+    let model = FaultyModel::of_case(alloc, case, &marked.loaded.top)?;
+    let a = model.analyse(alloc, marked.depth, size, panel)?;
     let ending = told(&a.end);
     let report = report_of(alloc, case, &a, &marked.odds, ending)?;
     Ok(FoundOdds { report, ending })

@@ -7,13 +7,8 @@ use Rattle.smv_language.specs.Tree.{Tree}
 use Rattle.smv_language.specs.ProgramTree.{Text}
 use Rattle.base_values.specs.declared.value.Value.{Value as Numbered}
 use Rattle.smv_language.specs.ModelTree.{model_tree, flat_tree}
-use Rattle.smv_flat_laws.specs.FaultModes.{mode_of}
-use Rattle.smv_language.specs.declared.model.Fault.{Fault as FaultOf}
 use Rattle.smv_language.specs.Flat.{FlatLeaf, FlatModel}
-use Rattle.smv_flat_laws.proofs.HistoryLaws.{no_bits}
 use Rattle.smv_type_laws.specs.Costs.{state_bits}
-use Rattle.cut_text_laws.specs.TraceOfText.{GivesTrace}
-use Rattle.cut_text_laws.specs.Lines.{fed}
 use Rattle.smv_language.specs.NumberedValues.{told_trace}
 use Rattle.cut_text_laws.specs.Analysis.{told_ending}
 use Rattle.base_values.specs.declared.ending.Ending.{Ending as Printed}
@@ -24,19 +19,13 @@ use Rattle.cut_search.specs.Answer.{IsEnd}
 use Rattle.cut_search.specs.declared.answer.End.{End}
 use Rattle.cut_search.specs.declared.answer.End.TheVariants.{Complete, Bounded}
 use Rattle.cut_report_laws.specs.SearchAnswer.{ending_of}
-use Rattle.cert_text.specs.CertificateView.{seen}
-use Rattle.cert_text.specs.declared.certificate.Certificate.{Certificate as Written}
-use Rattle.cert_laws.specs.CertificateText.{IsWritable, version_two, lines_of}
-use Rattle.cert_laws.specs.Certification.{IsCertified}
-use Rattle.cert_laws.specs.Subject.{subject_of}
-use Rattle.cut_model_search.specs.Texts.{text_lines}
 use Rattle.fault_orders.specs.declared.Relation.{Relation}
 use Rattle.cut_search_laws.specs.FoundSets.{sets_of}
 use Rattle.cut_reach_laws.specs.FaultlessLaws.{class_of, NoneReaches}
 use Rattle.cut_reach_laws.proofs.Refuted.{empty_refute, found_reach}
 use Rattle.cut_report_laws.specs.ExtendedTraces.{Ending, complete, bounded}
 use Rattle.cut_model_search.specs.CaseAnalysis.{IsCertificateFor}
-use Rattle.cut_model_search.proofs.Certifying.{spells_written}
+use Rattle.cut_model_search.specs.Searches.{HasCertificate}
 use Rattle.verb_loading.specs.Cases.{Case, HoldsCase}
 use Rattle.verb_loading.specs.CaseAnswers.{Told, Said, told_maybe, WritesPrefixMaybe}
 use Rattle.verb_loading.specs.LoadedEvents.{case_in}
@@ -50,7 +39,7 @@ use Rattle.cert_file.specs.declared.conclusion.Conclusion.{Conclusion}
 use Rattle.cert_file.specs.Conclusions.{ConcludesInPart}
 use Rattle.verb_command_line.specs.Sets.{numbers_of}
 use Rattle.verb_orders.specs.Pairs.{IsAsked, IsStagedCase}
-use Rattle.verb_orders.specs.Orders.{Order, claimed, either, IsClaimed, IsShown, EndsOrder, CertifiesClaim, IsClaimWritten, IsClaimBegun, order_text, order_report, HasOrder, OrdersInPart}
+use Rattle.verb_orders.specs.Orders.{Order, claimed, either, IsClaimed, IsShown, EndsOrder, IsClaimWritten, IsClaimBegun, order_text, order_report, HasOrder, OrdersInPart}
 use Rattle.verb_orders.specs.ClaimSearch.{IsSearchOf, IsTraceAgainst, IsToldBy, IsCertifiedOrder, HasClaimCertificate, Concludes, IsConclusion, ConcludesFrom, relation_in}
 use Rattle.verb_orders.proofs.StagedCases.{empty_sets, no_sets}
 use Rattle.verb_orders.proofs.AskedLaws.{the_faults, are_faults, holds_asked, at_stage, claim_of_class, of_class}
@@ -247,30 +236,16 @@ no_trace [] h = refl
 no_trace (t ∷ ts) h = absurd (omega (arith, h))
 
 -- what was certified of the staged model is a certificate of the claim
-module _ (s : PairCase) (is : IsStagedCase s) (claim : Option Relation) (depth : ℕ) (r : Searched) (search : IsSearchOf s claim depth r) (none : length r.analysis.traces ≡ 0) (faults : List FaultOf) (alone : faults ≡ []) (x : Written) (bytes : List ℕ) where
-  abbrev made : FlatModel
-  made = model_tree s.typed.model
-
-  abbrev spoken : Tree FlatLeaf
-  spoken = flat_tree r.top
-
-  abbrev IsCertifiedWith : FlatModel → List FaultOf → Type 0
-  IsCertifiedWith whole fs = IsCertified made (map mode_of fs) spoken (GivesTrace made) (subject_of whole made (map mode_of fs) spoken) (seen x)
-
-  pub claim_certified : IsCertifiedWith made faults → x.sets ≡ r.analysis.sets → x.size ≡ r.analysis.size → x.traces ≡ map (text_lines s.typed.model) r.analysis.traces → IsWritable (seen x) →
-      bytes ≡ fed (lines_of version_two (seen x)) →
-      CertifiesClaim (case_in s.loaded) s.set.items s.asked.first s.asked.second (flat_tree s.loaded.top) claim bytes
-  claim_certified certified sets size traces writable text =
-      at_stage s is (λ m e. IsCertificateFor m [] e 0 [] [] bytes) claim spoken search.speaks
-      (record {
-        certificate = seen x;
-        spells = spells_written bytes (seen x) writable text;
-        in_version_two = text;
-        accepted = subst (λ whole. IsCertifiedWith whole []) (sym (no_bits made)) (subst (λ (fs : List FaultOf). IsCertifiedWith made fs) alone certified);
-        has_size = size ∙ search.answer.size_is;
-        has_sets = sets ∙ no_sets s claim depth r search none;
-        has_texts = traces ∙ ap (map (text_lines s.typed.model)) (no_trace r.analysis.traces none);
-      })
+pub claim_certified : (s : PairCase) → IsStagedCase s → (claim : Option Relation) (depth : ℕ) (r : Searched) → IsSearchOf s claim depth r → length r.analysis.traces ≡ 0 → (end : End) (cert : Option (List ℕ)) →
+    HasCertificate (model_tree s.typed.model) [] (flat_tree r.top) s.typed.model.symbols r.analysis end cert → HasClaimCertificate s claim end cert
+claim_certified s is claim depth r search none (Complete clauses) (Some bytes) h =
+    at_stage s is (λ m e. IsCertificateFor m [] e 0 [] [] bytes) claim (flat_tree r.top) search.speaks
+    (subst (λ n. IsCertificateFor (model_tree s.typed.model) [] (flat_tree r.top) n [] [] bytes) search.answer.size_is
+    (subst (λ sets. IsCertificateFor (model_tree s.typed.model) [] (flat_tree r.top) r.analysis.size sets [] bytes) (no_sets s claim depth r search none)
+    (subst (λ traces. IsCertificateFor (model_tree s.typed.model) [] (flat_tree r.top) r.analysis.size r.analysis.sets (map (told_trace s.typed.model.symbols) traces) bytes) (no_trace r.analysis.traces none) h)))
+claim_certified s is claim depth r search none (Complete clauses) None h = absurd h
+claim_certified s is claim depth r search none (Bounded k) (Some bytes) h = absurd h
+claim_certified s is claim depth r search none (Bounded k) None h = tt
 
 -- the first trace of a search is one against its claim
 pub trace_found : (s : PairCase) (claim : Option Relation) (depth : ℕ) (r : Searched) → IsSearchOf s claim depth r → (trace : List (List Numbered)) → slice_get r.analysis.traces 0 ≡ Some trace → IsTraceAgainst s claim trace

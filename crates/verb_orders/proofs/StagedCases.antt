@@ -21,14 +21,12 @@ use Rattle.cut_reach_laws.proofs.Staged.{staged_searchable, staged_length}
 use Rattle.cut_model_search.proofs.Analysable.{case_searchable, top_fits}
 use Rattle.verb_orders.specs.declared.pair.PairCase.{PairCase}
 use Rattle.verb_orders.specs.Pairs.{IsStagedCase}
-use Rattle.sat_clauses.specs.Literal.{Literal}
 use Rattle.cut_search_laws.specs.FoundSets.{sets_of, traces_of}
 use Rattle.cut_search.specs.Answer.{IsAnswer}
 use Rattle.cut_search.specs.Progress.{CodeFound}
-use Rattle.cut_search.specs.declared.answer.End.TheVariants.{Complete, Bounded}
-use Rattle.cut_search.specs.declared.answer.End.{End}
 use Rattle.cert_check.specs.Fit.{IsProvable}
-use Rattle.cut_model_search.specs.Certifiable.{IsCertifiable, IsCompleteAnswer}
+use Rattle.cut_model_search.specs.Certifiable.{IsCertifiable}
+use Rattle.cut_model_search.specs.FaultyModels.{faulty_of}
 use Rattle.verb_orders.specs.declared.searched.Searched.{Searched}
 use Rattle.verb_orders.specs.ClaimSearch.{HasFew, SpeaksFor, IsSearchOf}
 
@@ -80,33 +78,20 @@ empty_sets [] e = refl
 empty_sets (f ∷ found) e = absurd (omega (arith, e))
 
 module _ (s : PairCase) (claim : Option Relation) (depth : ℕ) (r : Searched) (is : IsSearchOf s claim depth r) (none : length r.analysis.traces ≡ 0) where
-  abbrev whole : FlatModel
-  whole = with_history (model_tree s.typed.model) []
-
   pub no_sets : r.analysis.sets ≡ []
   no_sets =
       let answer = is.answer in
       answer.sets ∙ empty_sets answer.found (sym (ap length answer.traces) ∙ none)
 
-  pub is_certifiable : IsCertifiable (model_tree s.typed.model) [] (flat_tree r.top)
-  is_certifiable = record { encodable = is.searchable.encodable; fits = is.searchable.fits }
-
-  pub is_complete : (clauses : List (List Literal)) → r.analysis.end ≡ Complete clauses → IsCompleteAnswer (model_tree s.typed.model) [] (flat_tree r.top) r.analysis
-  is_complete clauses e =
+  pub certifiable_alone : IsCertifiable (faulty_of s.typed.model [] r.top) r.analysis
+  certifiable_alone =
       let answer = is.answer in
       record {
         depth = depth;
-        clauses = clauses;
         answer = subst (λ n. IsAnswer (problem_of (model_tree s.typed.model) [] (flat_tree r.top)) depth n r.analysis) (sym answer.size_is) answer;
-        complete = e;
         small = omega (arith, answer.size_is);
         printable = λ some. absurd (some no_sets);
       }
-
--- an end that is not bounded is complete
-pub complete_end : (e : End) → ((k : ℕ) → e ≡ Bounded k → ⊥) → (clauses : List (List Literal)) × (e ≡ Complete clauses)
-complete_end (Complete clauses) h = (clauses, refl)
-complete_end (Bounded k) h = absurd (h k refl)
 
 -- ---- a model without faults
 
@@ -118,15 +103,6 @@ searchable_alone m e faults none h = subst (λ (fs : List Fault). IsSearchable m
 
 pub provable_alone : (m : FlatModel) (e : Tree FlatLeaf) (faults : List Fault) → faults ≡ [] → IsSearchable m [] e → IsProvable m (map mode_of faults) e
 provable_alone m e faults none h = subst (λ (fs : List Fault). IsProvable m (map mode_of fs) e) (sym none) (record { encodable = h.encodable; fits = h.fits })
-
-module _ (s : PairCase) (claim : Option Relation) (depth : ℕ) (r : Searched) (is : IsSearchOf s claim depth r) (none : length r.analysis.traces ≡ 0) where
-  pub certifiable_alone : (faults : List Fault) → faults ≡ [] → IsCertifiable (model_tree s.typed.model) (map mode_of faults) (flat_tree r.top)
-  certifiable_alone faults empty = subst (λ (fs : List Fault). IsCertifiable (model_tree s.typed.model) (map mode_of fs) (flat_tree r.top)) (sym empty) (is_certifiable s claim depth r is none)
-
-  pub complete_alone : (faults : List Fault) → faults ≡ [] → ((k : ℕ) → r.analysis.end ≡ Bounded k → ⊥) → IsCompleteAnswer (model_tree s.typed.model) (map mode_of faults) (flat_tree r.top) r.analysis
-  complete_alone faults empty complete =
-      let clauses = complete_end r.analysis.end complete in
-      subst (λ (fs : List Fault). IsCompleteAnswer (model_tree s.typed.model) (map mode_of fs) (flat_tree r.top) r.analysis) (sym empty) (is_complete s claim depth r is none clauses.0 clauses.1)
 
 -- what was made of a staged case speaks against the claim
 pub speaks_of : (s : PairCase) (claim : Option Relation) (m : Model) (n : ℕ) (set : List ℕ) → m ≡ s.typed.model → n ≡ length s.loaded.case.limited.faults → set ≡ s.set.items → (e : Tree FlatLeaf) →

@@ -5,7 +5,6 @@
 ghost use Rattle.std.specs.Prelude.{◌≡◌, ◌≤◌, ◌⊎◌, ℕ, Some, None, IfOk, IfSome, IsErrOf, length};
 ghost use Rattle.base_files.specs.Desk.{OnlyReads, IsLater, Rose};
 ghost use Rattle.smv_language.specs.ModelTree.{flat_tree};
-ghost use Rattle.cut_search.specs.declared.answer.End.TheVariants as ends;
 ghost use Rattle.cut_text_laws.specs.Analysis.{told_ending};
 ghost use Rattle.verb_loading.specs.LoadedEvents.{case_in};
 ghost use Rattle.verb_command_line.specs.Sets.{numbers_of};
@@ -13,19 +12,17 @@ ghost use Rattle.verb_loading.specs.declared.status.Refusal.{Refusal};
 ghost use Rattle.verb_loading.specs.declared.input.Stop.TheVariants as stop;
 ghost use Rattle.verb_loading.specs.Statuses.{ended_with, IsBoundedAt, IsFinished};
 ghost use Rattle.verb_orders.specs.Pairs.{IsAskedPair, RefusesPair, IsStagedCase};
-ghost use Rattle.verb_orders.specs.Orders.{CertifiesClaim, HasOrder, OrdersInPart};
+ghost use Rattle.verb_orders.specs.Orders.{HasOrder, OrdersInPart};
 ghost use Rattle.verb_orders.specs.ClaimSearch.{IsSearchOf, IsTraceAgainst, IsToldBy, HasClaimCertificate, IsConclusion, ConcludesFrom};
 ghost use Rattle.verb_orders.specs.ClaimSearch.{relation_in};
 
 use crate::pair::{PairCase, PairWords, discard_case, load_pair};
-use crate::searched::{Searched, discard_search, search};
+use crate::searched::{Searched, discard_search, model_of, search};
 use crate::verdict::{cut, relation_of, report_claim, report_either};
 use base_files::Desk;
 use base_values::{ByteList, Ending, MomentList, OutOfMemory, TraceList};
 use cert_file::conclusion::{Conclusion, conclude};
-use cert_text::write;
-use cut_model_search::{certify, told};
-use cut_search::answer::End;
+use cut_model_search::told;
 use fault_orders::Relation;
 use sat_adviser::Panel;
 use std::alloc::Global;
@@ -224,7 +221,7 @@ fn differing(
     })
 }
 
-/// The text of a certificate, where the search is complete.
+/// The text of a certificate of a search that found no trace, where it is complete.
 fn certificate(
     alloc: Global,
     staged: &PairCase,
@@ -238,39 +235,7 @@ fn certificate(
     requires none { length searched.now.analysis.traces ≡ 0 }
     ensures { IfOk result (HasClaimCertificate staged.now claim searched.now.analysis.end) }
 {
-    match &searched.analysis.end {
-        End::Complete(_clauses) => {
-            let text = certificate_text(alloc, staged, claim, depth, searched, panel)?;
-            Ok(Some(text))
-        }
-        End::Bounded(_steps) => Ok(None),
-    }
-}
-
-/// The text of a certificate of a complete search that found no trace.
-fn certificate_text(
-    alloc: Global,
-    staged: &PairCase,
-    claim: Option<Relation>,
-    depth: u32,
-    searched: &Searched,
-    panel: &mut Panel,
-) -> Result<ByteList, OutOfMemory>
-    requires staged { IsStagedCase staged.now }
-    requires searched { IsSearchOf staged.now claim depth searched.now }
-    requires none { length searched.now.analysis.traces ≡ 0 }
-    requires complete { (k : ℕ) → searched.now.analysis.end ≡ ends.Bounded k → ⊥ }
-    ensures { IfOk result (CertifiesClaim (case_in staged.now.loaded) staged.now.set.items staged.now.asked.first staged.now.asked.second
-        (flat_tree staged.now.loaded.top) claim) }
-{
-    let certificate = certify(
-        alloc,
-        &staged.typed,
-        &staged.typed,
-        &staged.none,
-        &searched.top,
-        &searched.analysis,
-        panel,
-    )?;
-    write(alloc, &certificate)
+    let model = model_of(alloc, staged, &searched.top)?;
+    let cert = model.certificate(alloc, &searched.analysis, panel)?;
+    Ok(cert)
 }

@@ -4,12 +4,13 @@
 ghost use Rattle.std.specs.Prelude.{◌≡◌, [], IfOk, IsOk, OnOk};
 ghost use Rattle.smv_language.specs.ModelTree.{model_tree, flat_tree};
 ghost use Rattle.cut_search_laws.specs.Searchable.{IsSearchable};
+ghost use Rattle.cut_model_search.specs.FaultyModels.{faulty_of};
 ghost use Rattle.verb_orders.specs.Pairs.{IsStagedCase};
 ghost use Rattle.verb_orders.specs.ClaimSearch.{HasFew, SpeaksFor, IsAnswerAlone, IsSearchOf};
 
 use crate::pair::PairCase;
 use base_values::OutOfMemory;
-use cut_model_search::analyse;
+use cut_model_search::FaultyModel;
 use cut_search::answer::Analysis;
 use fault_orders::{Relation, against};
 use sat_adviser::Panel;
@@ -100,14 +101,21 @@ fn analysed(
     requires searchable { IsSearchable (model_tree staged.now.typed.model) [] (flat_tree top.now) }
     ensures { IfOk result (IsAnswerAlone (model_tree staged.now.typed.model) (flat_tree top.now) depth) }
 {
-    analyse(
-        alloc,
-        &staged.typed,
-        &staged.typed,
-        &staged.none,
-        top,
-        depth,
-        0,
-        panel,
-    )
+    let model = model_of(alloc, staged, top)?;
+    let analysis = model.analyse(alloc, depth, 0, panel)?;
+    Ok(analysis)
+}
+
+/// The staged model, which has no faults of its own, with an expression.
+pub(crate) fn model_of<'a>(
+    alloc: Global,
+    staged: &'a PairCase,
+    top: &'a Expr<Flat>,
+) -> Result<FaultyModel<'a>, OutOfMemory>
+    requires none { staged.now.none ≡ [] }
+    requires searchable { IsSearchable (model_tree staged.now.typed.model) [] (flat_tree top.now) }
+    ensures { IfOk result (λ m. m ≡ faulty_of staged.now.typed.model [] top.now) }
+{
+    let model = FaultyModel::new(alloc, &staged.typed, &staged.typed, &staged.none, top)?;
+    Ok(model)
 }

@@ -6,7 +6,9 @@ use Rattle.smv_language.specs.Tree.{Tree}
 use Rattle.smv_language.specs.ProgramTree.{Text, Formula, ProgramTree}
 use Rattle.smv_language.specs.Values.{Value}
 use Rattle.smv_type_laws.specs.Costs.{state_bits}
-use Rattle.smv_language.specs.ModelTree.{model_tree, name_of_fault}
+use Rattle.smv_language.specs.declared.expr.Expr.{Expr}
+use Rattle.smv_language.specs.declared.model.Flat.{Flat}
+use Rattle.smv_language.specs.ModelTree.{flat_tree, name_of_fault}
 use Rattle.smv_flat_laws.specs.FaultModes.{mode_of}
 use Rattle.smv_language.specs.Flat.{FlatLeaf}
 use Rattle.cut_search_laws.specs.Problem.{problem_of}
@@ -14,7 +16,6 @@ use Rattle.cut_search_laws.specs.Searchable.{IsSearchable}
 use Rattle.fault_extend.specs.WovenFaults.{fault_tree}
 use Rattle.cut_report.specs.FaultText as lines
 use Rattle.smv_language.specs.NumberedValues.{told_trace}
-use Rattle.cut_report.specs.AnalysisView.{told_analysis}
 use Rattle.cut_text_laws.specs.Analysis.{told_ending}
 use Rattle.base_values.specs.declared.ending.Ending.{Ending as Printed}
 use Rattle.cut_search.specs.Answer.{IsAnswer}
@@ -35,6 +36,8 @@ use Rattle.verb_loading.specs.CaseAnswers.{faults_text}
 use Rattle.cut_model_search.specs.CaseAnalysis.{size_for, EndsBy, IsCertificateFor}
 use Rattle.verb_run.specs.Analyses.{report_of}
 use Rattle.verb_loading.specs.LoadedEvents.{IsAnalysable}
+use Rattle.cut_model_search.specs.FaultyModels.{FaultyValue, faulty_case, whole_in, problem_in}
+use Rattle.cut_model_search.specs.Reports.{IsReported, report_in}
 use Rattle.cut_model_search.specs.Searches.{IsSearched, HasCertificate}
 use Rattle.verb_run.specs.Findings.{IsCertifiedAs, IsFinding}
 use Rattle.cut_model_search.proofs.Analysable.{model_of_case, case_searchable, case_counts}
@@ -71,7 +74,13 @@ module _ (c : Case) (e : Formula) (tree : Tree FlatLeaf) (is_tree : IsTopTree c 
   certified_as symbols a size shown sizes texts first ending (Bounded k) (Some bytes) h = absurd h
   certified_as symbols a size shown sizes texts first ending (Bounded k) None h = h
 
-module _ (p : ProgramTree) (l : LoadedCase) (word : Text) (tree : Tree FlatLeaf) (is : IsAnalysable p l word tree) where
+module _ (p : ProgramTree) (l : LoadedCase) (word : Text) (top : Expr Flat) (is : IsAnalysable p l word (flat_tree top)) where
+  abbrev tree : Tree FlatLeaf
+  tree = flat_tree top
+
+  abbrev searched : FaultyValue
+  searched = faulty_case l top
+
   abbrev the_case : Case
   the_case = case_of p l
 
@@ -82,23 +91,15 @@ module _ (p : ProgramTree) (l : LoadedCase) (word : Text) (tree : Tree FlatLeaf)
   fault_lines_are = named_lines l.limited.woven.faults l.limited.faults (are_listed l.limited.typed.model l.limited.woven.faults l.limited.faults is.loaded.numbered)
 
   -- the report of what was found is that of the analysis
-  report_is : (size : ℕ) (a : Searched) (ending : Printed) → a.size ≡ size → told_ending ending ≡ ending_of a.end →
-      analysis_text (lines.faults_text (map name_of_fault l.limited.faults)) the_case.flat (state_bits (model_tree l.limited.full.model)) (length l.limited.faults) a.size
-      (told_analysis symbols a.sets a.traces a.first ending)
-      ≡ report_of the_case size (analysis_of symbols a)
-  report_is size a ending sizes told = λ j.
-      analysis_text (fault_lines_are j) the_case.flat (state_bits (is.loaded.full j)) (sym (case_counts p l word tree is) j) (sizes j) (answers_printed symbols a ending told j)
+  report_is : (size : ℕ) (a : Searched) → a.size ≡ size → report_in searched a ≡ report_of the_case size (analysis_of symbols a)
+  report_is size a sizes = λ j. analysis_text (fault_lines_are j) the_case.flat (state_bits (whole_in searched)) (sym (case_counts p l word tree is) j) (sizes j) (analysis_of symbols a)
 
-  pub finding : (depth size : ℕ) (a : Searched) (cert : Option (List ℕ)) (report : Text) (ending : Printed) →
-      IsAnswer (problem_of the_case.flat the_case.modes tree) depth size a →
-      HasCertificate the_case.flat the_case.modes tree symbols a a.end cert → told_ending ending ≡ ending_of a.end →
-      report ≡ analysis_text (lines.faults_text (map name_of_fault l.limited.faults)) the_case.flat (state_bits (model_tree l.limited.full.model)) (length l.limited.faults) a.size
-      (told_analysis symbols a.sets a.traces a.first ending) →
+  finding : (depth size : ℕ) (a : Searched) (cert : Option (List ℕ)) (report : Text) (ending : Printed) → IsReported searched depth size a cert report → told_ending ending ≡ ending_of a.end →
       IsFinding the_case word depth size (record { cert = cert; report = report; ending = ending })
-  finding depth size a cert report ending answer has told printed =
+  finding depth size a cert report ending found told =
       let c : Case = the_case in
       let both =
-      answers_are_analyses c.program c.instructions c.faults is.event.top (problem_of c.flat c.modes tree) (model_of_case p l word tree is) depth size a answer in
+      answers_are_analyses c.program c.instructions c.faults is.event.top (problem_in searched) (model_of_case p l word tree is) depth size a found.answer in
       let texts : map (told_trace symbols) a.traces ≡ (analysis_of symbols a).shown = ap (λ (x : Analysis). x.shown) (answers_printed symbols a ending told) in
       record {
         event = is.event.top;
@@ -106,8 +107,8 @@ module _ (p : ProgramTree) (l : LoadedCase) (word : Text) (tree : Tree FlatLeaf)
         analysis = analysis_of symbols a;
         found = record { right = both.0; ends = ends_by c is.event.top tree is.event.is_tree depth size a.sets (ending_of a.end) both.1 };
         ends = told;
-        reported = printed ∙ report_is size a ending answer.size_is told;
-        certified = certified_as c is.event.top tree is.event.is_tree symbols a size (analysis_of symbols a).shown answer.size_is texts a.first (ending_of a.end) a.end cert has;
+        reported = found.reported ∙ report_is size a found.answer.size_is;
+        certified = certified_as c is.event.top tree is.event.is_tree symbols a size (analysis_of symbols a).shown found.answer.size_is texts a.first (ending_of a.end) a.end cert found.certified;
       }
 
   -- the search of the case, by what was counted
@@ -127,12 +128,7 @@ module _ (p : ProgramTree) (l : LoadedCase) (word : Text) (tree : Tree FlatLeaf)
     case_searched depth a few answer =
         subst (λ n. IsSearched the_case.flat the_case.modes tree depth n a) (sym answer.size_is) (is_searched p l word tree is (case_searchable p l word tree is few) depth size a size_in answer)
 
-    pub case_found : (depth bits : ℕ) (a : Searched) (cert : Option (List ℕ)) (report : Text) (ending : Printed) →
-        IsAnswer (problem_of the_case.flat the_case.modes tree) depth size a →
-        HasCertificate the_case.flat the_case.modes tree symbols a a.end cert → told_ending ending ≡ ending_of a.end → bits ≡ state_bits (model_tree l.limited.full.model) →
-        report ≡ analysis_text (lines.faults_text (map name_of_fault l.limited.faults)) the_case.flat bits (length l.limited.faults) a.size (told_analysis symbols a.sets a.traces a.first ending) →
+    pub case_found : (depth : ℕ) (a : Searched) (cert : Option (List ℕ)) (report : Text) (ending : Printed) → IsReported searched depth size a cert report → told_ending ending ≡ ending_of a.end →
         IsFinding the_case word depth (size_for given (length the_case.faults)) (record { cert = cert; report = report; ending = ending })
-    case_found depth bits a cert report ending answer has told counts printed =
-        finding depth (size_for given (length the_case.faults)) a cert report ending
-        (subst (λ n. IsAnswer (problem_of the_case.flat the_case.modes tree) depth n a) size_is answer) has told
-        (printed ∙ ap (λ b. analysis_text (lines.faults_text (map name_of_fault l.limited.faults)) the_case.flat b (length l.limited.faults) a.size (told_analysis symbols a.sets a.traces a.first ending)) counts)
+    case_found depth a cert report ending found told =
+        finding depth (size_for given (length the_case.faults)) a cert report ending (subst (λ n. IsReported searched depth n a cert report) size_is found) told

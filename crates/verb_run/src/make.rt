@@ -27,8 +27,7 @@ ghost use Rattle.verb_run.specs.GeneratedCase.{IsMaking, IsSummary};
 
 use base_files::{Desk, WriteStop, say_whole, write_whole};
 use base_values::{ByteList, Ending, OutOfMemory};
-use cut_model_search::search::{analysed, size_of};
-use cut_model_search::told;
+use cut_model_search::{FaultyModel, size_of, told};
 use fault_generator::{generated_instructions, generated_model};
 use fault_instructions::print_instructions;
 use sat_adviser::Panel;
@@ -208,6 +207,17 @@ pub(crate) fn deliver_made<D: Desk>(
     Ok(ended_as(found.ending))
 }
 
+/// The numbers of a summary: the stages, the variables of the extension without history, its faults, the state bits with history, and
+/// the sets that were found.
+#[derive(Drop)]
+struct Counts {
+    stages: u32,
+    variables: usize,
+    faults: usize,
+    bits: u32,
+    sets: usize,
+}
+
 /// Searches a generated case for the minimal cut sets of its top event, and makes the line that is said of it.
 fn summarise(alloc: Global, asked: &Making, panel: &mut Panel) -> Result<Summary, OutOfMemory>
     requires { IsEvent dead_word asked.now.made.loaded }
@@ -216,34 +226,28 @@ fn summarise(alloc: Global, asked: &Making, panel: &mut Panel) -> Result<Summary
     let loaded = &asked.made.loaded;
     let limited = &loaded.case.limited;
     let size = size_of(None, limited.faults.len());
-    let a = analysed(alloc, &loaded.case, &loaded.top, asked.depth, size, panel)?;
+    let model = FaultyModel::of_case(alloc, &loaded.case, &loaded.top)?;
+    let a = model.analyse(alloc, asked.depth, size, panel)?;
     let ending = told(&a.end);
-    let line = summary_of(
-        alloc,
-        asked.stages,
-        limited.typed.model().variables.len(),
-        limited.faults.len(),
-        limited.full.bits(),
-        a.sets.len(),
-        ending,
-    )?;
+    let counts = Counts {
+        stages: asked.stages,
+        variables: limited.typed.model().variables.len(),
+        faults: limited.faults.len(),
+        bits: limited.full.bits(),
+        sets: a.sets.len(),
+    };
+    let line = summary_of(alloc, &counts, ending)?;
     Ok(Summary { line, ending })
 }
 
 /// The one line of a summary.
-fn summary_of(
-    alloc: Global,
-    stages: u32,
-    variables: usize,
-    faults: usize,
-    bits: u32,
-    sets: usize,
-    ending: Ending,
-) -> Result<ByteList, OutOfMemory>
-    ensures { IfOk result (λ line. line ≡ summary_line stages variables faults bits sets (told_ending ending)) }
+fn summary_of(alloc: Global, counts: &Counts, ending: Ending) -> Result<ByteList, OutOfMemory>
+    ensures { IfOk result (λ line. line ≡ summary_line counts.now.stages counts.now.variables counts.now.faults counts.now.bits
+        counts.now.sets (told_ending ending)) }
 {
     let begin = format!(in alloc;
-        "stages {stages} variables {variables} faults {faults} bits {bits} sets {sets} "
+        "stages {} variables {} faults {} bits {} sets {} ",
+        counts.stages, counts.variables, counts.faults, counts.bits, counts.sets
     )?;
     let mut line = ByteList::from_slice(alloc, begin.as_bytes())?;
     append_ending(alloc, &mut line, ending)?;

@@ -3,7 +3,7 @@
 //! [`load_table`] reads the three files and refuses; [`deliver_table`] searches for each event, in frames that are made once, and says
 //! the table.
 ghost use Rattle.std.specs.Prelude.{◌≡◌, ◌≤◌, List, All, [], false, length, map, IfOk, OnOk, IfErr, IfSome, IsErrOf};
-ghost use Rattle.base_files.specs.Desk.{OnlyReads, IsLater, Rose};
+ghost use Rattle.base_files.specs.Desk.{OnlyReads, OnlySays, IsLater, Rose};
 ghost use Rattle.base_files.specs.declared.desk.WriteStop.TheVariants as write_stop;
 ghost use Rattle.smv_language.specs.ProgramTree.{Formula, program_tree};
 ghost use Rattle.smv_language.specs.Trace.{Each, EachBoth};
@@ -34,8 +34,7 @@ ghost use Rattle.smv_flat_laws.specs.ValueRules.{KeepsValue};
 use base_files::{Desk, DeskFault, WriteStop, read_whole, say_whole};
 use base_values::{Dotted, Ending, Items, OutOfMemory};
 use cut_frames::Frames;
-use cut_model_search::search::{analysed_in, frames_of_case, size_of};
-use cut_model_search::told;
+use cut_model_search::{FaultyModel, size_of, told};
 use cut_report::print_faults;
 use cut_tables::{Column, ColumnList, print_table, table};
 use sat_adviser::Panel;
@@ -43,6 +42,7 @@ use smv_expression_reader::expressions;
 use smv_language::model::Flat;
 use smv_language::{Expr, ExprList};
 use std::alloc::Global;
+use verb_command_line::Fmea;
 use verb_loading::input::Stop;
 use verb_loading::loaded::{LoadedCase, load_case};
 use verb_loading::model::{LoadedModel, load_model};
@@ -74,35 +74,28 @@ pub struct Tabulating {
 }
 
 /// The model and the instructions of two files, with the top events of a third.
-pub fn load_table<D: Desk>(
-    alloc: Global,
-    desk: &mut D,
-    model: &str,
-    faults: &str,
-    tops: &str,
-    size: u32,
-    depth: u32,
-) -> Result<Tabulating, Stop>
-    requires small { size ≤ 2 }
-    ensures ok { IfOk result (λ a. IfSome (D.told desk.old).files (λ files. HoldsCase files model.now faults.now (tabulated_case a))) }
+pub fn load_table<D: Desk>(alloc: Global, desk: &mut D, asked: &Fmea) -> Result<Tabulating, Stop>
+    requires { asked.now.size ≤ 2 }
+    ensures ok { IfOk result (λ a. IfSome (D.told desk.old).files (λ files.
+        HoldsCase files asked.now.model.now asked.now.faults.now (tabulated_case a))) }
     ensures tops { IfOk result (λ a. IfSome (D.told desk.old).files (λ files.
-        HoldsTops files tops.now (program_tree a.model.program) (tabulated_events a))) }
+        HoldsTops files asked.now.tops.now (program_tree a.model.program) (tabulated_events a))) }
     ensures able { IfOk result IsTabulable }
-    ensures asked { IfOk result (λ a. (a.size ≡ size) × (a.depth ≡ depth)) }
+    ensures asked { IfOk result (λ a. (a.size ≡ asked.now.size) × (a.depth ≡ asked.now.depth)) }
     ensures refused { (r : Refusal) → IsErrOf result (stop.Refused r) →
-        IfSome (D.told desk.old).files (λ files. RefusesTable files model.now faults.now tops.now r) }
+        IfSome (D.told desk.old).files (λ files. RefusesTable files asked.now.model.now asked.now.faults.now asked.now.tops.now r) }
     ensures failed { IsErrOf result stop.Desk → Rose (D.told desk.old).faults (D.told desk.new).faults }
     ensures stays { OnlyReads (D.told desk.old) (D.told desk.new) }
 {
-    let model = load_model(alloc, desk, model)?;
-    let case = load_case(alloc, desk, faults, &model)?;
-    let tops = load_tops(alloc, desk, tops, &model, &case)?;
+    let model = load_model(alloc, desk, asked.model)?;
+    let case = load_case(alloc, desk, asked.faults, &model)?;
+    let tops = load_tops(alloc, desk, asked.tops, &model, &case)?;
     Ok(Tabulating {
         model,
         case,
         tops,
-        size,
-        depth,
+        size: asked.size,
+        depth: asked.depth,
     })
 }
 
@@ -294,7 +287,8 @@ fn columns_of(
     if tops.is_empty() {
         return Ok(ColumnList::new(alloc));
     }
-    let mut frames = frames_of_case(alloc, &asked.case, &tops[0])?;
+    let model = FaultyModel::of_case(alloc, &asked.case, &tops[0])?;
+    let mut frames = model.frames(alloc)?;
     columns_in(alloc, asked, &mut frames, panel)
 }
 
@@ -333,7 +327,8 @@ fn column_of(
     ensures system { frames.new.system ≡ frames.old.system }
 {
     let size = size_of(None, asked.case.limited.faults.len());
-    let a = analysed_in(alloc, &asked.case, top, asked.depth, size, frames, panel)?;
+    let model = FaultyModel::of_case(alloc, &asked.case, top)?;
+    let a = model.analyse_in(alloc, asked.depth, size, frames, panel)?;
     let ending = told(&a.end);
     Ok(Column {
         sets: a.sets,

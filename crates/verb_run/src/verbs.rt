@@ -254,15 +254,7 @@ fn prepare_table<D: Desk>(alloc: Global, desk: &mut D, asked: &Fmea) -> Result<T
     ensures failed { IsErrOf result stops.Desk → Rose (D.told desk.old).faults (D.told desk.new).faults }
     ensures stays { OnlyReads (D.told desk.old) (D.told desk.new) }
 {
-    load_table(
-        alloc,
-        desk,
-        asked.model,
-        asked.faults,
-        asked.tops,
-        asked.size,
-        asked.depth,
-    )
+    load_table(alloc, desk, asked)
 }
 
 /// Generates a case, with where its files go.

@@ -16,7 +16,7 @@ use base_files::{Desk, WriteStop, write_whole};
 use base_values::Ending;
 use cert_file::conclusion::conclude;
 use cut_frames::Frames;
-use cut_model_search::search::frames_of_case;
+use cut_model_search::FaultyModel;
 use sat_adviser::Panel;
 use smv_language::print_program;
 use std::alloc::Global;
@@ -70,7 +70,8 @@ fn search_each<D: Desk>(
     if tops.is_empty() {
         return Ok(Status::Done);
     }
-    let mut frames = frames_of_case(alloc, &asked.loaded.case, &tops[0])?;
+    let model = FaultyModel::of_case(alloc, &asked.loaded.case, &tops[0])?;
+    let mut frames = model.frames(alloc)?;
     search_in(alloc, desk, asked, &mut frames, panel)
 }
 

@@ -1,7 +1,7 @@
 //! The search for one of several top events of a case, and what is written and printed of it.
 //!
 //! The main function is [`search_event`]. The frames keep their search, with what it has learned for other events.
-ghost use Rattle.std.specs.Prelude.{◌≡◌, ◌<◌, ◌^◌, ◌++◌, IfOk, OnOk, length};
+ghost use Rattle.std.specs.Prelude.{◌≡◌, ◌++◌, IfOk};
 ghost use Rattle.std.specs.String.{string_bytes};
 ghost use Rattle.smv_language.specs.ProgramTree.{Formula};
 ghost use Rattle.smv_language.specs.ModelTree.{flat_tree};
@@ -15,18 +15,11 @@ use crate::each::Asked;
 use base_values::{ByteList, OutOfMemory};
 use cert_file::conclusion::Conclusion;
 use cut_frames::Frames;
-use cut_model_search::search::{analysed_in, size_of};
-use cut_model_search::told;
-use cut_report::print_analysis;
+use cut_model_search::{FaultyModel, size_of, told};
 use sat_adviser::Panel;
 use smv_language::Expr;
 use smv_language::model::Flat;
 use std::alloc::Global;
-use verb_loading::loaded::LoadedCase;
-use verb_run::search::certificate;
-
-/// A search gives each symbol a number below this.
-const MOST_SYMBOLS: usize = 2_147_483_648;
 
 /// Searches the case for the top event of a number in these frames, and makes what is to be written and printed.
 pub(crate) fn search_event(
@@ -45,39 +38,17 @@ pub(crate) fn search_event(
     ensures system { frames.new.system ≡ frames.old.system }
 {
     let case = &asked.loaded.case;
-    count_symbols(case)?;
-    let depth = asked.loaded.depth;
+    let model = FaultyModel::of_case(alloc, case, top)?;
     let size = size_of(asked.size, case.limited.faults.len());
-    let a = analysed_in(alloc, case, top, depth, size, frames, panel)?;
-    let cert = certificate(alloc, case, top, depth, &a, panel)?;
-    let ending = told(&a.end);
-    let report = print_analysis(
-        alloc,
-        &case.limited.typed,
-        &case.limited.faults,
-        &a.sets,
-        &a.traces,
-        a.first,
-        case.limited.full.bits(),
-        a.size,
-        ending,
-    )?;
+    let a = model.analyse_in(alloc, asked.loaded.depth, size, frames, panel)?;
+    let cert = model.certificate(alloc, &a, panel)?;
+    let report = model.report(alloc, &a)?;
     let report = headed(alloc, number, &report)?;
     Ok(Conclusion {
         cert,
         report,
-        ending,
+        ending: told(&a.end),
     })
-}
-
-/// Want of memory where the flat model has more symbols than a search has numbers for, as the search itself ends there.
-fn count_symbols(case: &LoadedCase) -> Result<(), OutOfMemory>
-    ensures few { OnOk result (length case.now.limited.typed.model.symbols < 2 ^ 31) }
-{
-    if case.limited.typed.model().symbols.len() >= MOST_SYMBOLS {
-        return Err(OutOfMemory);
-    }
-    Ok(())
 }
 
 /// A report after the line of the event of a number.

@@ -10,7 +10,7 @@ use crate::each::{Asked, deliver_each};
 use base_files::Desk;
 use sat_adviser::{Adviser, Panel};
 use std::alloc::Global;
-use verb_command_line::{Analyse, Command, WordFault, read_words};
+use verb_command_line::{Analyse, Command, Fmea, WordFault, read_words};
 use verb_loading::status::Status;
 use verb_run::ending::{finished, reject, stopped};
 use verb_run::tops::load_table;
@@ -66,15 +66,14 @@ fn analyse_each<D: Desk>(alloc: Global, desk: &mut D, asked: &Analyse, panel: &m
     ensures quiet { (D.told desk.old).quiet → (D.told desk.new).quiet × ((D.told desk.new).faults ≡ (D.told desk.old).faults) }
 {
     // (the rows of a table are not asked for)
-    match load_table(
-        alloc,
-        desk,
-        asked.model,
-        asked.faults,
-        asked.top,
-        0,
-        asked.depth,
-    ) {
+    let table = Fmea {
+        model: asked.model,
+        faults: asked.faults,
+        tops: asked.top,
+        size: 0,
+        depth: asked.depth,
+    };
+    match load_table(alloc, desk, &table) {
         Ok(loaded) => {
             let asked = Asked {
                 loaded,

@@ -14,8 +14,8 @@ show-requires-clause-lawful g c =
     lawful_path (g.E.Encoded.problem c.args.model.now) c.args.size (sets_of c.args.found.items) c.args.frames.now.system c.args.frames.now.bad c.clear.new.self.frames c.in_ok-clear.field-0 c.in-Path.path
     c.is_searched.ensures c.requires.bad c.requires.system c.in-Path.is c.in_ok-clear.ensures.cleared
 
-pub set_clause-requires-clause-numbered : goal.set_clause-requires-clause-numbered
-set_clause-requires-clause-numbered g c =
+pub set_clause-requires : goal.set_clause-requires
+set_clause-requires g c =
     subst (IsNumbered (length (g.E.Encoded.problem c.args.model.now).modes)) (sym c.set.ensures)
     (found_path (g.E.Encoded.problem c.args.model.now) c.args.size c.args.found.items c.args.frames.now.system c.args.frames.now.bad c.clear.new.self.frames c.in_ok-clear.field-0 c.in-Path.path c.in_ok-new-in-Path.new
     c.is_searched.ensures c.requires.listed c.requires.bad c.requires.system c.in-Path.is c.in_ok-clear.ensures.cleared c.in_ok-new-in-Path.ensures).0.numbered

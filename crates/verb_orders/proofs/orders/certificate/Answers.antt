@@ -1,12 +1,19 @@
-use Rattle.std.proofs.Common.{Some, None, sym, subst}
-use Rattle.verb_orders.specs.ClaimSearch.{HasClaimCertificate}
+use Rattle.std.proofs.Common.{sym, subst}
+use Rattle.cut_model_search.specs.Certifiable.{IsCertifiable}
+use Rattle.cut_model_search.specs.Reports.{IsCertificateOf}
+use Rattle.verb_orders.proofs.StagedCases.{certifiable_alone}
+use Rattle.verb_orders.proofs.OrderLaws.{claim_certified}
 use Rattle.verb_orders.proofs.orders.certificate.Goals as goal
 
-pub certificate_text-requires-clause-complete : goal.certificate_text-requires-clause-complete
-certificate_text-requires-clause-complete g c = λ k e. let is = c.in-Complete.is in cc
+pub model_of-requires : goal.model_of-requires
+model_of-requires g c = record { none = c.requires.staged.none; searchable = c.requires.searched.searchable }
 
-pub returns-in_ok-text-in-Complete : goal.returns-in_ok-text-in-Complete
-returns-in_ok-text-in-Complete g c = subst (λ e. HasClaimCertificate c.args.staged.now c.args.claim e (Some c.in_ok-text-in-Complete.text)) (sym c.in-Complete.is) c.in_ok-text-in-Complete.ensures
+pub certificate-requires : goal.certificate-requires
+certificate-requires g c =
+    subst (λ v. IsCertifiable v c.args.searched.now.analysis) (sym c.in_ok-model.ensures) (certifiable_alone c.args.staged.now c.args.claim c.args.depth c.args.searched.now c.requires.searched c.requires.none)
 
-pub returns-in-Bounded : goal.returns-in-Bounded
-returns-in-Bounded g c = subst (λ e. HasClaimCertificate c.args.staged.now c.args.claim e None) (sym c.in-Bounded.is) tt
+pub returns : goal.returns
+returns g c =
+    let r = c.args.searched.now in
+    claim_certified c.args.staged.now c.requires.staged c.args.claim c.args.depth r c.requires.searched c.requires.none r.analysis.end c.in_ok-cert.cert
+    (subst (λ v. IsCertificateOf v r.analysis c.in_ok-cert.cert) c.in_ok-model.ensures c.in_ok-cert.ensures)

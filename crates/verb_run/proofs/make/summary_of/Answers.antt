@@ -20,11 +20,11 @@ line_joined a b c d e end =
 
 pub returns : goal.returns
 returns c =
-    let s = decimal c.args.stages in
-    let v = decimal c.args.variables in
-    let f = decimal c.args.faults in
-    let b = decimal c.args.bits in
-    let n = decimal c.args.sets in
+    let s = decimal c.args.counts.now.stages in
+    let v = decimal c.args.counts.now.variables in
+    let f = decimal c.args.counts.now.faults in
+    let b = decimal c.args.counts.now.bits in
+    let n = decimal c.args.counts.now.sets in
     let end = summary_ending (told_ending c.args.ending) in
     let begun : c.in_ok-line.line ≡ codes "stages " ++ (s ++ (codes " variables " ++ (v ++ (codes " faults " ++ (f ++ (codes " bits " ++ (b ++ (codes " sets " ++ (n ++ codes " ")))))))))
     = c.in_ok-line.ensures ∙ c.as_bytes.ensures.value ∙ c.in_ok-begin.ensures.ok in

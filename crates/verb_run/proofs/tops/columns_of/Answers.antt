@@ -1,7 +1,9 @@
-use Rattle.std.proofs.Common.{◌≡◌, [], ◌∷◌, List, Bool, true, false, arith, map, length, ◌<◌, ◌∙◌, refl, sym, subst, eqb-true}
+use Rattle.std.proofs.Common.{◌≡◌, [], ◌∷◌, List, Bool, true, false, arith, map, length, ◌<◌, ◌∙◌, refl, sym, ap, subst, eqb-true}
 use Rattle.std.specs.Prelude.{nat_eq}
 use Rattle.smv_language.specs.ProgramTree.{program_tree}
 use Rattle.smv_language.specs.ModelTree.{flat_tree}
+use Rattle.sat_encoding_laws.specs.Lists.{system_of}
+use Rattle.cut_model_search.specs.FaultyModels.{whole_in}
 use Rattle.verb_run.specs.Tables.{AreColumns, IsEventOf, tabulated_case, tabulated_events}
 use Rattle.verb_run.proofs.TableLemmas.{first_at}
 use Rattle.verb_run.proofs.TopEvents.{event_searchable}
@@ -28,8 +30,8 @@ returns-then-is_empty g c =
     (columns_of_events (tabulated_case a) a.depth flat_tree (tabulated_events a) [] []
     (subst (λ trees. EachBoth (IsEventOf (tabulated_case a)) (tabulated_events a) (map flat_tree trees)) none c.requires.events) tt)
 
-pub frames_of_case-requires-clause-searchable : goal.frames_of_case-requires-clause-searchable
-frames_of_case-requires-clause-searchable g c =
+pub of_case-requires-clause-searchable : goal.of_case-requires-clause-searchable
+of_case-requires-clause-searchable g c =
     let a = c.args.asked.now in
     let xs = c.as_slice-tops.result.now in
     let some = some_there xs c.is_empty.result c.is_empty.ensures c.if-is_empty.false in
@@ -37,3 +39,6 @@ frames_of_case-requires-clause-searchable g c =
     first_at (IsEventOf (tabulated_case a)) flat_tree (tabulated_events a) xs 0 c.index-tops-0.result
     (subst (λ trees. EachBoth (IsEventOf (tabulated_case a)) (tabulated_events a) (map flat_tree trees)) (sym c.as_slice-tops.ensures) c.requires.events) some c.index-tops-0.is in
     event_searchable (program_tree a.model.program) a.case c.requires.extensible event.0 (flat_tree c.index-tops-0.result) event.1
+
+pub columns_in-requires-clause-system : goal.columns_in-requires-clause-system
+columns_in-requires-clause-system g c = c.in_ok-frames.ensures ∙ ap (λ v. system_of (whole_in v)) c.in_ok-model.ensures.model

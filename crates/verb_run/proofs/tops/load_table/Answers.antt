@@ -28,23 +28,23 @@ returns-in_err-tops-clause-refused g c r e =
     let exit = err_from_is_err_and c.from_residual-in_err-tops.result c.from_residual-in_err-tops.ensures.1 in
     let refused : IsErrOf c.load_tops.result (stop.Refused r) = c.in_err-tops.was ∙ ap (λ stop. Err stop) (sym exit.2 ∙ same_fault (sym exit.1 ∙ e)) in
     let p = program_tree c.in_ok-model.model.program in
-    let holds = holds_case _ _ c.args.tops.now c.args.tops.now _ _ p c.in_ok-case.case c.load_model.ensures.stays.files c.in_ok-model.ensures.ok c.in_ok-case.ensures.ok in
+    let holds = holds_case _ _ c.args.asked.now.tops.now c.args.asked.now.tops.now _ _ p c.in_ok-case.case c.load_model.ensures.stays.files c.in_ok-model.ensures.ok c.in_ok-case.ensures.ok in
     table_tops_refused _ _ _ _ _ (case_of p c.in_ok-case.case) r (c.load_case.ensures.stays.files ∙ c.load_model.ensures.stays.files) holds (c.load_tops.ensures.refused r refused)
 
 pub returns-clause-ok : goal.returns-clause-ok
 returns-clause-ok g c =
     let p = program_tree c.in_ok-model.model.program in
-    holds_case _ _ c.args.tops.now c.args.tops.now _ _ p c.in_ok-case.case c.load_model.ensures.stays.files c.in_ok-model.ensures.ok c.in_ok-case.ensures.ok
+    holds_case _ _ c.args.asked.now.tops.now c.args.asked.now.tops.now _ _ p c.in_ok-case.case c.load_model.ensures.stays.files c.in_ok-model.ensures.ok c.in_ok-case.ensures.ok
 
 pub returns-clause-tops : goal.returns-clause-tops
 returns-clause-tops g c =
     let p = program_tree c.in_ok-model.model.program in
-    subst (λ told. IfSome told (λ files. HoldsTops files c.args.tops.now p (map tree_of c.in_ok-tops.tops.written))) (c.load_case.ensures.stays.files ∙ c.load_model.ensures.stays.files) c.in_ok-tops.ensures.ok
+    subst (λ told. IfSome told (λ files. HoldsTops files c.args.asked.now.tops.now p (map tree_of c.in_ok-tops.tops.written))) (c.load_case.ensures.stays.files ∙ c.load_model.ensures.stays.files) c.in_ok-tops.ensures.ok
 
 pub returns-clause-able : goal.returns-clause-able
 returns-clause-able g c =
     record {
       extensible = record { flat = model_tree c.in_ok-model.model.typed.model; lawful = c.in_ok-model.ensures.lawful; loaded = c.in_ok-case.ensures.loaded };
       events = c.in_ok-tops.ensures.events;
-      small = c.requires.small;
+      small = c.requires;
     }
