@@ -6,7 +6,7 @@ ghost use Rattle.cut_model_search.specs.Reports.{report_in};
 
 use crate::faulty::FaultyModel;
 use base_values::{ByteList, Ending, OutOfMemory};
-use cut_report::print_analysis;
+use cut_report::{Findings, print_analysis};
 use cut_search::answer::{Analysis, End};
 use std::alloc::Global;
 
@@ -25,17 +25,14 @@ impl<'a> FaultyModel<'a> {
     pub fn report(&self, alloc: Global, a: &Analysis) -> Result<ByteList, OutOfMemory>
         ensures { IfOk result (λ text. text ≡ report_in self.now a.now) }
     {
-        let text = print_analysis(
-            alloc,
-            self.plain(),
-            self.listed(),
-            &a.sets,
-            &a.traces,
-            a.first,
-            self.bits(),
-            a.size,
-            told(&a.end),
-        )?;
+        let found = Findings {
+            sets: &a.sets,
+            traces: &a.traces,
+            first: a.first,
+            ending: told(&a.end),
+            size: a.size,
+        };
+        let text = print_analysis(alloc, self.plain(), self.listed(), self.bits(), &found)?;
         Ok(text)
     }
 }

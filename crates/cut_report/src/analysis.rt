@@ -16,7 +16,18 @@ use smv_language::model::FaultList;
 use smv_types::Typed;
 use std::alloc::Global;
 
-/// The report of an analysis of the model with these faults: the lines of the faults; `sets` and their number, and a
+/// What a report prints of an analysis: its sets and a trace for each, whether there is a first moment, how it ended, and how many faults
+/// a set has at most.
+#[derive(Drop)]
+pub struct Findings<'a> {
+    pub sets: &'a SetList,
+    pub traces: &'a TraceList,
+    pub first: bool,
+    pub ending: Ending,
+    pub size: u32,
+}
+
+/// The report of an analysis of the model with these faults: the lines of the faults; the sets and their number, and a
 /// line for each set with its numbers; each trace under its number, from 1; `no first moment` where there is none; how
 /// the analysis ended, with so many bits of a state where it is bounded; and the size where it is below the number of
 /// faults.
@@ -24,20 +35,17 @@ pub fn print_analysis(
     alloc: Global,
     t: &Typed,
     faults: &FaultList,
-    sets: &SetList,
-    traces: &TraceList,
-    first: bool,
     bits: u32,
-    size: u32,
-    ending: Ending,
+    found: &Findings,
 ) -> Result<ByteList, OutOfMemory>
     ensures { IfOk result (λ text. text ≡ analysis_text (faults_text (map name_of_fault faults.now))
-        (model_tree t.now.model) bits (length faults.now) size (told_analysis t.now.model.symbols sets.now traces.now first ending)) }
+        (model_tree t.now.model) bits (length faults.now) found.now.size
+        (told_analysis t.now.model.symbols found.now.sets.now found.now.traces.now found.now.first found.now.ending)) }
 {
     let mut text = print_faults(alloc, faults)?;
-    append_found(alloc, &mut text, t, sets, traces)?;
-    append_end(alloc, &mut text, first, ending, bits)?;
-    append_size(alloc, &mut text, size, faults.len())?;
+    append_found(alloc, &mut text, t, found.sets, found.traces)?;
+    append_end(alloc, &mut text, found.first, found.ending, bits)?;
+    append_size(alloc, &mut text, found.size, faults.len())?;
     Ok(text)
 }
 

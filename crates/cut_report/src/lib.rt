@@ -30,7 +30,7 @@ mod traces;
 mod values;
 mod whole;
 
-pub use analysis::{append_ending, append_sets, print_analysis};
+pub use analysis::{Findings, append_ending, append_sets, print_analysis};
 pub use fault::TraceFault;
 pub use fault_list::print_faults;
 pub use traces::print_trace;
