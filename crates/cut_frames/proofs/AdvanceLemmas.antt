@@ -8,8 +8,8 @@ use Rattle.sat_clauses.specs.declared.system.System.{System}
 use Rattle.cut_frames.specs.Chain.{state_values, InFrame, Stands}
 use Rattle.cut_frames.specs.FrameLists.{frame_at, IsFramed, AreStronger, HasEqualNeighbours, IsInductive, ArePushed}
 use Rattle.cut_frames.specs.FrontierGrowth.{Keeps}
-use Rattle.cut_frames.specs.Advance.{IsFixed, IsFurther}
-use Rattle.cut_frames.specs.Levels.{standing_in, frames_from, frames_of, held_at, IsLevelled, IsEmptyLevel, IsFilledLevel, AreFilledBelow, AreLevelsPushed}
+use Rattle.cut_frames.specs.Advance.{IsFixed, IsFurther, IsStrengthened}
+use Rattle.cut_frames.specs.Levels.{standing_in, frames_from, frames_of, held_at, IsLevelled, IsTightened, IsEmptyLevel, IsFilledLevel, AreFilledBelow, AreLevelsPushed}
 use Rattle.cut_frames.specs.declared.levels.Held.{Held}
 use Rattle.cut_frames.specs.declared.levels.Levels.{Levels}
 use Rattle.cut_frames.proofs.Sets.{stands_itself}
@@ -117,3 +117,6 @@ module _ (system : System) where
     where
       longer : (i n o g : ℕ) → n ≡ suc o → g ≡ o + 1 → i < n → i < suc g
       longer i n o g e q lt = omega (arith, e, q, lt)
+
+  pub strengthened_after : (old grown now : Levels) → grown.held.items ≡ old.held.items → grown.last ≡ old.last + 1 → IsLevelled system old → IsTightened system grown now → IsStrengthened system old now
+  strengthened_after old grown now items last f t = record { framed = t.framed; stronger = stronger_after old grown now items last f t.stronger }

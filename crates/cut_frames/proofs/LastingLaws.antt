@@ -10,7 +10,7 @@ use Rattle.sat_clauses.specs.Hints.{HasNoOpposites}
 use Rattle.cut_frames.specs.Chain.{State, state_values, IsStepOf, Makes, InFrame, IsOverBits}
 use Rattle.cut_frames.specs.FrameLists.{frame_at, InNumber, AreStronger, IsInductive}
 use Rattle.cut_frames.specs.LastingClauses.{AreImplied, AreLasting}
-use Rattle.cut_frames.specs.Levels.{frames_of, with_clause, IsLevelled, HasGained}
+use Rattle.cut_frames.specs.Levels.{frames_of, with_clause, IsLevelled, IsTightened, HasGained}
 use Rattle.cut_frames.specs.declared.lasting.Lasting.{Lasting}
 use Rattle.cut_frames.specs.declared.levels.Held.{Held}
 use Rattle.cut_frames.specs.declared.levels.Levels.{Levels}
@@ -86,19 +86,19 @@ module _ (system : System) (clauses : List (List Literal)) (inductive : IsInduct
       by_number (suc i) e h = implied (suc i) s (omega arith) (inside (suc i) old.last (length (frames_of old)) e (length_frames old)) (subst (λ c. InFrame system c s) (frame_grown (frames_of old) (suc i)) h)
 
   -- one of them put into the last frame
-  module _ (begun old now : Levels) (c : List Literal) (m : Contains clauses c) (f : IsLevelled system old) (some : 0 < begun.last) (same : old.last ≡ begun.last) (w : AreStronger system (frames_of begun) (frames_of old))
+  module _ (begun old now : Levels) (c : List Literal) (m : Contains clauses c) (t : IsTightened system begun old) (some : 0 < begun.last)
       (before : (s : State) → InNumber system (frames_of begun) (begun.last - 1) s → InFrame system clauses s) (last : now.last ≡ old.last) (items : now.held.items ≡ with_clause old.last c old.held.items) where
     abbrev gained : HasGained old.last c (frames_of old) (frames_of now)
     gained = gained_put old now old.last c last (omega arith) items
 
     number_was : (i : ℕ) (s : State) → i < length (frames_of begun) → InNumber system (frames_of old) i s → InNumber system (frames_of begun) i s
     number_was zero s lt h = h
-    number_was (suc i) s lt h = w (suc i) s lt h
+    number_was (suc i) s lt h = t.stronger (suc i) s lt h
 
-    after : (i : ℕ) (s t : State) → old.last ≡ suc i → InNumber system (frames_of old) i s → IsStepOf system s t → Makes system t c
-    after i s t e h step = makes t c m (inductive.is_kept s t
-        (before s (subst (λ n. InNumber system (frames_of begun) n s) (here i old.last begun.last e same)
-        (number_was i s (inside i old.last begun.last (length (frames_of begun)) e same (length_frames begun)) h))) step)
+    after : (i : ℕ) (s u : State) → old.last ≡ suc i → InNumber system (frames_of old) i s → IsStepOf system s u → Makes system u c
+    after i s u e h step = makes u c m (inductive.is_kept s u
+        (before s (subst (λ n. InNumber system (frames_of begun) n s) (here i old.last begun.last e t.last)
+        (number_was i s (inside i old.last begun.last (length (frames_of begun)) e t.last (length_frames begun)) h))) step)
       where
         here : (i a b : ℕ) → a ≡ suc i → a ≡ b → i ≡ b - 1
         here i a b e s = omega (arith, e, s)
@@ -106,16 +106,17 @@ module _ (system : System) (clauses : List (List Literal)) (inductive : IsInduct
         inside : (i a b n : ℕ) → a ≡ suc i → a ≡ b → n ≡ suc b → i < n
         inside i a b n e s g = omega (arith, e, s, g)
 
-    pub levelled_put : IsLevelled system now
-    levelled_put = record {
-      numbers = subst (All (λ (h : Held). h.highest ≤ now.last)) (sym items) (subst (λ n. All (λ (h : Held). h.highest ≤ n) (with_clause old.last c old.held.items)) (sym last)
-          (put_all old.last c old.held.items (λ (h : Held). h.highest ≤ old.last) f.numbers (omega arith)));
-      framed = framed_gained system old.last c (frames_of old) (frames_of now) gained f.framed (All-contains (IsOverBits system) clauses c inductive.over_bits m) (All-contains HasNoOpposites clauses c inductive.apart m)
-          (λ s h. makes s c m (inductive.holds_first s h)) after;
+    pub tightened_put : IsTightened system begun now
+    tightened_put = record {
+      framed = record {
+        numbers = subst (All (λ (h : Held). h.highest ≤ now.last)) (sym items) (subst (λ n. All (λ (h : Held). h.highest ≤ n) (with_clause old.last c old.held.items)) (sym last)
+            (put_all old.last c old.held.items (λ (h : Held). h.highest ≤ old.last) t.framed.numbers (omega arith)));
+        framed = framed_gained system old.last c (frames_of old) (frames_of now) gained t.framed.framed (All-contains (IsOverBits system) clauses c inductive.over_bits m) (All-contains HasNoOpposites clauses c inductive.apart m)
+            (λ s h. makes s c m (inductive.holds_first s h)) after;
+      };
+      last = last ∙ t.last;
+      stronger = λ i s lt h. t.stronger i s lt (list_before system old.last c (frames_of old) (frames_of now) gained i s h);
     }
-
-    pub stronger_put : AreStronger system (frames_of begun) (frames_of now)
-    stronger_put = λ i s lt h. w i s lt (list_before system old.last c (frames_of old) (frames_of now) gained i s h)
 
     -- the last frame implies one more of them
     pub implied_put : (done more : List (List Literal)) → more ≡ done ++ c ∷ [] → ((s : State) → InFrame system (frame_at (frames_of old) old.last) s → InFrame system done s) →
@@ -149,13 +150,6 @@ lasting_grown system old grown now l items last same f w a new = record { induct
         (subst (λ c. InFrame system c s) (ap (λ fs. frame_at fs i) (frames_more old grown items last f.numbers) ∙ frame_grown (frames_of old) i)
         (w i s (longer i grown.last now.last (length (frames_of grown)) lt same (length_frames grown)) h))
     by_number t i s some h (inr le) all = new t s (subst (λ n. InFrame system (frame_at (frames_of now) n) s) (at_last i now.last (length (frames_of now)) le (length_frames now) all) h)
-
--- frames that became stronger twice
-pub stronger_twice : (system : System) (old between now : Levels) → between.last ≡ old.last → AreStronger system (frames_of old) (frames_of between) → AreStronger system (frames_of between) (frames_of now) → AreStronger system (frames_of old) (frames_of now)
-stronger_twice system old between now last first second = λ i s lt h. first i s lt (second i s (longer i (length (frames_of old)) (length (frames_of between)) old.last between.last lt (length_frames old) (length_frames between) last) h)
-  where
-    longer : (i n m a b : ℕ) → i < n → n ≡ suc a → m ≡ suc b → b ≡ a → i < m
-    longer i n m a b lt e f s = omega (arith, lt, e, f, s)
 
 -- the clauses of an invariant that was found
 pub taken : (system : System) (fs : List (List (List Literal))) (l : Lasting) (found : List (List Literal)) → l ≡ record { clauses = found; is_implied = false } → IsInductive system found → AreLasting system fs l

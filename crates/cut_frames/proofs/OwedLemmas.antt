@@ -14,12 +14,13 @@ use Rattle.cut_frames.specs.StatesLeft.{states_left, work_left}
 use Rattle.cut_frames.specs.ClearLooks.{Blocks, IsLook, IsStepLook}
 use Rattle.cut_frames.specs.declared.clear.Look.{Look}
 use Rattle.cut_frames.specs.declared.clear.Look.TheVariants.{Nothing, IsFirst, Deeper, Blocked}
-use Rattle.cut_frames.specs.Levels.{frames_from, frames_of, with_clause, HasGained, IsLevelled}
+use Rattle.cut_frames.specs.Levels.{frames_from, frames_of, with_clause, HasGained, IsLevelled, IsTightened}
 use Rattle.cut_frames.specs.declared.levels.Held.{Held}
 use Rattle.cut_frames.specs.declared.levels.Levels.{Levels}
-use Rattle.cut_frames.proofs.LevelLaws.{level_is, frames_new}
-use Rattle.cut_frames.proofs.Framing.{in_list, gained_true, framed_gained, framed_new, number_above, list_before}
-use Rattle.cut_frames.proofs.PutLaws.{put_all}
+use Rattle.cut_frames.proofs.LevelLaws.{level_is, level_low, frames_new}
+use Rattle.cut_frames.proofs.Framing.{in_list, gained_true, framed_new, number_above}
+use Rattle.cut_frames.proofs.PutLaws.{gained_put}
+use Rattle.cut_frames.proofs.RaiseLaws.{tightened_raised}
 use Rattle.cut_frames.proofs.StatesLeft.{left_less}
 use Rattle.base_values.proofs.ListLaws.{push_get}
 
@@ -223,6 +224,10 @@ module _ (system : System) (bad : List (List Literal)) where
                   let is : slice_index_or owed (length owed - 1) [] ≡ t = same (slice_index_or owed (length owed - 1) []) t (sym top ∙ e) in
                   subst (λ z. Leads system z (state_in system t)) f.1 (subst (λ z. Leads system r (state_in system z)) is step)
 
+  -- the look that a match has found
+  pub look_is : (frames : List (List (List Literal))) (owed slice : List Assignment) (look found : Look) → slice ≡ owed → look ≡ found → IsLook system bad frames slice look → IsLook system bad frames owed found
+  look_is frames owed slice look found e f h = subst (IsLook system bad frames owed) f (subst (λ o. IsLook system bad frames o look) e h)
+
   -- what blocks the newest obligation
   pub record BlocksNewest (frames : List (List (List Literal))) (owed : List Assignment) (c : List Literal) : Type 0 where
     pub some : 0 < length owed
@@ -238,10 +243,6 @@ module _ (system : System) (bad : List (List Literal)) where
       by_case (inr lt) =
           let top = newest owed [] lt in
           record { some = lt; moment = slice_index_or owed (length owed - 1) []; is_newest = top; blocks = look.at_newest (slice_index_or owed (length owed - 1) []) top }
-
-  -- the frames stay framed
-  pub framed_blocked : (frames now : List (List (List Literal))) (level : ℕ) (s : State) (c : List Literal) → HasGained level c frames now → IsFramed system frames → Blocks system frames level s c → IsFramed system now
-  framed_blocked frames now level s c g f b = framed_gained system level c frames now g f b.over_bits b.apart b.first b.after
 
   -- one obligation less
   pub owed_less : (frames now : List (List (List Literal))) (owed : List Assignment) (t : Assignment) (level : ℕ) (c : List Literal) → HasGained level c frames now → level ≡ length frames - length (owed ++ t ∷ []) →
@@ -295,17 +296,40 @@ module _ (system : System) (bad : List (List Literal)) where
           grow : (x y f k m : ℕ) → m ≡ k + 1 → m ≤ f → x + (f + 1) ≤ y → x + (f - k) < y + (f - m)
           grow x y f k m q le g = omega arith
 
-  -- the frames after a clause was put into them, or was not
-  pub levelled_blocked : (l now : Levels) (level : ℕ) (owed : List Assignment) (c : List Literal) → IsLevelled system l → HasGained level c (frames_of l) (frames_of now) → level ≡ length (frames_of l) - length owed → level ≤ l.last →
-      now.last ≡ l.last → now.held.items ≡ with_clause level c l.held.items → BlocksNewest (frames_of l) owed c → IsLevelled system now
-  levelled_blocked l now level owed c f g is le last items b = record {
-    numbers = subst (All (λ (h : Held). h.highest ≤ now.last)) (sym items) (subst (λ n. All (λ (h : Held). h.highest ≤ n) (with_clause level c l.held.items)) (sym last)
-        (put_all level c l.held.items (λ (h : Held). h.highest ≤ l.last) f.numbers le));
-    framed = framed_blocked (frames_of l) (frames_of now) level (state_in system b.moment) c g f.framed (subst (λ n. Blocks system (frames_of l) n (state_in system b.moment) c) (sym is) b.blocks);
-  }
+  -- a clause that blocks the newest obligation is put into the frames up to its own, and the obligation is dropped
+  pub record HasBlocked (l now : Levels) (all left : List Assignment) : Type 0 where
+    pub owed : AreOwed system bad (frames_of now) left
+    pub falls : work_left system.state_bits (frames_of now) left < work_left system.state_bits (frames_of l) all
+    pub tightened : IsTightened system l now
 
-  pub stronger_blocked : (old frames now : List (List (List Literal))) (level : ℕ) (c : List Literal) → HasGained level c frames now → AreStronger system old frames → AreStronger system old now
-  stronger_blocked old frames now level c g w = λ i s lt h. w i s lt (list_before system level c frames now g i s h)
+  pub newest_blocked : (l now : Levels) (owed left : List Assignment) (top : Assignment) (level : ℕ) (c : List Literal) → IsLevelled system l → AreOwed system bad (frames_of l) owed →
+      IsLook system bad (frames_of l) owed (Blocked c) → owed ≡ left ++ top ∷ [] → level ≡ l.last + 1 - length owed → now.last ≡ l.last → now.held.items ≡ with_clause level c l.held.items →
+      HasBlocked l now owed left
+  newest_blocked l now owed left top level c f o look popped e last items =
+      record {
+        owed = owed_less (frames_of l) (frames_of now) left top level c gained at whole;
+        falls = subst (λ xs. work_left system.state_bits (frames_of now) left < work_left system.state_bits (frames_of l) xs) (sym popped)
+            (work_blocked (frames_of l) (frames_of now) left top level c f.framed gained at whole (subst (λ xs. BlocksNewest (frames_of l) xs c) popped b));
+        tightened = tightened_raised system l now level (state_in system b.moment) c f le last items (subst (λ n. Blocks system (frames_of l) n (state_in system b.moment) c) (sym is) b.blocks);
+      }
+    where
+      b : BlocksNewest (frames_of l) owed c
+      b = look_blocked (frames_of l) owed c look
+
+      le : level ≤ l.last
+      le = subst (λ n. n ≤ l.last) (sym e) (level_low l.last (length owed) b.some)
+
+      is : level ≡ length (frames_of l) - length owed
+      is = e ∙ sym (level_is l (length owed))
+
+      at : level ≡ length (frames_of l) - length (left ++ top ∷ [])
+      at = is ∙ ap (λ xs. length (frames_of l) - length xs) popped
+
+      whole : AreOwed system bad (frames_of l) (left ++ top ∷ [])
+      whole = subst (λ xs. AreOwed system bad (frames_of l) xs) popped o
+
+      gained : HasGained level c (frames_of l) (frames_of now)
+      gained = gained_put l now level c last le items
 
   -- the newest obligation's frame, where a clause blocks it
   pub level_some : (l : Levels) (owed : List Assignment) (c : List Literal) → BlocksNewest (frames_of l) owed c → 0 < l.last + 1 - length owed
@@ -315,14 +339,15 @@ module _ (system : System) (bad : List (List Literal)) where
 pub same_frames : (l now : Levels) → now.last ≡ l.last → now.held.items ≡ l.held.items → frames_of now ≡ frames_of l
 same_frames l now last items = ap (λ n. frames_from 0 (suc n) now.held.items) last ∙ ap (λ hs. frames_from 0 (suc l.last) hs) items
 
-pub levelled_stays : (system : System) (l now : Levels) → now.last ≡ l.last → now.held.items ≡ l.held.items → IsLevelled system l → IsLevelled system now
-levelled_stays system l now last items f = record {
-  numbers = subst (All (λ (h : Held). h.highest ≤ now.last)) (sym items) (subst (λ n. All (λ (h : Held). h.highest ≤ n) l.held.items) (sym last) f.numbers);
-  framed = subst (IsFramed system) (sym (same_frames l now last items)) f.framed;
+pub tightened_stays : (system : System) (l now : Levels) → now.last ≡ l.last → now.held.items ≡ l.held.items → IsLevelled system l → IsTightened system l now
+tightened_stays system l now last items f = record {
+  framed = record {
+    numbers = subst (All (λ (h : Held). h.highest ≤ now.last)) (sym items) (subst (λ n. All (λ (h : Held). h.highest ≤ n) l.held.items) (sym last) f.numbers);
+    framed = subst (IsFramed system) (sym (same_frames l now last items)) f.framed;
+  };
+  last = last;
+  stronger = subst (AreStronger system (frames_of l)) (sym (same_frames l now last items)) (λ i s lt h. h);
 }
-
-pub stronger_stays : (system : System) (old : List (List (List Literal))) (l now : Levels) → now.last ≡ l.last → now.held.items ≡ l.held.items → AreStronger system old (frames_of l) → AreStronger system old (frames_of now)
-stronger_stays system old l now last items w = subst (AreStronger system old) (sym (same_frames l now last items)) w
 
 -- frames to begin with
 pub levelled_new : (system : System) (l : Levels) → l.held.items ≡ [] → l.last ≡ 0 → IsLevelled system l

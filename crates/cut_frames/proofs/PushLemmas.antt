@@ -17,7 +17,7 @@ use Rattle.cut_frames.specs.FrameLists.{frame_at, InNumber, IsFramed, AreStronge
 use Rattle.cut_frames.specs.FrontierGrowth.{Keeps}
 use Rattle.cut_frames.specs.OwnVariables.{IsFound, IsExcluded}
 use Rattle.cut_frames.specs.declared.guarded.Beside.TheVariants.{Step}
-use Rattle.cut_frames.specs.Levels.{standing_in, frames_of, held_at, IsLevelled, HasMoved, IsStuck, IsLevelPushed, AreLevelsPushed, IsFilledLevel, AreFilledBelow}
+use Rattle.cut_frames.specs.Levels.{standing_in, frames_of, held_at, IsLevelled, HasMoved, IsStuck, IsLevelPushed, AreLevelsPushed, IsFilledLevel, AreFilledBelow, IsTightened, IsPushedFrom}
 use Rattle.cut_frames.specs.declared.levels.Held.{Held}
 use Rattle.cut_frames.specs.declared.levels.Levels.{Levels}
 use Rattle.cut_frames.proofs.Sets.{true_member, from_member}
@@ -176,8 +176,8 @@ module _ (system : System) where
           (h.0, subset_true (state_values system s) (frame_at (frames_of b) (i + 1)) (frame_at (frames_of a) (i + 1)) g.grown.grows (subst (λ n. InFrame system (frame_at (frames_of b) n) s) e h).1)
       by_place j s h (inr n) = subst (λ f. InFrame system f s) (g.grown.others j n) h
 
-  pub stronger_more : (old a b : List (List (List Literal))) → length a ≡ length old → AreStronger system old a → AreStronger system a b → AreStronger system old b
-  stronger_more old a b e w x = λ i s lt h. w i s lt (x i s (subst (λ n. i < n) (sym e) lt) h)
+  pub tightened_pushed : (a b : Levels) (i : ℕ) → IsPushedFrom system a b i → IsTightened system a b
+  tightened_pushed a b i g = record { framed = g.framed; last = g.moved.last; stronger = moved_stronger a b i g.moved }
 
   -- what was stuck stays so while clauses move from frame i or a later one
   stuck_stays : (a b : Levels) (i j k : ℕ) → HasMoved system a b i → j ≤ i → IsStuck system a j (held_at a k) → IsStuck system b j (held_at b k)

@@ -1,5 +1,5 @@
 -- What raising states leaves of the frames: they are framed, imply what they implied, and no more states are left in them.
-use Rattle.std.proofs.Common.{◌≡◌, ◌≤◌, ◌<◌, ◌+◌, ◌-◌, ◌*◌, ℕ, suc, List, [], ◌∷◌, sym, subst, arith, length}
+use Rattle.std.proofs.Common.{◌≡◌, ◌≤◌, ◌<◌, ◌+◌, ◌-◌, ◌*◌, ℕ, suc, List, [], ◌∷◌, sym, ◌∙◌, subst, arith, length}
 use Rattle.std.specs.Prelude.{All}
 use Rattle.std.proofs.lemmas.Option.{slice_get_within as get_within}
 use Rattle.sat_clauses.specs.Literal.{Literal}
@@ -8,30 +8,38 @@ use Rattle.sat_clauses.specs.declared.system.System.{System}
 use Rattle.cut_frames.specs.Chain.{State}
 use Rattle.cut_frames.specs.ClearLooks.{Blocks}
 use Rattle.cut_frames.specs.FrameLists.{frame_at, AreStronger}
-use Rattle.cut_frames.specs.Levels.{frames_of, with_clause, IsLevelled}
+use Rattle.cut_frames.specs.Levels.{frames_of, with_clause, IsLevelled, IsTightened}
 use Rattle.cut_frames.specs.Path.{AreOwed}
 use Rattle.cut_frames.specs.StatesLeft.{passes, states_left, work_left}
 use Rattle.cut_frames.specs.declared.levels.Held.{Held}
 use Rattle.cut_frames.specs.declared.levels.Levels.{Levels}
 use Rattle.cut_frames.proofs.Count.{Within, count_mono}
 use Rattle.cut_frames.proofs.Framing.{framed_gained, list_before}
+use Rattle.cut_frames.proofs.LevelLaws.{same_length}
 use Rattle.cut_frames.proofs.PutLaws.{gained_put, put_all}
 
 -- a clause that blocks a state of the frame of a number, put into the frames up to that
-pub levelled_raised : (system : System) (l now : Levels) (level : ℕ) (s : State) (c : List Literal) → IsLevelled system l → level ≤ l.last → now.last ≡ l.last →
-    now.held.items ≡ with_clause level c l.held.items → Blocks system (frames_of l) level s c → IsLevelled system now
-levelled_raised system l now level s c f le last items b = record {
-  numbers = subst (All (λ (h : Held). h.highest ≤ now.last)) (sym items) (subst (λ n. All (λ (h : Held). h.highest ≤ n) (with_clause level c l.held.items)) (sym last)
-      (put_all level c l.held.items (λ (h : Held). h.highest ≤ l.last) f.numbers le));
-  framed = framed_gained system level c (frames_of l) (frames_of now) (gained_put l now level c last le items) f.framed b.over_bits b.apart b.first b.after;
+pub tightened_raised : (system : System) (l now : Levels) (level : ℕ) (s : State) (c : List Literal) → IsLevelled system l → level ≤ l.last → now.last ≡ l.last →
+    now.held.items ≡ with_clause level c l.held.items → Blocks system (frames_of l) level s c → IsTightened system l now
+tightened_raised system l now level s c f le last items b =
+    let gained = gained_put l now level c last le items in
+    record {
+      framed = record {
+        numbers = subst (All (λ (h : Held). h.highest ≤ now.last)) (sym items) (subst (λ n. All (λ (h : Held). h.highest ≤ n) (with_clause level c l.held.items)) (sym last)
+            (put_all level c l.held.items (λ (h : Held). h.highest ≤ l.last) f.numbers le));
+        framed = framed_gained system level c (frames_of l) (frames_of now) gained f.framed b.over_bits b.apart b.first b.after;
+      };
+      last = last;
+      stronger = λ i s lt h. list_before system level c (frames_of l) (frames_of now) gained i s h;
+    }
+
+-- frames that became tighter twice
+pub tightened_twice : (system : System) (old between now : Levels) → IsTightened system old between → IsTightened system between now → IsTightened system old now
+tightened_twice system old between now t u = record {
+  framed = u.framed;
+  last = u.last ∙ t.last;
+  stronger = λ i s lt h. t.stronger i s lt (u.stronger i s (subst (λ n. i < n) (sym (same_length old between t.last)) lt) h);
 }
-
-pub stronger_raised : (system : System) (old : List (List (List Literal))) (l now : Levels) (level : ℕ) (c : List Literal) → level ≤ l.last → now.last ≡ l.last →
-    now.held.items ≡ with_clause level c l.held.items → AreStronger system old (frames_of l) → AreStronger system old (frames_of now)
-stronger_raised system old l now level c le last items w = λ i s lt h. w i s lt (list_before system level c (frames_of l) (frames_of now) (gained_put l now level c last le items) i s h)
-
-pub stronger_twice : (system : System) (a b c : List (List (List Literal))) → length a ≡ length b → AreStronger system a b → AreStronger system b c → AreStronger system a c
-stronger_twice system a b c e v w = λ i s lt h. v i s lt (w i s (subst (λ n. i < n) e lt) h)
 
 -- no more states are left where each frame implies what it implied
 left_within : (bits : ℕ) (old now : List (List (List Literal))) → length now ≡ length old → ((i : ℕ) → i < length old → Within bits (passes (frame_at now i)) (passes (frame_at old i))) →

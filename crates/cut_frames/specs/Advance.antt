@@ -1,14 +1,44 @@
--- What the answer of `advance` says.
-use Rattle.std.specs.Prelude.{◌-◌, List, drop, length}
+-- What `advance` starts from, and what its answer says.
+use Rattle.std.specs.Prelude.{◌≡◌, ◌<◌, ◌+◌, ◌-◌, ℕ, List, All, drop, length}
 use Rattle.sat_clauses.specs.Literal.{Literal}
 use Rattle.sat_clauses.specs.declared.system.System.{System}
 use Rattle.cut_frames.specs.Chain.{State, InFrame}
-use Rattle.cut_frames.specs.FrameLists.{frame_at, IsInductive, HasEqualNeighbours}
+use Rattle.cut_frames.specs.FrameLists.{frame_at, AreStronger, ArePushed, IsInductive, HasEqualNeighbours}
 use Rattle.cut_frames.specs.FrontierGrowth.{IsOpenChain}
+use Rattle.cut_frames.specs.KnownSteps.{IsSeen}
+use Rattle.cut_frames.specs.LastingClauses.{AreLasting}
+use Rattle.cut_frames.specs.Levels.{frames_of, IsLevelled}
+use Rattle.cut_frames.specs.OwnVariables.{IsKept}
+use Rattle.cut_frames.specs.Problem.{IsWellPosed}
 use Rattle.cut_frames.specs.declared.advance.Advanced.{Advanced}
 use Rattle.cut_frames.specs.declared.advance.Advanced.TheVariants.{Further, Fixed}
+use Rattle.cut_frames.specs.declared.guarded.Guarded.{Guarded}
+use Rattle.cut_frames.specs.declared.lasting.Lasting.{Lasting}
+use Rattle.cut_frames.specs.declared.levels.Levels.{Levels}
+use Rattle.cut_frames.specs.declared.problem.Problem.{Problem}
+use Rattle.cut_frames.specs.declared.shown.Seen.{Seen}
+
+-- a frame from number 1 on, but not the last, from which clauses may go to the next
+pub record IsPushable (p : Problem) (l : Levels) (i : ℕ) : Type 0 where
+  pub problem : IsWellPosed p
+  pub framed : IsLevelled p.system.now l
+  pub some : 0 < i
+  pub next : i < l.last
+
+-- there is a frame more and all is pushed; the clauses that last, the steps that were seen and the search are those of the frames now
+pub record IsAhead (p : Problem) (old now : Levels) (clauses : Lasting) (steps : List Seen) (g : Guarded) : Type 0 where
+  pub lasting : AreLasting p.system.now (frames_of now) clauses
+  pub frontier : now.last ≡ old.last + 1
+  pub pushed : ArePushed p.system.now (frames_of now)
+  pub seen : All (IsSeen p.system.now) steps
+  pub kept : IsKept p.system.now p.bad.now (frames_of now) g
 
 module _ (system : System) where
+  -- they are still the frames of the system, and each implies what it was
+  pub record IsStrengthened (old now : Levels) : Type 0 where
+    pub framed : IsLevelled system now
+    pub stronger : AreStronger system (frames_of old) (frames_of now)
+
   -- two neighbouring frames are now equal: an invariant that implies the last frame that stood before
   pub record IsFixed (old now : List (List (List Literal))) (clauses : List (List Literal)) : Type 0 where
     pub equal_ones : HasEqualNeighbours system now

@@ -5,7 +5,7 @@ use Rattle.sat_clauses.specs.Literal.{Literal}
 use Rattle.sat_simplify.specs.Resolution.{subsumes}
 use Rattle.sat_clauses.specs.declared.system.System.{System}
 use Rattle.cut_frames.specs.Chain.{IsPart}
-use Rattle.cut_frames.specs.FrameLists.{frame_at, IsFramed}
+use Rattle.cut_frames.specs.FrameLists.{frame_at, IsFramed, AreStronger}
 use Rattle.cut_frames.specs.FrontierGrowth.{Keeps, HasGrown}
 use Rattle.cut_frames.specs.declared.levels.Held.{Held}
 use Rattle.cut_frames.specs.declared.levels.Levels.{Levels}
@@ -69,12 +69,23 @@ module _ (system : System) where
     pub numbers : All (λ (h : Held). h.highest ≤ l.last) l.held.items
     pub framed : IsFramed system (frames_of l)
 
+  -- they are still the frames of the system, as many, and each implies what it was
+  pub record IsTightened (old now : Levels) : Type 0 where
+    pub framed : IsLevelled now
+    pub last : now.last ≡ old.last
+    pub stronger : AreStronger system (frames_of old) (frames_of now)
+
   -- clauses went from frame i to the next, and nothing else changed
   pub record HasMoved (old now : Levels) (i : ℕ) : Type 0 where
     pub last : now.last ≡ old.last
     pub count : length now.held.items ≡ length old.held.items
     pub stays : (k : ℕ) → (held_at now k ≡ held_at old k) ⊎ ((held_at now k).highest ≡ i + 1)
     pub grown : HasGrown system (frames_of old) (frames_of now) i
+
+  -- that, and they are still the frames of the system
+  pub record IsPushedFrom (old now : Levels) (i : ℕ) : Type 0 where
+    pub framed : IsLevelled now
+    pub moved : HasMoved old now i
 
   -- if the clause has this number, a step from the frame breaks it
   abbrev pub IsStuck : Levels → ℕ → Held → Type 0

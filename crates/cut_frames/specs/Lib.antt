@@ -19,3 +19,4 @@ pub mod Parts
 pub mod Minimal
 pub mod KnownSteps
 pub mod LastingClauses
+pub mod Problem

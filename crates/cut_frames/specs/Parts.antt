@@ -8,6 +8,7 @@ use Rattle.cut_frames.specs.Chain.{State, IsFirstState, IsStepOf, Makes, IsOverB
 use Rattle.cut_frames.specs.FrameLists.{InNumber}
 use Rattle.cut_frames.specs.OwnVariables.{IsKept}
 use Rattle.cut_frames.specs.declared.guarded.Guarded.{Guarded}
+use Rattle.cut_frames.specs.declared.smaller.Cores.{Cores}
 
 module _ (system : System) where
   -- each first state makes the clause true
@@ -25,6 +26,22 @@ module _ (system : System) where
   -- every first state gives each bit the value that is told for it, if one is
   abbrev pub AreAgreed : List (Option Bool) → Type 0
   AreAgreed values = (x : ℕ) (b : Bool) → slice_index_or values x None ≡ Some b → IsAgreed x b
+
+  -- a clause over state bits without a literal and its opposite
+  pub record IsStateClause (c : List Literal) : Type 0 where
+    pub over_bits : IsOverBits system c
+    pub apart : HasNoOpposites c
+
+  -- parts of a clause: one that each first state makes true, and one that each step from the frame before that of a number does
+  pub record AreCores (frames : List (List (List Literal))) (level : ℕ) (c : List Literal) (cores : Cores) : Type 0 where
+    pub first : IsPart cores.first c × IsOfFirst cores.first
+    pub after : IsPart cores.after c × IsAfter frames level cores.after
+
+  -- a part of a clause that each first state makes true, and that has all literals of another part
+  pub record IsEnough (c rest d : List Literal) : Type 0 where
+    pub part : IsPart d c
+    pub first : IsOfFirst d
+    pub after : IsPart rest d
 
   -- a clause that may be put into the frames up to a number
   pub record MayStand (frames : List (List (List Literal))) (level : ℕ) (c : List Literal) : Type 0 where

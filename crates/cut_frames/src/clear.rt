@@ -3,15 +3,15 @@
 //! state leads to an obligation, a clause blocks it in the frames up to its own: of the literals of two cores, one of
 //! the first states and one of the steps, as few as are needed. A bad state is shrunk before it is an obligation. Once it is blocked,
 //! what was blocked on the way is tried in higher frames ([`crate::raise`]). `clear_noting` is the main function.
-ghost use Rattle.std.specs.Prelude.{◌≡◌, ◌≤◌, ◌<◌, ◌+◌, ◌-◌, map, All, IfOk, OnOk, OnErr};
+ghost use Rattle.std.specs.Prelude.{◌≡◌, ◌≤◌, ◌<◌, ◌+◌, ◌-◌, map, IfOk, OnOk, OnErr};
 ghost use Rattle.sat_clauses.specs.Literal.{opposite};
-ghost use Rattle.cut_frames.specs.Bits.{literals_from, moved_back};
-ghost use Rattle.cut_frames.specs.Condition.{IsFit, IsOverNow};
+ghost use Rattle.cut_frames.specs.Bits.{literals_from};
 ghost use Rattle.cut_frames.specs.GuardedSearch.{HasAsked};
-ghost use Rattle.cut_frames.specs.Minimal.{IsPlain, FindsMinimal};
-ghost use Rattle.cut_frames.specs.Parts.{IsPart, IsOfFirst, IsAfter, AreAgreed, HoldsFrames};
-ghost use Rattle.cut_frames.specs.FrameLists.{AreStronger, InNumber};
-ghost use Rattle.cut_frames.specs.Levels.{frames_of, with_clause, IsLevelled};
+ghost use Rattle.cut_frames.specs.Minimal.{FindsMinimal};
+ghost use Rattle.cut_frames.specs.Parts.{IsPart, IsOfFirst, AreAgreed, AreCores, HoldsFrames};
+ghost use Rattle.cut_frames.specs.FrameLists.{InNumber};
+ghost use Rattle.cut_frames.specs.Levels.{frames_of, with_clause, IsLevelled, IsTightened};
+ghost use Rattle.cut_frames.specs.Problem.{IsWellPosed, IsFrameAt};
 ghost use Rattle.cut_frames.specs.ClearLooks.{Blocks, IsBadLook, IsStepLook, IsLook, IsCleared};
 ghost use Rattle.cut_frames.specs.Chain.{IsState, IsOverBits};
 ghost use Rattle.cut_frames.specs.Path.{AreOwed};
@@ -22,16 +22,15 @@ use crate::fresh::freshen;
 use crate::guarded::{Beside, Guarded};
 use crate::levels::Levels;
 use crate::outline::Outline;
+use crate::problem::{FrameAt, Problem};
 use crate::raise::raise_all;
 use crate::shrink::shrink;
-use crate::smaller::{chosen, smaller};
+use crate::smaller::{Cores, chosen, smaller};
 use crate::steps::StepList;
 use base_values::OutOfMemory;
 use sat_adviser::Panel;
-use sat_clauses::System;
 use sat_clauses::assign::Assign;
-use sat_clauses::clause::{Clause, ClauseList};
-use sat_clauses::lit::Lit;
+use sat_clauses::clause::Clause;
 use sat_solver::solve::Verdict;
 
 /// What is found where the frames are looked at once.
@@ -58,27 +57,24 @@ pub enum Cleared {
 
 /// Looks for a bad state in the last frame, one that makes as few of the history literals true as any that make no other of them true.
 fn look_for_bad(
-    system: &System,
+    problem: Problem<'_>,
     frames: &Levels,
-    bad: &ClauseList,
-    history: &[Lit],
     kept: &mut Guarded,
     panel: &mut Panel,
 ) -> Result<Look, OutOfMemory>
-    requires fit { IsFit system.now }
-    requires framed { IsLevelled system.now frames.now }
-    requires history { IsOverBits system.now history.now }
-    requires positive { All IsPlain history.now }
-    requires kept { IsKept system.now bad.now (frames_of frames.now) kept.old }
-    ensures look { IfOk result (λ look. IsBadLook system.now bad.now (frames_of frames.now) look) }
-    ensures minimal { IfOk result (FindsMinimal system.now bad.now (frames_of frames.now) history.now) }
-    ensures kept { IfOk result (λ _. IsKept system.now bad.now (frames_of frames.now) kept.new) }
+    requires problem { IsWellPosed problem }
+    requires framed { IsLevelled problem.system.now frames.now }
+    requires kept { IsKept problem.system.now problem.bad.now (frames_of frames.now) kept.old }
+    ensures look { IfOk result (λ look. IsBadLook problem.entry.system.now problem.entry.bad.now (frames_of frames.now) look) }
+    ensures minimal { IfOk result
+        (FindsMinimal problem.entry.system.now problem.entry.bad.now (frames_of frames.now) problem.entry.history.now) }
+    ensures kept { IfOk result (λ _. IsKept problem.entry.system.now problem.entry.bad.now (frames_of frames.now) kept.new) }
 {
     match kept.ask(Beside::Bad, frames.last, &[], panel)? {
         Verdict::Unsat(_core) => Ok(Look::Nothing),
         Verdict::Sat(values) => {
-            let least = shrink(system, frames, bad, history, values, kept, panel)?;
-            let moment = state_moment(*frames.held.allocator(), system, &least)?;
+            let least = shrink(problem, frames, values, kept, panel)?;
+            let moment = state_moment(*frames.held.allocator(), problem.system, &least)?;
             Ok(Look::Deeper(moment))
         }
     }
@@ -87,36 +83,26 @@ fn look_for_bad(
 /// A clause that blocks a state, of literals that every first state needs and of those that steps from the frame before need.
 fn blocking(
     outline: &mut Outline,
-    system: &System,
-    frames: &Levels,
-    level: usize,
+    at: FrameAt<'_>,
     state: &State,
-    first: &Clause,
-    core: &Clause,
+    cores: &Cores,
     kept: &mut Guarded,
     panel: &mut Panel,
 ) -> Result<Clause, OutOfMemory>
-    requires fit { IsFit system.now }
-    requires framed { IsLevelled system.now frames.now }
-    requires agreed { AreAgreed system.now outline.old.agreed.items }
-    requires some { 0 < level }
-    requires level { level ≤ frames.now.last }
-    requires state { IsState system.now state.now }
-    requires first { IsPart first.now (map opposite (literals_from 2 state.now)) × IsOfFirst system.now first.now }
-    requires core { IsPart core.now (map opposite (literals_from (system.now.state_bits + 2) state.now)) }
-    requires after { IsAfter system.now (frames_of frames.now) level (map (moved_back system.now.state_bits) core.now) }
-    requires kept { HoldsFrames system.now (frames_of frames.now) kept.old }
+    requires at { IsFrameAt at }
+    requires agreed { AreAgreed at.system.now outline.old.agreed.items }
+    requires state { IsState at.system.now state.now }
+    requires cores { AreCores at.system.now (frames_of at.frames.now) at.level (map opposite (literals_from 2 state.now)) cores.now }
+    requires kept { HoldsFrames at.system.now (frames_of at.frames.now) kept.old }
     ensures same { outline.new.agreed.items ≡ outline.old.agreed.items }
-    ensures blocks { IfOk result (Blocks system.now (frames_of frames.now) level state.now) }
+    ensures blocks { IfOk result (Blocks at.entry.system.now (frames_of at.entry.frames.now) at.entry.level state.now) }
     ensures asked { IfOk result (λ _. HasAsked kept.old kept.new) }
 {
-    let alloc = *frames.held.allocator();
-    let bits = u64::from(system.state_bits);
+    let alloc = *at.frames.held.allocator();
+    let bits = u64::from(at.system.state_bits);
     let broken = broken_by(alloc, state.as_slice())?;
-    let none = Clause::from_lits(alloc, &[])?;
-    let after = join(alloc, bits, &none, core)?;
-    let clause = chosen(alloc, bits, &broken, first, &after)?;
-    let least = smaller(outline, system, frames, level, clause, kept, panel)?;
+    let clause = chosen(alloc, bits, &broken, &cores.first, &cores.after)?;
+    let least = smaller(outline, at, clause, kept, panel)?;
     outline.weights.note(least.lits())?;
     Ok(least)
 }
@@ -124,37 +110,34 @@ fn blocking(
 /// Looks from a state of the frame of a number, which is no first state, for one before it.
 fn look_for_step(
     outline: &mut Outline,
-    system: &System,
-    frames: &Levels,
-    level: usize,
+    at: FrameAt<'_>,
     state: &State,
-    first: &Clause,
+    first: Clause,
     kept: &mut Guarded,
     panel: &mut Panel,
 ) -> Result<Look, OutOfMemory>
-    requires fit { IsFit system.now }
-    requires framed { IsLevelled system.now frames.now }
-    requires agreed { AreAgreed system.now outline.old.agreed.items }
-    requires some { 0 < level }
-    requires level { level ≤ frames.now.last }
-    requires state { IsState system.now state.now }
-    requires first { IsPart first.now (map opposite (literals_from 2 state.now)) × IsOfFirst system.now first.now }
-    requires kept { HoldsFrames system.now (frames_of frames.now) kept.old }
+    requires at { IsFrameAt at }
+    requires agreed { AreAgreed at.system.now outline.old.agreed.items }
+    requires state { IsState at.system.now state.now }
+    requires first { IsPart first (map opposite (literals_from 2 state.now)) × IsOfFirst at.system.now first }
+    requires kept { HoldsFrames at.system.now (frames_of at.frames.now) kept.old }
     ensures same { outline.new.agreed.items ≡ outline.old.agreed.items }
-    ensures look { IfOk result (λ look. IsStepLook system.now (frames_of frames.now) level state.now look) }
+    ensures look { IfOk result (λ look. IsStepLook at.entry.system.now (frames_of at.entry.frames.now) at.entry.level state.now look) }
     ensures asked { IfOk result (λ _. HasAsked kept.old kept.new) }
 {
-    let alloc = *frames.held.allocator();
-    let next = literals(alloc, u64::from(system.state_bits) + 2, state.as_slice())?;
-    match kept.ask(Beside::Step, level - 1, next.as_slice(), panel)? {
+    let alloc = *at.frames.held.allocator();
+    let bits = u64::from(at.system.state_bits);
+    let next = literals(alloc, bits + 2, state.as_slice())?;
+    match kept.ask(Beside::Step, at.level - 1, next.as_slice(), panel)? {
         Verdict::Sat(values) => {
-            let moment = step_moment(alloc, system, &values)?;
+            let moment = step_moment(alloc, at.system, &values)?;
             Ok(Look::Deeper(moment))
         }
         Verdict::Unsat(core) => {
-            let clause = blocking(
-                outline, system, frames, level, state, first, &core, kept, panel,
-            )?;
+            let none = Clause::from_lits(alloc, &[])?;
+            let after = join(alloc, bits, &none, &core)?;
+            let cores = Cores { first, after };
+            let clause = blocking(outline, at, state, &cores, kept, panel)?;
             Ok(Look::Blocked(clause))
         }
     }
@@ -163,28 +146,23 @@ fn look_for_step(
 /// Looks from a state for one before it in the frame below that of a number.
 pub fn look_against(
     outline: &mut Outline,
-    system: &System,
-    frames: &Levels,
-    level: usize,
+    at: FrameAt<'_>,
     state: &State,
     kept: &mut Guarded,
     panel: &mut Panel,
 ) -> Result<Look, OutOfMemory>
-    requires fit { IsFit system.now }
-    requires framed { IsLevelled system.now frames.now }
-    requires agreed { AreAgreed system.now outline.old.agreed.items }
-    requires some { 0 < level }
-    requires level { level ≤ frames.now.last }
-    requires state { IsState system.now state.now }
-    requires kept { HoldsFrames system.now (frames_of frames.now) kept.old }
+    requires at { IsFrameAt at }
+    requires agreed { AreAgreed at.system.now outline.old.agreed.items }
+    requires state { IsState at.system.now state.now }
+    requires kept { HoldsFrames at.system.now (frames_of at.frames.now) kept.old }
     ensures same { outline.new.agreed.items ≡ outline.old.agreed.items }
-    ensures look { IfOk result (λ look. IsStepLook system.now (frames_of frames.now) level state.now look) }
+    ensures look { IfOk result (λ look. IsStepLook at.entry.system.now (frames_of at.entry.frames.now) at.entry.level state.now look) }
     ensures asked { IfOk result (λ _. HasAsked kept.old kept.new) }
 {
-    match outline.core_against(system, state, kept, panel)? {
+    match outline.core_against(at.system, state, kept, panel)? {
         None => Ok(Look::IsFirst),
         Some(first) => {
-            let look = look_for_step(outline, system, frames, level, state, &first, kept, panel)?;
+            let look = look_for_step(outline, at, state, first, kept, panel)?;
             Ok(look)
         }
     }
@@ -193,28 +171,24 @@ pub fn look_against(
 /// Looks from a state of the frame of a number for one before it.
 fn look_before(
     outline: &mut Outline,
-    system: &System,
-    frames: &Levels,
-    level: usize,
+    at: FrameAt<'_>,
     state: &State,
     kept: &mut Guarded,
     panel: &mut Panel,
 ) -> Result<Look, OutOfMemory>
-    requires fit { IsFit system.now }
-    requires framed { IsLevelled system.now frames.now }
-    requires agreed { AreAgreed system.now outline.old.agreed.items }
-    requires level { level ≤ frames.now.last }
-    requires state { IsState system.now state.now }
-    requires inside { InNumber system.now (frames_of frames.now) level state.now }
-    requires kept { HoldsFrames system.now (frames_of frames.now) kept.old }
+    requires at { 0 < at.level → IsFrameAt at }
+    requires agreed { AreAgreed at.system.now outline.old.agreed.items }
+    requires state { IsState at.system.now state.now }
+    requires inside { InNumber at.system.now (frames_of at.frames.now) at.level state.now }
+    requires kept { HoldsFrames at.system.now (frames_of at.frames.now) kept.old }
     ensures same { outline.new.agreed.items ≡ outline.old.agreed.items }
-    ensures look { IfOk result (λ look. IsStepLook system.now (frames_of frames.now) level state.now look) }
+    ensures look { IfOk result (λ look. IsStepLook at.entry.system.now (frames_of at.entry.frames.now) at.entry.level state.now look) }
     ensures asked { IfOk result (λ _. HasAsked kept.old kept.new) }
 {
-    if level == 0 {
+    if at.level == 0 {
         return Ok(Look::IsFirst);
     }
-    let look = look_against(outline, system, frames, level, state, kept, panel)?;
+    let look = look_against(outline, at, state, kept, panel)?;
     Ok(look)
 }
 
@@ -230,55 +204,55 @@ fn level_of(frames: &Levels, owed: usize) -> usize
 /// Looks at the newest obligation, or where there is none for a bad state.
 fn look_once(
     outline: &mut Outline,
-    system: &System,
+    problem: Problem<'_>,
     frames: &Levels,
-    bad: &ClauseList,
-    history: &[Lit],
     owed: &[Assign],
     kept: &mut Guarded,
     panel: &mut Panel,
 ) -> Result<Look, OutOfMemory>
-    requires fit { IsFit system.now }
-    requires framed { IsLevelled system.now frames.now }
-    requires agreed { AreAgreed system.now outline.old.agreed.items }
-    requires history { IsOverBits system.now history.now }
-    requires positive { All IsPlain history.now }
-    requires owed { AreOwed system.now bad.now (frames_of frames.now) owed.now }
-    requires kept { IsKept system.now bad.now (frames_of frames.now) kept.old }
+    requires problem { IsWellPosed problem }
+    requires framed { IsLevelled problem.system.now frames.now }
+    requires agreed { AreAgreed problem.system.now outline.old.agreed.items }
+    requires owed { AreOwed problem.system.now problem.bad.now (frames_of frames.now) owed.now }
+    requires kept { IsKept problem.system.now problem.bad.now (frames_of frames.now) kept.old }
     ensures same { outline.new.agreed.items ≡ outline.old.agreed.items }
-    ensures look { IfOk result (λ look. IsLook system.now bad.now (frames_of frames.now) owed.now look) }
-    ensures kept { IfOk result (λ _. IsKept system.now bad.now (frames_of frames.now) kept.new) }
+    ensures look { IfOk result (λ look. IsLook problem.entry.system.now problem.entry.bad.now (frames_of frames.now) owed.now look) }
+    ensures kept { IfOk result (λ _. IsKept problem.entry.system.now problem.entry.bad.now (frames_of frames.now) kept.new) }
 {
     if owed.is_empty() {
-        kept.shun(history);
-        let last = look_for_bad(system, frames, bad, history, kept, panel)?;
+        kept.shun(problem.history);
+        let last = look_for_bad(problem, frames, kept, panel)?;
         return Ok(last);
     }
+    let system = problem.system;
     let level = level_of(frames, owed.len());
     let bits = u64::from(system.state_bits);
     let state = read(*frames.held.allocator(), 2, bits, &owed[owed.len() - 1])?;
-    let look = look_before(outline, system, frames, level, &state, kept, panel)?;
+    let at = FrameAt {
+        system,
+        frames,
+        level,
+    };
+    let look = look_before(outline, at, &state, kept, panel)?;
     Ok(look)
 }
 
 /// Puts a clause into the frames up to a number, in the place of those that say no more, and into the search, where those stay.
 pub fn block(
-    system: &System,
+    problem: Problem<'_>,
     frames: &mut Levels,
-    bad: &ClauseList,
     level: usize,
     clause: Clause,
     kept: &mut Guarded,
 ) -> Result<(), OutOfMemory>
-    requires some { 0 < level }
-    requires level { level ≤ frames.old.last }
-    requires clause { IsOverBits system.now clause }
-    requires kept { IsKept system.now bad.now (frames_of frames.old) kept.old }
-    requires framed { IsLevelled system.now frames.old }
+    requires framed { IsLevelled problem.system.now frames.old }
+    requires level { (0 < level) × (level ≤ frames.old.last) }
+    requires clause { IsOverBits problem.system.now clause }
+    requires kept { IsKept problem.system.now problem.bad.now (frames_of frames.old) kept.old }
     ensures last { frames.new.last ≡ frames.old.last }
     ensures ok { OnOk result (frames.new.held.items ≡ with_clause level clause frames.old.held.items) }
     ensures err { OnErr result (frames.new.held.items ≡ frames.old.held.items) }
-    ensures kept { OnOk result (IsKept system.now bad.now (frames_of frames.new) kept.new) }
+    ensures kept { OnOk result (IsKept problem.entry.system.now problem.entry.bad.now (frames_of frames.new) kept.new) }
 {
     kept.add(level, &clause)?;
     frames.put(level, clause)?;
@@ -288,50 +262,34 @@ pub fn block(
 /// Returns a path from a first state into bad, or that no state of the last frame is bad.
 fn clear_frames(
     outline: &mut Outline,
-    system: &System,
+    problem: Problem<'_>,
     frames: &mut Levels,
-    bad: &ClauseList,
-    history: &[Lit],
     kept: &mut Guarded,
     panel: &mut Panel,
 ) -> Result<Cleared, OutOfMemory>
-    requires fit { IsFit system.now }
-    requires framed { IsLevelled system.now frames.old }
-    requires agreed { AreAgreed system.now outline.old.agreed.items }
-    requires history { IsOverBits system.now history.now }
-    requires positive { All IsPlain history.now }
-    requires bad { All (All (IsOverNow system.now)) bad.now }
-    requires kept { IsKept system.now bad.now (frames_of frames.old) kept.old }
-    ensures framed { IsLevelled system.now frames.new }
-    ensures last { frames.new.last ≡ frames.old.last }
-    ensures stronger { AreStronger system.now (frames_of frames.old) (frames_of frames.new) }
+    requires problem { IsWellPosed problem }
+    requires framed { IsLevelled problem.system.now frames.old }
+    requires agreed { AreAgreed problem.system.now outline.old.agreed.items }
+    requires kept { IsKept problem.system.now problem.bad.now (frames_of frames.old) kept.old }
+    ensures tightened { IsTightened problem.entry.system.now frames.old frames.new }
     ensures same { outline.new.agreed.items ≡ outline.old.agreed.items }
-    ensures cleared { IfOk result (λ answer. IsCleared system.now bad.now (frames_of frames.new) answer) }
-    ensures kept { IfOk result (λ _. IsKept system.now bad.now (frames_of frames.new) kept.new) }
+    ensures cleared { IfOk result (λ answer. IsCleared problem.entry.system.now problem.entry.bad.now (frames_of frames.new) answer) }
+    ensures kept { IfOk result (λ _. IsKept problem.entry.system.now problem.entry.bad.now (frames_of frames.new) kept.new) }
 {
     let mut owed = StepList::new(*frames.held.allocator());
     'looks: loop {
-        freshen(system, frames, bad, kept, panel)?;
-        match look_once(
-            outline,
-            system,
-            frames,
-            bad,
-            history,
-            owed.as_slice(),
-            kept,
-            panel,
-        )? {
+        freshen(problem, frames, kept, panel)?;
+        match look_once(outline, problem, frames, owed.as_slice(), kept, panel)? {
             Look::Nothing => return Ok(Cleared::Clear),
             Look::IsFirst => return Ok(Cleared::Path(owed.reversed())),
             Look::Deeper(moment) => owed.push(moment)?,
             Look::Blocked(clause) => {
                 let level = level_of(frames, owed.len());
-                outline.note_blocked(system, level, owed.as_slice(), frames.last)?;
-                block(system, frames, bad, level, clause, kept)?;
+                outline.note_blocked(problem.system, level, owed.as_slice(), frames.last)?;
+                block(problem, frames, level, clause, kept)?;
                 owed.pop();
                 if owed.is_empty() {
-                    raise_all(outline, system, frames, bad, kept, panel)?;
+                    raise_all(outline, problem, frames, kept, panel)?;
                 }
             }
         }
@@ -342,30 +300,23 @@ fn clear_frames(
 /// frame is bad.
 pub fn clear_noting(
     outline: &mut Outline,
-    system: &System,
+    problem: Problem<'_>,
     frames: &mut Levels,
-    bad: &ClauseList,
-    history: &[Lit],
     kept: &mut Guarded,
     panel: &mut Panel,
 ) -> Result<Cleared, OutOfMemory>
-    requires fit { IsFit system.now }
-    requires framed { IsLevelled system.now frames.old }
-    requires agreed { AreAgreed system.now outline.old.agreed.items }
-    requires history { IsOverBits system.now history.now }
-    requires positive { All IsPlain history.now }
-    requires bad { All (All (IsOverNow system.now)) bad.now }
-    requires kept { IsKept system.now bad.now (frames_of frames.old) kept.old }
-    ensures framed { IsLevelled system.now frames.new }
-    ensures last { frames.new.last ≡ frames.old.last }
-    ensures stronger { AreStronger system.now (frames_of frames.old) (frames_of frames.new) }
+    requires problem { IsWellPosed problem }
+    requires framed { IsLevelled problem.system.now frames.old }
+    requires agreed { AreAgreed problem.system.now outline.old.agreed.items }
+    requires kept { IsKept problem.system.now problem.bad.now (frames_of frames.old) kept.old }
+    ensures tightened { IsTightened problem.entry.system.now frames.old frames.new }
     ensures same { outline.new.agreed.items ≡ outline.old.agreed.items }
-    ensures cleared { IfOk result (λ answer. IsCleared system.now bad.now (frames_of frames.new) answer) }
-    ensures kept { IfOk result (λ _. IsKept system.now bad.now (frames_of frames.new) kept.new) }
+    ensures cleared { IfOk result (λ answer. IsCleared problem.entry.system.now problem.entry.bad.now (frames_of frames.new) answer) }
+    ensures kept { IfOk result (λ _. IsKept problem.entry.system.now problem.entry.bad.now (frames_of frames.new) kept.new) }
 {
-    let answer = clear_frames(outline, system, frames, bad, history, kept, panel)?;
+    let answer = clear_frames(outline, problem, frames, kept, panel)?;
     if let Cleared::Path(path) = &answer {
-        outline.reached.note(system, path)?;
+        outline.reached.note(problem.system, path)?;
     }
     Ok(answer)
 }

@@ -23,6 +23,7 @@ use crate::guarded::Guarded;
 use crate::lasting::Lasting;
 use crate::levels::Levels;
 use crate::outline::Outline;
+use crate::problem::Problem;
 use crate::shown::Seen;
 use base_values::OutOfMemory;
 use sat_adviser::Panel;
@@ -193,12 +194,15 @@ impl Frames {
             self.spent = true;
             return Err(OutOfMemory);
         }
+        let problem = Problem {
+            system: &self.system,
+            bad: &self.bad,
+            history,
+        };
         let answer = clear_noting(
             &mut self.outline,
-            &self.system,
+            problem,
             &mut self.levels,
-            &self.bad,
-            history,
             &mut self.kept,
             panel,
         );
@@ -222,10 +226,14 @@ impl Frames {
         if self.spent {
             return Err(OutOfMemory);
         }
+        let problem = Problem {
+            system: &self.system,
+            bad: &self.bad,
+            history: &[],
+        };
         let answer = advance_frames(
-            &self.system,
+            problem,
             &mut self.levels,
-            &self.bad,
             &mut self.lasting,
             &mut self.seen,
             &mut self.kept,

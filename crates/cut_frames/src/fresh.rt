@@ -3,13 +3,15 @@
 //! makes one over what is alive: the lists of the system, the bad states that are asked about, and each clause of the frames once. The
 //! lists go over as they are, made simpler long before ([`crate::simple`]). So memory is in proportion to what is alive, and no question
 //! pays for what was learned long ago.
-ghost use Rattle.std.specs.Prelude.{◌≡◌, suc, [], ◌∷◌, All, IfOk, OnOk};
+ghost use Rattle.std.specs.Prelude.{◌≡◌, suc, [], ◌∷◌, IfOk, OnOk};
 ghost use Rattle.cut_frames.specs.OwnVariables.{IsKept, AreSimpleFor};
-ghost use Rattle.cut_frames.specs.Condition.{IsFit, IsOverNow};
+ghost use Rattle.cut_frames.specs.Condition.{IsFit};
 ghost use Rattle.cut_frames.specs.Levels.{frames_from, frames_of, IsLevelled};
+ghost use Rattle.cut_frames.specs.Problem.{IsWellPosed};
 
 use crate::guarded::{Guarded, last_place};
 use crate::levels::Levels;
+use crate::problem::Problem;
 use crate::simple::SimpleLists;
 use base_values::OutOfMemory;
 use sat_adviser::Panel;
@@ -79,17 +81,15 @@ fn renewed(
 
 /// Has the search drop what it learned and is of no more use, and makes it anew where it has too many clauses.
 pub fn freshen(
-    system: &System,
+    problem: Problem<'_>,
     frames: &Levels,
-    bad: &ClauseList,
     kept: &mut Guarded,
     panel: &mut Panel,
 ) -> Result<(), OutOfMemory>
-    requires fit { IsFit system.now }
-    requires framed { IsLevelled system.now frames.now }
-    requires bad { All (All (IsOverNow system.now)) bad.now }
-    requires kept { IsKept system.now bad.now (frames_of frames.now) kept.old }
-    ensures { OnOk result (IsKept system.now bad.now (frames_of frames.now) kept.new) }
+    requires problem { IsWellPosed problem }
+    requires framed { IsLevelled problem.system.now frames.now }
+    requires kept { IsKept problem.system.now problem.bad.now (frames_of frames.now) kept.old }
+    ensures { OnOk result (IsKept problem.entry.system.now problem.entry.bad.now (frames_of frames.now) kept.new) }
 {
     kept.forget()?;
     if kept.is_small() {
@@ -97,7 +97,7 @@ pub fn freshen(
     }
     let past = kept.work();
     let lists = kept.take_lists();
-    *kept = renewed(system, frames, bad, lists, panel)?;
+    *kept = renewed(problem.system, frames, problem.bad, lists, panel)?;
     kept.note_past(past);
     Ok(())
 }

@@ -4,15 +4,15 @@
 ghost use Rattle.std.specs.Prelude.{◌≡◌, ◌<◌, ◌-◌, true, false, [], IfOk, OnOk};
 ghost use Rattle.cut_frames.specs.OwnVariables.{IsKept};
 ghost use Rattle.cut_frames.specs.Chain.{State, InFrame};
-ghost use Rattle.cut_frames.specs.FrameLists.{frame_at, InNumber, AreStronger, IsInductive};
+ghost use Rattle.cut_frames.specs.FrameLists.{frame_at, InNumber, IsInductive};
 ghost use Rattle.cut_frames.specs.LastingClauses.{AreLasting};
-ghost use Rattle.cut_frames.specs.Levels.{frames_of, IsLevelled};
+ghost use Rattle.cut_frames.specs.Levels.{frames_of, IsLevelled, IsTightened};
 
 use crate::clear::block;
 use crate::guarded::Guarded;
 use crate::levels::Levels;
+use crate::problem::Problem;
 use base_values::OutOfMemory;
-use sat_clauses::System;
 use sat_clauses::clause::{Clause, ClauseList};
 use std::alloc::Global;
 
@@ -55,54 +55,50 @@ impl Lasting {
 
 /// Puts the clauses of an invariant into the last frame, which each state of the frame before makes true.
 fn put_all(
-    system: &System,
+    problem: Problem<'_>,
     frames: &mut Levels,
-    bad: &ClauseList,
     clauses: &[Clause],
     kept: &mut Guarded,
 ) -> Result<(), OutOfMemory>
-    requires framed { IsLevelled system.now frames.old }
+    requires framed { IsLevelled problem.system.now frames.old }
     requires some { 0 < frames.old.last }
-    requires inductive { IsInductive system.now clauses.now }
-    requires before { (s : State) → InNumber system.now (frames_of frames.old) (frames.old.last - 1) s → InFrame system.now clauses.now s }
-    requires kept { IsKept system.now bad.now (frames_of frames.old) kept.old }
-    ensures framed { IsLevelled system.now frames.new }
-    ensures last { frames.new.last ≡ frames.old.last }
-    ensures stronger { AreStronger system.now (frames_of frames.old) (frames_of frames.new) }
-    ensures implied { OnOk result ((s : State) → InFrame system.now (frame_at (frames_of frames.new) frames.new.last) s →
-        InFrame system.now clauses.now s) }
-    ensures kept { OnOk result (IsKept system.now bad.now (frames_of frames.new) kept.new) }
+    requires inductive { IsInductive problem.system.now clauses.now }
+    requires before { (s : State) → InNumber problem.system.now (frames_of frames.old) (frames.old.last - 1) s →
+        InFrame problem.system.now clauses.now s }
+    requires kept { IsKept problem.system.now problem.bad.now (frames_of frames.old) kept.old }
+    ensures tightened { IsTightened problem.entry.system.now frames.old frames.new }
+    ensures implied { OnOk result ((s : State) → InFrame problem.entry.system.now (frame_at (frames_of frames.new) frames.new.last) s →
+        InFrame problem.entry.system.now clauses.now s) }
+    ensures kept { OnOk result (IsKept problem.entry.system.now problem.entry.bad.now (frames_of frames.new) kept.new) }
 {
     for clause in clauses {
         let level = frames.last;
-        block(system, frames, bad, level, clause.copy()?, kept)?;
+        block(problem, frames, level, clause.copy()?, kept)?;
     }
     Ok(())
 }
 
 /// Puts the clauses that last into the last frame, which is new.
 pub fn refill(
-    system: &System,
+    problem: Problem<'_>,
     frames: &mut Levels,
-    bad: &ClauseList,
     lasting: &Lasting,
     kept: &mut Guarded,
 ) -> Result<(), OutOfMemory>
-    requires framed { IsLevelled system.now frames.old }
+    requires framed { IsLevelled problem.system.now frames.old }
     requires some { 0 < frames.old.last }
-    requires inductive { IsInductive system.now lasting.now.clauses }
-    requires before { lasting.now.is_implied ≡ true → (s : State) → InNumber system.now (frames_of frames.old) (frames.old.last - 1) s →
-        InFrame system.now lasting.now.clauses s }
-    requires kept { IsKept system.now bad.now (frames_of frames.old) kept.old }
-    ensures framed { IsLevelled system.now frames.new }
-    ensures last { frames.new.last ≡ frames.old.last }
-    ensures stronger { AreStronger system.now (frames_of frames.old) (frames_of frames.new) }
+    requires inductive { IsInductive problem.system.now lasting.now.clauses }
+    requires before { lasting.now.is_implied ≡ true → (s : State) →
+        InNumber problem.system.now (frames_of frames.old) (frames.old.last - 1) s → InFrame problem.system.now lasting.now.clauses s }
+    requires kept { IsKept problem.system.now problem.bad.now (frames_of frames.old) kept.old }
+    ensures tightened { IsTightened problem.entry.system.now frames.old frames.new }
     ensures implied { OnOk result (lasting.now.is_implied ≡ true → (s : State) →
-        InFrame system.now (frame_at (frames_of frames.new) frames.new.last) s → InFrame system.now lasting.now.clauses s) }
-    ensures kept { OnOk result (IsKept system.now bad.now (frames_of frames.new) kept.new) }
+        InFrame problem.entry.system.now (frame_at (frames_of frames.new) frames.new.last) s →
+        InFrame problem.entry.system.now lasting.now.clauses s) }
+    ensures kept { OnOk result (IsKept problem.entry.system.now problem.entry.bad.now (frames_of frames.new) kept.new) }
 {
     if !lasting.is_implied {
         return Ok(());
     }
-    put_all(system, frames, bad, lasting.clauses.as_slice(), kept)
+    put_all(problem, frames, lasting.clauses.as_slice(), kept)
 }

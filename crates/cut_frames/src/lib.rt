@@ -44,6 +44,7 @@ mod highest;
 mod lasting;
 mod levels;
 mod outline;
+mod problem;
 mod raise;
 mod reached;
 mod shown;

@@ -2,12 +2,11 @@
 //! which a step leads to it, the lowest frames first. A clause is then found once for many frontiers in place of anew at each, and it says
 //! more; counters and timers gain most. No path comes of it, as a path to a raised state may have more steps than the frontier's number:
 //! where a first state is met, nothing more is raised at this frontier. `raise_all` is the main function.
-ghost use Rattle.std.specs.Prelude.{◌≡◌, ◌≤◌, IfOk, OnOk, All};
-ghost use Rattle.cut_frames.specs.Condition.{IsFit, IsOverNow};
-ghost use Rattle.cut_frames.specs.FrameLists.{AreStronger};
-ghost use Rattle.cut_frames.specs.Levels.{frames_of, IsLevelled};
+ghost use Rattle.std.specs.Prelude.{◌≡◌, ◌≤◌, IfOk, OnOk};
+ghost use Rattle.cut_frames.specs.Levels.{frames_of, IsLevelled, IsTightened};
 ghost use Rattle.cut_frames.specs.OwnVariables.{IsKept};
 ghost use Rattle.cut_frames.specs.Parts.{AreAgreed};
+ghost use Rattle.cut_frames.specs.Problem.{IsWellPosed};
 
 use crate::bits::read;
 use crate::clear::{Look, block, look_against};
@@ -15,12 +14,11 @@ use crate::fresh::freshen;
 use crate::guarded::Guarded;
 use crate::levels::Levels;
 use crate::outline::Outline;
+use crate::problem::{FrameAt, Problem};
 use crate::shown::is_inside;
 use crate::waiting::Waiting;
 use base_values::OutOfMemory;
 use sat_adviser::Panel;
-use sat_clauses::System;
-use sat_clauses::clause::ClauseList;
 
 /// How often states are looked at after a bad state was blocked, beside once for each frame.
 const TURNS: usize = 256;
@@ -29,24 +27,21 @@ const TURNS: usize = 256;
 /// which a step leads to it waits before it.
 fn raise_one(
     outline: &mut Outline,
-    system: &System,
+    problem: Problem<'_>,
     frames: &mut Levels,
-    bad: &ClauseList,
     next: Waiting,
     kept: &mut Guarded,
     panel: &mut Panel,
 ) -> Result<(), OutOfMemory>
-    requires fit { IsFit system.now }
-    requires framed { IsLevelled system.now frames.old }
-    requires agreed { AreAgreed system.now outline.old.agreed.items }
-    requires bad { All (All (IsOverNow system.now)) bad.now }
-    requires kept { IsKept system.now bad.now (frames_of frames.old) kept.old }
-    ensures framed { IsLevelled system.now frames.new }
-    ensures last { frames.new.last ≡ frames.old.last }
-    ensures stronger { AreStronger system.now (frames_of frames.old) (frames_of frames.new) }
+    requires problem { IsWellPosed problem }
+    requires framed { IsLevelled problem.system.now frames.old }
+    requires agreed { AreAgreed problem.system.now outline.old.agreed.items }
+    requires kept { IsKept problem.system.now problem.bad.now (frames_of frames.old) kept.old }
+    ensures tightened { IsTightened problem.entry.system.now frames.old frames.new }
     ensures same { outline.new.agreed.items ≡ outline.old.agreed.items }
-    ensures kept { OnOk result (IsKept system.now bad.now (frames_of frames.new) kept.new) }
+    ensures kept { OnOk result (IsKept problem.entry.system.now problem.entry.bad.now (frames_of frames.new) kept.new) }
 {
+    let system = problem.system;
     let bits = u64::from(system.state_bits);
     let (level, last) = (next.level, frames.last);
     if level == 0 || level > last || next.state.as_slice().len() as u64 != bits {
@@ -55,7 +50,12 @@ fn raise_one(
     if !is_inside(frames, level, &next.state) {
         return outline.raised.put_back(next.above(), last);
     }
-    match look_against(outline, system, frames, level, &next.state, kept, panel)? {
+    let at = FrameAt {
+        system,
+        frames,
+        level,
+    };
+    match look_against(outline, at, &next.state, kept, panel)? {
         Look::Nothing | Look::IsFirst => outline.raised.stop(last),
         Look::Deeper(moment) => {
             let before = read(*frames.held.allocator(), 2, bits, &moment)?;
@@ -63,7 +63,7 @@ fn raise_one(
             outline.raised.put_before(level, before, last)?;
         }
         Look::Blocked(clause) => {
-            block(system, frames, bad, level, clause, kept)?;
+            block(problem, frames, level, clause, kept)?;
             outline.raised.put_back(next.above(), last)?;
         }
     }
@@ -73,30 +73,26 @@ fn raise_one(
 /// Looks at the states that wait, as often as the limit allows, and drops those that are left.
 pub fn raise_all(
     outline: &mut Outline,
-    system: &System,
+    problem: Problem<'_>,
     frames: &mut Levels,
-    bad: &ClauseList,
     kept: &mut Guarded,
     panel: &mut Panel,
 ) -> Result<(), OutOfMemory>
-    requires fit { IsFit system.now }
-    requires framed { IsLevelled system.now frames.old }
-    requires agreed { AreAgreed system.now outline.old.agreed.items }
-    requires bad { All (All (IsOverNow system.now)) bad.now }
-    requires kept { IsKept system.now bad.now (frames_of frames.old) kept.old }
-    ensures framed { IsLevelled system.now frames.new }
-    ensures last { frames.new.last ≡ frames.old.last }
-    ensures stronger { AreStronger system.now (frames_of frames.old) (frames_of frames.new) }
+    requires problem { IsWellPosed problem }
+    requires framed { IsLevelled problem.system.now frames.old }
+    requires agreed { AreAgreed problem.system.now outline.old.agreed.items }
+    requires kept { IsKept problem.system.now problem.bad.now (frames_of frames.old) kept.old }
+    ensures tightened { IsTightened problem.entry.system.now frames.old frames.new }
     ensures same { outline.new.agreed.items ≡ outline.old.agreed.items }
-    ensures kept { OnOk result (IsKept system.now bad.now (frames_of frames.new) kept.new) }
+    ensures kept { OnOk result (IsKept problem.entry.system.now problem.entry.bad.now (frames_of frames.new) kept.new) }
 {
     let turns = frames.last.saturating_add(TURNS);
     for _ in 0..turns {
         let Some(next) = outline.raised.take() else {
             return Ok(());
         };
-        freshen(system, frames, bad, kept, panel)?;
-        raise_one(outline, system, frames, bad, next, kept, panel)?;
+        freshen(problem, frames, kept, panel)?;
+        raise_one(outline, problem, frames, next, kept, panel)?;
     }
     outline.raised.clear();
     Ok(())

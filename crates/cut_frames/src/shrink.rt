@@ -6,22 +6,19 @@ ghost use Rattle.std.specs.Prelude.{◌≡◌, ◌≤◌, ◌<◌, ◌^◌, ◌+
 ghost use Rattle.cut_frames.specs.Parts.{IsPart};
 ghost use Rattle.sat_clauses.specs.Literal.{opposite};
 ghost use Rattle.sat_clauses.specs.Models.{literal_value};
-ghost use Rattle.cut_frames.specs.OwnVariables.{IsKept, IsFound};
+ghost use Rattle.cut_frames.specs.OwnVariables.{IsKept};
 ghost use Rattle.cut_frames.specs.Bits.{values_of};
-ghost use Rattle.cut_frames.specs.Chain.{IsOverBits};
-ghost use Rattle.cut_frames.specs.Condition.{IsFit};
 ghost use Rattle.cut_frames.specs.Levels.{frames_of, IsLevelled};
-ghost use Rattle.cut_frames.specs.Minimal.{IsPlain, given_up, IsWithin, IsNeeded};
-ghost use Rattle.cut_frames.specs.declared.guarded.Beside.TheVariants.{Bad};
+ghost use Rattle.cut_frames.specs.Minimal.{given_up};
+ghost use Rattle.cut_frames.specs.Problem.{IsWellPosed, IsBadFound, IsLess, AreNeeded};
 
 use crate::bits::value;
 use crate::guarded::{Beside, Guarded};
 use crate::levels::Levels;
+use crate::problem::Problem;
 use base_values::OutOfMemory;
 use sat_adviser::Panel;
-use sat_clauses::System;
 use sat_clauses::assign::Assign;
-use sat_clauses::clause::ClauseList;
 use sat_clauses::lit::Lit;
 use sat_solver::solve::Verdict;
 use std::alloc::Global;
@@ -58,32 +55,25 @@ fn assumed(
 /// Values of a bad state of the last frame that make no more of the literals true than these, and not this one, where there are any; else
 /// these.
 fn without_one(
-    system: &System,
+    problem: Problem<'_>,
     frames: &Levels,
-    bad: &ClauseList,
-    history: &[Lit],
     lit: Lit,
     values: Assign,
     kept: &mut Guarded,
     panel: &mut Panel,
 ) -> Result<Assign, OutOfMemory>
-    requires fit { IsFit system.now }
-    requires framed { IsLevelled system.now frames.now }
-    requires history { IsOverBits system.now history.now }
-    requires positive { All IsPlain history.now }
-    requires one { Contains history.now lit }
-    requires values { IsFound system.now bad.now (frames_of frames.now) Bad frames.now.last [] values }
-    requires kept { IsKept system.now bad.now (frames_of frames.now) kept.old }
-    ensures values { IfOk result (λ found. IsFound system.now bad.now (frames_of frames.now) Bad frames.now.last [] found) }
-    ensures within { IfOk result (λ found. IsWithin history.now (values_of found) (values_of values)) }
-    ensures needed { IfOk result
-        (λ found. IsNeeded system.now bad.now (frames_of frames.now) history.now frames.now.last (values_of found) lit) }
-    ensures kept { IfOk result (λ _. IsKept system.now bad.now (frames_of frames.now) kept.new) }
+    requires problem { IsWellPosed problem }
+    requires framed { IsLevelled problem.system.now frames.now }
+    requires one { Contains problem.history.now lit }
+    requires values { IsBadFound problem frames.now values }
+    requires kept { IsKept problem.system.now problem.bad.now (frames_of frames.now) kept.old }
+    ensures less { IfOk result (λ found. IsLess problem.entry frames.now lit values found) }
+    ensures kept { IfOk result (λ _. IsKept problem.entry.system.now problem.entry.bad.now (frames_of frames.now) kept.new) }
 {
     if !is_true(&values, lit) {
         return Ok(values);
     }
-    let all = assumed(*frames.held.allocator(), history, &values, lit)?;
+    let all = assumed(*frames.held.allocator(), problem.history, &values, lit)?;
     match kept.ask(Beside::Bad, frames.last, all.as_slice(), panel)? {
         Verdict::Sat(found) => Ok(found),
         Verdict::Unsat(_core) => Ok(values),
@@ -140,24 +130,20 @@ fn assumed_first(
 
 /// Values of a bad state of the last frame that give up so many of the literals at once, where there are any.
 fn without_first(
-    system: &System,
+    problem: Problem<'_>,
     frames: &Levels,
-    bad: &ClauseList,
-    history: &[Lit],
     values: &Assign,
     size: usize,
     kept: &mut Guarded,
     panel: &mut Panel,
 ) -> Result<Option<Assign>, OutOfMemory>
-    requires fit { IsFit system.now }
-    requires framed { IsLevelled system.now frames.now }
-    requires history { IsOverBits system.now history.now }
-    requires positive { All IsPlain history.now }
-    requires kept { IsKept system.now bad.now (frames_of frames.now) kept.old }
-    ensures values { IfOk result (λ r. IfSome r (λ found. IsFound system.now bad.now (frames_of frames.now) Bad frames.now.last [] found)) }
-    ensures kept { IfOk result (λ _. IsKept system.now bad.now (frames_of frames.now) kept.new) }
+    requires problem { IsWellPosed problem }
+    requires framed { IsLevelled problem.system.now frames.now }
+    requires kept { IsKept problem.system.now problem.bad.now (frames_of frames.now) kept.old }
+    ensures values { IfOk result (λ r. IfSome r (λ found. IsBadFound problem.entry frames.now found)) }
+    ensures kept { IfOk result (λ _. IsKept problem.entry.system.now problem.entry.bad.now (frames_of frames.now) kept.new) }
 {
-    let all = assumed_first(*frames.held.allocator(), history, values, size)?;
+    let all = assumed_first(*frames.held.allocator(), problem.history, values, size)?;
     match kept.ask(Beside::Bad, frames.last, all.as_slice(), panel)? {
         Verdict::Sat(found) => Ok(Some(found)),
         Verdict::Unsat(_core) => Ok(None),
@@ -173,41 +159,29 @@ struct Halves {
 
 /// Half of the literals that are true given up, or as many as the turn before, or half as many as were tried in vain.
 fn halve(
-    system: &System,
+    problem: Problem<'_>,
     frames: &Levels,
-    bad: &ClauseList,
-    history: &[Lit],
     halves: Halves,
     kept: &mut Guarded,
     panel: &mut Panel,
 ) -> Result<Halves, OutOfMemory>
-    requires fit { IsFit system.now }
-    requires framed { IsLevelled system.now frames.now }
-    requires history { IsOverBits system.now history.now }
-    requires positive { All IsPlain history.now }
-    requires values { IsFound system.now bad.now (frames_of frames.now) Bad frames.now.last [] halves.values }
-    requires kept { IsKept system.now bad.now (frames_of frames.now) kept.old }
-    ensures values { IfOk result (λ h. IsFound system.now bad.now (frames_of frames.now) Bad frames.now.last [] h.values) }
-    ensures kept { IfOk result (λ _. IsKept system.now bad.now (frames_of frames.now) kept.new) }
+    requires problem { IsWellPosed problem }
+    requires framed { IsLevelled problem.system.now frames.now }
+    requires values { IsBadFound problem frames.now halves.values }
+    requires kept { IsKept problem.system.now problem.bad.now (frames_of frames.now) kept.old }
+    ensures values { IfOk result (λ h. IsBadFound problem.entry frames.now h.values) }
+    ensures kept { IfOk result (λ _. IsKept problem.entry.system.now problem.entry.bad.now (frames_of frames.now) kept.new) }
 {
-    let size = halves.size.min(count_true(history, &halves.values) / 2);
+    let size = halves
+        .size
+        .min(count_true(problem.history, &halves.values) / 2);
     if size < 2 {
         return Ok(Halves {
             values: halves.values,
             size: 0,
         });
     }
-    let fewer = without_first(
-        system,
-        frames,
-        bad,
-        history,
-        &halves.values,
-        size,
-        kept,
-        panel,
-    )?;
-    match fewer {
+    match without_first(problem, frames, &halves.values, size, kept, panel)? {
         Some(values) => Ok(Halves { values, size }),
         None => Ok(Halves {
             values: halves.values,
@@ -218,61 +192,52 @@ fn halve(
 
 /// Values of a bad state of the last frame that make fewer of the literals true, found by giving up many of them at once.
 fn by_halves(
-    system: &System,
+    problem: Problem<'_>,
     frames: &Levels,
-    bad: &ClauseList,
-    history: &[Lit],
     values: Assign,
     kept: &mut Guarded,
     panel: &mut Panel,
 ) -> Result<Assign, OutOfMemory>
-    requires fit { IsFit system.now }
-    requires framed { IsLevelled system.now frames.now }
-    requires history { IsOverBits system.now history.now }
-    requires positive { All IsPlain history.now }
-    requires values { IsFound system.now bad.now (frames_of frames.now) Bad frames.now.last [] values }
-    requires kept { IsKept system.now bad.now (frames_of frames.now) kept.old }
-    ensures values { IfOk result (λ found. IsFound system.now bad.now (frames_of frames.now) Bad frames.now.last [] found) }
-    ensures kept { IfOk result (λ _. IsKept system.now bad.now (frames_of frames.now) kept.new) }
+    requires problem { IsWellPosed problem }
+    requires framed { IsLevelled problem.system.now frames.now }
+    requires values { IsBadFound problem frames.now values }
+    requires kept { IsKept problem.system.now problem.bad.now (frames_of frames.now) kept.old }
+    ensures values { IfOk result (λ found. IsBadFound problem.entry frames.now found) }
+    ensures kept { IfOk result (λ _. IsKept problem.entry.system.now problem.entry.bad.now (frames_of frames.now) kept.new) }
 {
     let mut halves = Halves {
         values,
-        size: history.len(),
+        size: problem.history.len(),
     };
-    'turns: for _turn in 0..history.len() {
+    'turns: for _turn in 0..problem.history.len() {
         if halves.size < 2 {
             return Ok(halves.values);
         }
-        halves = halve(system, frames, bad, history, halves, kept, panel)?;
+        halves = halve(problem, frames, halves, kept, panel)?;
     }
     Ok(halves.values)
 }
 
 /// Values of a bad state of the last frame that make as few of the literals true as any that make no other of them true than these do.
 pub fn shrink(
-    system: &System,
+    problem: Problem<'_>,
     frames: &Levels,
-    bad: &ClauseList,
-    history: &[Lit],
     values: Assign,
     kept: &mut Guarded,
     panel: &mut Panel,
 ) -> Result<Assign, OutOfMemory>
-    requires fit { IsFit system.now }
-    requires framed { IsLevelled system.now frames.now }
-    requires history { IsOverBits system.now history.now }
-    requires positive { All IsPlain history.now }
-    requires values { IsFound system.now bad.now (frames_of frames.now) Bad frames.now.last [] values }
-    requires kept { IsKept system.now bad.now (frames_of frames.now) kept.old }
-    ensures values { IfOk result (λ found. IsFound system.now bad.now (frames_of frames.now) Bad frames.now.last [] found) }
-    ensures needed { IfOk result
-        (λ found. All (IsNeeded system.now bad.now (frames_of frames.now) history.now frames.now.last (values_of found)) history.now) }
-    ensures kept { IfOk result (λ _. IsKept system.now bad.now (frames_of frames.now) kept.new) }
+    requires problem { IsWellPosed problem }
+    requires framed { IsLevelled problem.system.now frames.now }
+    requires values { IsBadFound problem frames.now values }
+    requires kept { IsKept problem.system.now problem.bad.now (frames_of frames.now) kept.old }
+    ensures values { IfOk result (λ found. IsBadFound problem.entry frames.now found) }
+    ensures needed { IfOk result (AreNeeded problem.entry frames.now) }
+    ensures kept { IfOk result (λ _. IsKept problem.entry.system.now problem.entry.bad.now (frames_of frames.now) kept.new) }
 {
-    let fewer = by_halves(system, frames, bad, history, values, kept, panel)?;
+    let fewer = by_halves(problem, frames, values, kept, panel)?;
     let mut least = fewer;
-    'literals: for i in 0..history.len() {
-        least = without_one(system, frames, bad, history, history[i], least, kept, panel)?;
+    'literals: for i in 0..problem.history.len() {
+        least = without_one(problem, frames, problem.history[i], least, kept, panel)?;
     }
     Ok(least)
 }

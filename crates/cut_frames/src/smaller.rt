@@ -4,21 +4,18 @@
 //! that a path has reached breaks what is left, none is asked. After some tries in vain the clause stays as it is.
 ghost use Rattle.std.specs.Prelude.{◌≡◌, ◌≤◌, ◌<◌, ◌+◌, ◌^◌, ℕ, not, nat_eq, length, IfOk, IfSome, All, true, false, slice_index_or};
 ghost use Rattle.std.specs.Prelude.{filter};
-ghost use Rattle.sat_clauses.specs.Hints.{HasNoOpposites};
-ghost use Rattle.cut_frames.specs.Chain.{IsOverBits};
-ghost use Rattle.cut_frames.specs.Condition.{IsFit};
 ghost use Rattle.cut_frames.specs.GuardedSearch.{HasAsked};
-ghost use Rattle.cut_frames.specs.Levels.{frames_of, IsLevelled};
-ghost use Rattle.cut_frames.specs.Parts.{IsPart, IsOfFirst, IsAfter, AreAgreed, MayStand, HoldsFrames, IsAskable};
+ghost use Rattle.cut_frames.specs.Levels.{frames_of};
+ghost use Rattle.cut_frames.specs.Parts.{IsPart, IsAfter, AreAgreed, IsStateClause, AreCores, IsEnough, MayStand, HoldsFrames};
+ghost use Rattle.cut_frames.specs.Problem.{IsFrameAt};
 
 use crate::bits::{join, turn_next};
 use crate::guarded::{Beside, Guarded};
-use crate::levels::Levels;
 use crate::outline::Outline;
+use crate::problem::FrameAt;
 use crate::weights::Weights;
 use base_values::OutOfMemory;
 use sat_adviser::Panel;
-use sat_clauses::System;
 use sat_clauses::clause::Clause;
 use sat_clauses::lit::Lit;
 use std::alloc::Global;
@@ -90,28 +87,23 @@ fn without(alloc: Global, lits: &[Lit], var: u64) -> Result<Clause, OutOfMemory>
 
 /// Literals of a clause of which each step from the frame before that of a number makes one true; none where a step makes all of them
 /// false.
-pub fn step_core(
-    system: &System,
-    frames: &Levels,
-    level: usize,
+fn step_core(
+    at: FrameAt<'_>,
     clause: &Clause,
     kept: &mut Guarded,
     panel: &mut Panel,
 ) -> Result<Option<Clause>, OutOfMemory>
-    requires fit { IsFit system.now }
-    requires framed { IsLevelled system.now frames.now }
-    requires some { 0 < level }
-    requires level { level ≤ frames.now.last }
-    requires over { IsOverBits system.now clause.now }
-    requires apart { HasNoOpposites clause.now }
-    requires kept { HoldsFrames system.now (frames_of frames.now) kept.old }
-    ensures core { IfOk result (λ r. IfSome r (λ core. IsPart core clause.now × IsAfter system.now (frames_of frames.now) level core)) }
+    requires at { IsFrameAt at }
+    requires clause { IsStateClause at.system.now clause.now }
+    requires kept { HoldsFrames at.system.now (frames_of at.frames.now) kept.old }
+    ensures core { IfOk result (λ r. IfSome r (λ core. IsPart core clause.now
+        × IsAfter at.entry.system.now (frames_of at.entry.frames.now) at.entry.level core)) }
     ensures asked { IfOk result (λ _. HasAsked kept.old kept.new) }
 {
-    let alloc = *frames.held.allocator();
-    let bits = u64::from(system.state_bits);
+    let alloc = *at.frames.held.allocator();
+    let bits = u64::from(at.system.state_bits);
     let against = turn_next(alloc, bits, clause)?;
-    match kept.refute(Beside::Step, level - 1, against.as_slice(), panel)? {
+    match kept.refute(Beside::Step, at.level - 1, against.as_slice(), panel)? {
         None => Ok(None),
         Some(core) => {
             let none = Clause::from_lits(alloc, &[])?;
@@ -121,37 +113,41 @@ pub fn step_core(
     }
 }
 
+/// Parts of a clause that two questions showed.
+#[derive(Drop)]
+pub struct Cores {
+    /// Literals of which every first state makes one true.
+    pub first: Clause,
+    /// Literals of which each step from the frame before makes one true.
+    pub after: Clause,
+}
+
 /// The literals of a clause that are needed for a clause which first states make true, and steps from the frame before: those of the
 /// part that steps make true alone, where first states make it true too.
 fn needed(
     outline: &mut Outline,
-    system: &System,
+    at: FrameAt<'_>,
     clause: &Clause,
-    first: &Clause,
-    after: &Clause,
+    cores: &Cores,
     kept: &mut Guarded,
     panel: &mut Panel,
 ) -> Result<Clause, OutOfMemory>
-    requires fit { IsFit system.now }
-    requires agreed { AreAgreed system.now outline.old.agreed.items }
-    requires over { IsOverBits system.now clause.now }
-    requires apart { HasNoOpposites clause.now }
-    requires first { IsPart first.now clause.now × IsOfFirst system.now first.now }
-    requires after { IsPart after.now clause.now }
-    requires kept { IsAskable system.now kept.old }
+    requires at { IsFrameAt at }
+    requires agreed { AreAgreed at.system.now outline.old.agreed.items }
+    requires clause { IsStateClause at.system.now clause.now }
+    requires cores { AreCores at.system.now (frames_of at.frames.now) at.level clause.now cores.now }
+    requires kept { HoldsFrames at.system.now (frames_of at.frames.now) kept.old }
     ensures same { outline.new.agreed.items ≡ outline.old.agreed.items }
-    ensures part { IfOk result (λ c. IsPart c clause.now) }
-    ensures first { IfOk result (λ c. IsOfFirst system.now c) }
-    ensures after { IfOk result (λ c. IsPart after.now c) }
+    ensures enough { IfOk result (λ c. IsEnough at.entry.system.now clause.now cores.now.after c) }
     ensures asked { IfOk result (λ _. HasAsked kept.old kept.new) }
 {
     let alloc = *outline.agreed.allocator();
-    let bits = u64::from(system.state_bits);
-    let alone = chosen(alloc, bits, clause, after, after)?;
-    match outline.core(system, &alone, kept, panel)? {
+    let bits = u64::from(at.system.state_bits);
+    let alone = chosen(alloc, bits, clause, &cores.after, &cores.after)?;
+    match outline.core(at.system, &alone, kept, panel)? {
         Some(_core) => Ok(alone),
         None => {
-            let both = chosen(alloc, bits, clause, first, after)?;
+            let both = chosen(alloc, bits, clause, &cores.first, &cores.after)?;
             Ok(both)
         }
     }
@@ -160,36 +156,31 @@ fn needed(
 /// A part of a clause that may be put into the frames up to a number, where questions show one.
 fn part_of(
     outline: &mut Outline,
-    system: &System,
-    frames: &Levels,
-    level: usize,
+    at: FrameAt<'_>,
     clause: &Clause,
     kept: &mut Guarded,
     panel: &mut Panel,
 ) -> Result<Option<Clause>, OutOfMemory>
-    requires fit { IsFit system.now }
-    requires framed { IsLevelled system.now frames.now }
-    requires agreed { AreAgreed system.now outline.old.agreed.items }
-    requires some { 0 < level }
-    requires level { level ≤ frames.now.last }
-    requires over { IsOverBits system.now clause.now }
-    requires apart { HasNoOpposites clause.now }
-    requires kept { HoldsFrames system.now (frames_of frames.now) kept.old }
+    requires at { IsFrameAt at }
+    requires agreed { AreAgreed at.system.now outline.old.agreed.items }
+    requires clause { IsStateClause at.system.now clause.now }
+    requires kept { HoldsFrames at.system.now (frames_of at.frames.now) kept.old }
     ensures same { outline.new.agreed.items ≡ outline.old.agreed.items }
     ensures part { IfOk result (λ r. IfSome r (λ c. IsPart c clause.now)) }
-    ensures stands { IfOk result (λ r. IfSome r (MayStand system.now (frames_of frames.now) level)) }
+    ensures stands { IfOk result (λ r. IfSome r (MayStand at.entry.system.now (frames_of at.entry.frames.now) at.entry.level)) }
     ensures asked { IfOk result (λ _. HasAsked kept.old kept.new) }
 {
-    if outline.reached.has_outside(level, clause) {
+    if outline.reached.has_outside(at.level, clause) {
         return Ok(None);
     }
-    let Some(first) = outline.core(system, clause, kept, panel)? else {
+    let Some(first) = outline.core(at.system, clause, kept, panel)? else {
         return Ok(None);
     };
-    let Some(after) = step_core(system, frames, level, clause, kept, panel)? else {
+    let Some(after) = step_core(at, clause, kept, panel)? else {
         return Ok(None);
     };
-    let part = needed(outline, system, clause, &first, &after, kept, panel)?;
+    let cores = Cores { first, after };
+    let part = needed(outline, at, clause, &cores, kept, panel)?;
     Ok(Some(part))
 }
 
@@ -220,30 +211,25 @@ impl Attempt {
 /// into the frames up to the number too.
 fn try_next(
     outline: &mut Outline,
-    system: &System,
-    frames: &Levels,
-    level: usize,
+    at: FrameAt<'_>,
     attempt: Attempt,
     kept: &mut Guarded,
     panel: &mut Panel,
 ) -> Result<Attempt, OutOfMemory>
-    requires fit { IsFit system.now }
-    requires framed { IsLevelled system.now frames.now }
-    requires agreed { AreAgreed system.now outline.old.agreed.items }
-    requires some { 0 < level }
-    requires level { level ≤ frames.now.last }
-    requires stands { MayStand system.now (frames_of frames.now) level attempt.clause }
-    requires kept { HoldsFrames system.now (frames_of frames.now) kept.old }
+    requires at { IsFrameAt at }
+    requires agreed { AreAgreed at.system.now outline.old.agreed.items }
+    requires stands { MayStand at.system.now (frames_of at.frames.now) at.level attempt.clause }
+    requires kept { HoldsFrames at.system.now (frames_of at.frames.now) kept.old }
     ensures same { outline.new.agreed.items ≡ outline.old.agreed.items }
     ensures part { IfOk result (λ a. IsPart a.clause attempt.clause) }
-    ensures stands { IfOk result (λ a. MayStand system.now (frames_of frames.now) level a.clause) }
+    ensures stands { IfOk result (λ a. MayStand at.entry.system.now (frames_of at.entry.frames.now) at.entry.level a.clause) }
     ensures asked { IfOk result (λ _. HasAsked kept.old kept.new) }
 {
     let Some(var) = attempt.next(&outline.weights) else {
         return Ok(attempt);
     };
-    let fewer = without(*frames.held.allocator(), attempt.clause.lits(), var)?;
-    match part_of(outline, system, frames, level, &fewer, kept, panel)? {
+    let fewer = without(*at.frames.held.allocator(), attempt.clause.lits(), var)?;
+    match part_of(outline, at, &fewer, kept, panel)? {
         Some(part) => Ok(Attempt {
             clause: part,
             needed: attempt.needed,
@@ -262,32 +248,27 @@ fn try_next(
 /// A part of a clause that may be put into the frames up to a number, as the clause may: literals are taken out one by one.
 pub fn smaller(
     outline: &mut Outline,
-    system: &System,
-    frames: &Levels,
-    level: usize,
+    at: FrameAt<'_>,
     clause: Clause,
     kept: &mut Guarded,
     panel: &mut Panel,
 ) -> Result<Clause, OutOfMemory>
-    requires fit { IsFit system.now }
-    requires framed { IsLevelled system.now frames.now }
-    requires agreed { AreAgreed system.now outline.old.agreed.items }
-    requires some { 0 < level }
-    requires level { level ≤ frames.now.last }
-    requires stands { MayStand system.now (frames_of frames.now) level clause }
-    requires kept { HoldsFrames system.now (frames_of frames.now) kept.old }
+    requires at { IsFrameAt at }
+    requires agreed { AreAgreed at.system.now outline.old.agreed.items }
+    requires stands { MayStand at.system.now (frames_of at.frames.now) at.level clause }
+    requires kept { HoldsFrames at.system.now (frames_of at.frames.now) kept.old }
     ensures same { outline.new.agreed.items ≡ outline.old.agreed.items }
     ensures part { IfOk result (λ c. IsPart c clause) }
-    ensures stands { IfOk result (MayStand system.now (frames_of frames.now) level) }
+    ensures stands { IfOk result (MayStand at.entry.system.now (frames_of at.entry.frames.now) at.entry.level) }
     ensures asked { IfOk result (λ _. HasAsked kept.old kept.new) }
 {
     let turns = clause.lits().len();
     let mut attempt = Attempt {
         clause,
-        needed: Vec::new(*frames.held.allocator()),
+        needed: Vec::new(*at.frames.held.allocator()),
     };
     'turns: for _turn in 0..turns {
-        attempt = try_next(outline, system, frames, level, attempt, kept, panel)?;
+        attempt = try_next(outline, at, attempt, kept, panel)?;
     }
     Ok(attempt.clause)
 }

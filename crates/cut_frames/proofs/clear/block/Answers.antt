@@ -11,13 +11,13 @@ inside : (k l m n : ℕ) → k ≤ l → m ≡ suc l → n ≡ m → k < n
 inside k l m n le e f = omega (arith, le, e, f)
 
 pub add-requires-clause-within : goal.add-requires-clause-within
-add-requires-clause-within c = inside c.args.level c.args.frames.now.last (length (frames_of c.args.frames.now)) (length c.args.kept.now.frames.items) c.requires.level (length_frames c.args.frames.now) c.requires.kept.count
+add-requires-clause-within c = inside c.args.level c.args.frames.now.last (length (frames_of c.args.frames.now)) (length c.args.kept.now.frames.items) c.requires.level.1 (length_frames c.args.frames.now) c.requires.kept.count
 
 pub add-requires-clause-up_to : goal.add-requires-clause-up_to
-add-requires-clause-up_to c = bits_up_to c.args.system.now c.args.kept.now.places c.args.clause c.requires.kept.places c.requires.clause
+add-requires-clause-up_to c = bits_up_to c.args.problem.system.now c.args.kept.now.places c.args.clause c.requires.kept.places c.requires.clause
 
 pub returns-clause-kept : goal.returns-clause-kept
 returns-clause-kept c =
-    c.in_ok-add.ensures (apart_system c.args.system.now) (apart_list (places_of c.args.system.now) c.args.bad.now) (frames_of c.args.frames.now) (frames_of c.put.new.self) c.requires.kept
+    c.in_ok-add.ensures (apart_system c.args.problem.system.now) (apart_list (places_of c.args.problem.system.now) c.args.problem.bad.now) (frames_of c.args.frames.now) (frames_of c.put.new.self) c.requires.kept
     (put_of c.args.level c.args.clause (frames_of c.args.frames.now) (frames_of c.put.new.self)
-    (gained_put c.args.frames.now c.put.new.self c.args.level c.args.clause c.put.ensures.last c.requires.level c.in_ok-put.ensures.ok))
+    (gained_put c.args.frames.now c.put.new.self c.args.level c.args.clause c.put.ensures.last c.requires.level.1 c.in_ok-put.ensures.ok))

@@ -7,13 +7,13 @@ use Rattle.cut_frames.proofs.PartLemmas.{some_of, asked_more, holds_stays, holds
 use Rattle.cut_frames.proofs.clear.look_against.Goals as goal
 
 pub core_against-requires-clause-kept : goal.core_against-requires-clause-kept
-core_against-requires-clause-kept g c = holds_askable c.args.system.now (frames_of c.args.frames.now) c.args.kept.now c.requires.kept
+core_against-requires-clause-kept g c = holds_askable c.args.at.system.now (frames_of c.args.at.frames.now) c.args.kept.now c.requires.kept
 
 pub look_for_step-requires-clause-first : goal.look_for_step-requires-clause-first
-look_for_step-requires-clause-first g c = some_of c.in_ok-core_against.field-0 c.in-Some.first (λ core. IsPart core (map opposite (literals_from 2 c.args.state.now)) × IsOfFirst c.args.system.now core) c.in-Some.is c.in_ok-core_against.ensures.core
+look_for_step-requires-clause-first g c = some_of c.in_ok-core_against.field-0 c.in-Some.first (λ core. IsPart core (map opposite (literals_from 2 c.args.state.now)) × IsOfFirst c.args.at.system.now core) c.in-Some.is c.in_ok-core_against.ensures.core
 
 pub look_for_step-requires-clause-kept : goal.look_for_step-requires-clause-kept
-look_for_step-requires-clause-kept g c = holds_stays c.args.system.now (frames_of c.args.frames.now) c.args.kept.now c.core_against.new.kept c.requires.kept c.in_ok-core_against.ensures.asked
+look_for_step-requires-clause-kept g c = holds_stays c.args.at.system.now (frames_of c.args.at.frames.now) c.args.kept.now c.core_against.new.kept c.requires.kept c.in_ok-core_against.ensures.asked
 
 pub returns-in-None-clause-look : goal.returns-in-None-clause-look
 returns-in-None-clause-look g c = c.in_ok-core_against.ensures.first c.in-None.is

@@ -11,14 +11,14 @@ positive n e = by_case n e
     by_case zero e = absurd (e refl)
     by_case (suc n) e = omega arith
 
-pub returns-then-level-eq0-clause-look : goal.returns-then-level-eq0-clause-look
-returns-then-level-eq0-clause-look g c = subst (λ (n : ℕ). InNumber c.args.system.now (frames_of c.args.frames.now) n c.args.state.now) c.if-level-eq0.true c.requires.inside
+pub returns-then-at-eq0-clause-look : goal.returns-then-at-eq0-clause-look
+returns-then-at-eq0-clause-look g c = subst (λ (n : ℕ). InNumber c.args.at.system.now (frames_of c.args.at.frames.now) n c.args.state.now) c.if-at-eq0.true c.requires.inside
 
-pub returns-then-level-eq0-clause-asked : goal.returns-then-level-eq0-clause-asked
-returns-then-level-eq0-clause-asked g c = λ system list frames h. h
+pub returns-then-at-eq0-clause-asked : goal.returns-then-at-eq0-clause-asked
+returns-then-at-eq0-clause-asked g c = λ system list frames h. h
 
-pub look_against-requires-clause-some : goal.look_against-requires-clause-some
-look_against-requires-clause-some g c = grind arith
+pub look_against-requires-clause-at : goal.look_against-requires-clause-at
+look_against-requires-clause-at g c = c.requires.at (positive c.args.at.level c.if-at-eq0.false)
 
 pub look_against-requires-clause-kept : goal.look_against-requires-clause-kept
 look_against-requires-clause-kept g c = c.requires.kept

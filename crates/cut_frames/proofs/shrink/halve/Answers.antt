@@ -1,8 +1,5 @@
-use Rattle.std.proofs.Common.{◌≤◌, ◌<◌, ◌+◌, ◌*◌, ◌^◌, [], ℕ, arith, slice_index_or}
-use Rattle.sat_clauses.specs.Assignment.{Assignment}
-use Rattle.cut_frames.specs.Levels.{frames_of}
-use Rattle.cut_frames.specs.OwnVariables.{IsFound}
-use Rattle.cut_frames.specs.declared.guarded.Beside.TheVariants.{Bad}
+use Rattle.std.proofs.Common.{◌≤◌, ◌<◌, ◌+◌, ◌*◌, ◌^◌, ℕ, arith, slice_index_or}
+use Rattle.cut_frames.specs.Problem.{IsBadFound}
 use Rattle.cut_frames.proofs.PartLemmas.{some_of}
 use Rattle.cut_frames.proofs.shrink.halve.Goals as goal
 
@@ -10,7 +7,7 @@ low_var : (x b u : ℕ) → 2 ≤ x → x < b + 2 → 2 * b + u + 1 < 2 ^ 31 →
 low_var x b u le lt fit = (omega (arith, le), omega (arith, lt, fit))
 
 pub count_true-requires : goal.count_true-requires
-count_true-requires g c = λ k d lt. low_var (slice_index_or c.args.history.now k d).var c.args.system.now.state_bits c.args.system.now.input_bits (c.requires.history k d lt).0 (c.requires.history k d lt).1 c.requires.fit.bits
+count_true-requires g c = λ k d lt. low_var (slice_index_or c.args.problem.history.now k d).var c.args.problem.system.now.state_bits c.args.problem.system.now.input_bits (c.requires.problem.history k d lt).0 (c.requires.problem.history k d lt).1 c.requires.problem.fit.bits
 
 pub returns-then-size-lt2-clause-values : goal.returns-then-size-lt2-clause-values
 returns-then-size-lt2-clause-values g c = c.requires.values
@@ -19,13 +16,13 @@ pub returns-then-size-lt2-clause-kept : goal.returns-then-size-lt2-clause-kept
 returns-then-size-lt2-clause-kept g c = c.requires.kept
 
 pub returns-in-Some-clause-values : goal.returns-in-Some-clause-values
-returns-in-Some-clause-values g c = some_of c.in_ok-fewer.fewer c.in-Some.values (λ (found : Assignment). IsFound c.args.system.now c.args.bad.now (frames_of c.args.frames.now) Bad c.args.frames.now.last [] found) c.in-Some.is c.in_ok-fewer.ensures.values
+returns-in-Some-clause-values g c = some_of c.in_ok-values.field-0 c.in-Some.values (IsBadFound c.args.problem c.args.frames.now) c.in-Some.is c.in_ok-values.ensures.values
 
 pub returns-in-Some-clause-kept : goal.returns-in-Some-clause-kept
-returns-in-Some-clause-kept g c = c.in_ok-fewer.ensures.kept
+returns-in-Some-clause-kept g c = c.in_ok-values.ensures.kept
 
 pub returns-in-None-clause-values : goal.returns-in-None-clause-values
 returns-in-None-clause-values g c = c.requires.values
 
 pub returns-in-None-clause-kept : goal.returns-in-None-clause-kept
-returns-in-None-clause-kept g c = c.in_ok-fewer.ensures.kept
+returns-in-None-clause-kept g c = c.in_ok-values.ensures.kept

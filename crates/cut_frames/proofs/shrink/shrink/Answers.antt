@@ -13,7 +13,7 @@ pub literals-init : goal.literals-init
 literals-init g c = (c.in_ok-fewer.ensures.values, (λ k d lt. absurd (omega (arith, lt))), c.in_ok-fewer.ensures.kept)
 
 pub without_one-requires-clause-one : goal.without_one-requires-clause-one
-without_one-requires-clause-one g c = (c.literals.i, c.literals-test.true, sym c.index-history-i.is)
+without_one-requires-clause-one g c = (c.literals.i, c.literals-test.true, sym c.index-problem-i.is)
 
 pub without_one-requires-clause-values : goal.without_one-requires-clause-values
 without_one-requires-clause-values g c = c.literals.invariant.0
@@ -23,13 +23,13 @@ without_one-requires-clause-kept g c = c.literals.invariant.2
 
 pub literals-preserved : goal.literals-preserved
 literals-preserved g c =
-    let lit = c.index-history-i.result in
-    let next : take (c.literals.i + 1) c.args.history.now ≡ take c.literals.i c.args.history.now ++ lit ∷ [] = take_more c.args.history.now c.literals.i lit c.literals-test.true ∙ ap (λ (l : Literal). take c.literals.i c.args.history.now ++ l ∷ []) (sym c.index-history-i.is) in (
-      c.in_ok-least.ensures.values,
-      subst (All (IsNeeded c.args.system.now c.args.bad.now (frames_of c.args.frames.now) c.args.history.now c.args.frames.now.last (values_of c.in_ok-least.least))) (sym next)
-          (All-append (IsNeeded c.args.system.now c.args.bad.now (frames_of c.args.frames.now) c.args.history.now c.args.frames.now.last (values_of c.in_ok-least.least)) (take c.literals.i c.args.history.now) (lit ∷ [])
-          (all_less c.args.system.now c.args.bad.now (frames_of c.args.frames.now) c.args.history.now c.args.frames.now.last (values_of c.literals.least) (values_of c.in_ok-least.least) (take c.literals.i c.args.history.now) (take_part c.literals.i c.args.history.now) c.in_ok-least.ensures.within c.literals.invariant.1)
-          (one_all (IsNeeded c.args.system.now c.args.bad.now (frames_of c.args.frames.now) c.args.history.now c.args.frames.now.last (values_of c.in_ok-least.least)) lit c.in_ok-least.ensures.needed)),
+    let lit = c.index-problem-i.result in
+    let next : take (c.literals.i + 1) c.args.problem.history.now ≡ take c.literals.i c.args.problem.history.now ++ lit ∷ [] = take_more c.args.problem.history.now c.literals.i lit c.literals-test.true ∙ ap (λ (l : Literal). take c.literals.i c.args.problem.history.now ++ l ∷ []) (sym c.index-problem-i.is) in (
+      c.in_ok-least.ensures.less.values,
+      subst (All (IsNeeded c.args.problem.system.now c.args.problem.bad.now (frames_of c.args.frames.now) c.args.problem.history.now c.args.frames.now.last (values_of c.in_ok-least.least))) (sym next)
+          (All-append (IsNeeded c.args.problem.system.now c.args.problem.bad.now (frames_of c.args.frames.now) c.args.problem.history.now c.args.frames.now.last (values_of c.in_ok-least.least)) (take c.literals.i c.args.problem.history.now) (lit ∷ [])
+          (all_less c.args.problem.system.now c.args.problem.bad.now (frames_of c.args.frames.now) c.args.problem.history.now c.args.frames.now.last (values_of c.literals.least) (values_of c.in_ok-least.least) (take c.literals.i c.args.problem.history.now) (take_part c.literals.i c.args.problem.history.now) c.in_ok-least.ensures.less.within c.literals.invariant.1)
+          (one_all (IsNeeded c.args.problem.system.now c.args.problem.bad.now (frames_of c.args.frames.now) c.args.problem.history.now c.args.frames.now.last (values_of c.in_ok-least.least)) lit c.in_ok-least.ensures.less.needed)),
       c.in_ok-least.ensures.kept,
     )
 
@@ -37,7 +37,7 @@ pub returns-clause-values : goal.returns-clause-values
 returns-clause-values g c = c.literals.invariant.0
 
 pub returns-clause-needed : goal.returns-clause-needed
-returns-clause-needed g c = subst (All (IsNeeded c.args.system.now c.args.bad.now (frames_of c.args.frames.now) c.args.history.now c.args.frames.now.last (values_of c.literals.least))) (take_all c.literals.i c.args.history.now c.literals-test.false) c.literals.invariant.1
+returns-clause-needed g c = subst (All (IsNeeded c.args.problem.system.now c.args.problem.bad.now (frames_of c.args.frames.now) c.args.problem.history.now c.args.frames.now.last (values_of c.literals.least))) (take_all c.literals.i c.args.problem.history.now c.literals-test.false) c.literals.invariant.1
 
 pub returns-clause-kept : goal.returns-clause-kept
 returns-clause-kept g c = c.literals.invariant.2

@@ -21,7 +21,7 @@ low_var : (x b u : ℕ) → 2 ≤ x → x < b + 2 → 2 * b + u + 1 < 2 ^ 31 →
 low_var x b u le lt fit = (omega (arith, le), omega (arith, lt, fit))
 
 pub assumed_first-requires : goal.assumed_first-requires
-assumed_first-requires g c = λ k d lt. low_var (slice_index_or c.args.history.now k d).var c.args.system.now.state_bits c.args.system.now.input_bits (c.requires.history k d lt).0 (c.requires.history k d lt).1 c.requires.fit.bits
+assumed_first-requires g c = λ k d lt. low_var (slice_index_or c.args.problem.history.now k d).var c.args.problem.system.now.state_bits c.args.problem.system.now.input_bits (c.requires.problem.history k d lt).0 (c.requires.problem.history k d lt).1 c.requires.problem.fit.bits
 
 pub ask-requires-clause-well : goal.ask-requires-clause-well
 ask-requires-clause-well g c = c.requires.kept.well
@@ -31,19 +31,19 @@ ask-requires-clause-frame g c = inside c.args.frames.now.last (length (frames_of
 
 pub ask-requires-clause-up_to : goal.ask-requires-clause-up_to
 ask-requires-clause-up_to g c =
-    let part : IsPart c.as_slice.result.now (map opposite c.args.history.now) = subst (λ (ls : List Literal). IsPart ls (map opposite c.args.history.now)) (sym c.as_slice.ensures.value) c.in_ok-all.ensures in
-    part_all (IsUpTo c.args.kept.now.places) c.as_slice.result.now (map opposite c.args.history.now) part (turned_all (IsUpTo c.args.kept.now.places) c.args.history.now (bits_up_to c.args.system.now c.args.kept.now.places c.args.history.now c.requires.kept.places c.requires.history))
+    let part : IsPart c.as_slice.result.now (map opposite c.args.problem.history.now) = subst (λ (ls : List Literal). IsPart ls (map opposite c.args.problem.history.now)) (sym c.as_slice.ensures.value) c.in_ok-all.ensures in
+    part_all (IsUpTo c.args.kept.now.places) c.as_slice.result.now (map opposite c.args.problem.history.now) part (turned_all (IsUpTo c.args.kept.now.places) c.args.problem.history.now (bits_up_to c.args.problem.system.now c.args.kept.now.places c.args.problem.history.now c.requires.kept.places c.requires.problem.history))
 
 pub ask-requires-clause-apart : goal.ask-requires-clause-apart
 ask-requires-clause-apart g c =
-    let part : IsPart c.as_slice.result.now (map opposite c.args.history.now) = subst (λ (ls : List Literal). IsPart ls (map opposite c.args.history.now)) (sym c.as_slice.ensures.value) c.in_ok-all.ensures in
-    negated_apart c.as_slice.result.now (part_all (λ (l : Literal). l.negated ≡ true) c.as_slice.result.now (map opposite c.args.history.now) part (turned_plain c.args.history.now c.requires.positive))
+    let part : IsPart c.as_slice.result.now (map opposite c.args.problem.history.now) = subst (λ (ls : List Literal). IsPart ls (map opposite c.args.problem.history.now)) (sym c.as_slice.ensures.value) c.in_ok-all.ensures in
+    negated_apart c.as_slice.result.now (part_all (λ (l : Literal). l.negated ≡ true) c.as_slice.result.now (map opposite c.args.problem.history.now) part (turned_plain c.args.problem.history.now c.requires.problem.positive))
 
 pub returns-in-Sat-clause-values : goal.returns-in-Sat-clause-values
-returns-in-Sat-clause-values g c = found_alone c.args.system.now c.args.bad.now (frames_of c.args.frames.now) c.args.history.now c.args.frames.now.last c.as_slice.result.now c.in-Sat.found (sat_told c.args.system.now c.args.bad.now (frames_of c.args.frames.now) Bad c.args.frames.now.last c.as_slice.result.now c.as_slice.result.now c.in_ok-found.field-0 c.in-Sat.found refl c.in-Sat.is (c.in_ok-found.ensures.verdict (apart_system c.args.system.now) (apart_list (places_of c.args.system.now) c.args.bad.now) (frames_of c.args.frames.now) c.requires.kept))
+returns-in-Sat-clause-values g c = found_alone c.args.problem.system.now c.args.problem.bad.now (frames_of c.args.frames.now) c.args.problem.history.now c.args.frames.now.last c.as_slice.result.now c.in-Sat.found (sat_told c.args.problem.system.now c.args.problem.bad.now (frames_of c.args.frames.now) Bad c.args.frames.now.last c.as_slice.result.now c.as_slice.result.now c.in_ok-found.field-0 c.in-Sat.found refl c.in-Sat.is (c.in_ok-found.ensures.verdict (apart_system c.args.problem.system.now) (apart_list (places_of c.args.problem.system.now) c.args.problem.bad.now) (frames_of c.args.frames.now) c.requires.kept))
 
 pub returns-in-Sat-clause-kept : goal.returns-in-Sat-clause-kept
-returns-in-Sat-clause-kept g c = (c.in_ok-found.ensures.asked (apart_system c.args.system.now) (apart_list (places_of c.args.system.now) c.args.bad.now) (frames_of c.args.frames.now) c.requires.kept)
+returns-in-Sat-clause-kept g c = (c.in_ok-found.ensures.asked (apart_system c.args.problem.system.now) (apart_list (places_of c.args.problem.system.now) c.args.problem.bad.now) (frames_of c.args.frames.now) c.requires.kept)
 
 pub returns-clause-kept : goal.returns-clause-kept
-returns-clause-kept g c = (c.in_ok-found.ensures.asked (apart_system c.args.system.now) (apart_list (places_of c.args.system.now) c.args.bad.now) (frames_of c.args.frames.now) c.requires.kept)
+returns-clause-kept g c = (c.in_ok-found.ensures.asked (apart_system c.args.problem.system.now) (apart_list (places_of c.args.problem.system.now) c.args.problem.bad.now) (frames_of c.args.frames.now) c.requires.kept)

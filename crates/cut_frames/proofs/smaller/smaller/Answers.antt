@@ -9,7 +9,7 @@ pub turns-init : goal.turns-init
 turns-init g c = record { same = refl; part = part_itself c.args.clause; stands = c.requires.stands; holds = c.requires.kept; asked = λ system list frames h. h }
 
 pub try_next-requires-clause-agreed : goal.try_next-requires-clause-agreed
-try_next-requires-clause-agreed g c = subst (AreAgreed c.args.system.now) (sym c.turns.invariant.same) c.requires.agreed
+try_next-requires-clause-agreed g c = subst (AreAgreed c.args.at.system.now) (sym c.turns.invariant.same) c.requires.agreed
 
 pub try_next-requires-clause-stands : goal.try_next-requires-clause-stands
 try_next-requires-clause-stands g c = c.turns.invariant.stands
@@ -22,7 +22,7 @@ turns-preserved g c = record {
   same = c.try_next.ensures.same ∙ c.turns.invariant.same;
   part = part_more c.in_ok-attempt.attempt.clause c.turns.attempt.clause c.args.clause c.in_ok-attempt.ensures.part c.turns.invariant.part;
   stands = c.in_ok-attempt.ensures.stands;
-  holds = holds_stays c.args.system.now (frames_of c.args.frames.now) c.turns.kept c.try_next.new.kept c.turns.invariant.holds c.in_ok-attempt.ensures.asked;
+  holds = holds_stays c.args.at.system.now (frames_of c.args.at.frames.now) c.turns.kept c.try_next.new.kept c.turns.invariant.holds c.in_ok-attempt.ensures.asked;
   asked = asked_more c.args.kept.now c.turns.kept c.try_next.new.kept c.turns.invariant.asked c.in_ok-attempt.ensures.asked;
 }
 

@@ -9,7 +9,7 @@ abbrev pub invariant-turns : goal.invariant-turns
 invariant-turns g l = record {
   same : l.outline.agreed.items ≡ l.initial.outline.agreed.items;
   part : IsPart l.attempt.clause l.fn.clause;
-  stands : MayStand l.system (frames_of l.frames) l.level l.attempt.clause;
-  holds : HoldsFrames l.system (frames_of l.frames) l.kept;
+  stands : MayStand l.at.system.now (frames_of l.at.frames.now) l.at.level l.attempt.clause;
+  holds : HoldsFrames l.at.system.now (frames_of l.at.frames.now) l.kept;
   asked : HasAsked l.initial.kept l.kept;
 }

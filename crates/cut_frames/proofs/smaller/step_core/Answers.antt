@@ -23,7 +23,7 @@ before : (level l m n : ℕ) → level ≤ l → m ≡ suc l → n ≡ m → lev
 before level l m n le e f = omega (arith, le, e, f)
 
 pub turn_next-requires-clause-low : goal.turn_next-requires-clause-low
-turn_next-requires-clause-low g c = λ k d lt. below (slice_index_or c.args.clause.now k d).var c.args.system.now.state_bits (c.requires.over k d lt).1 (states_low c.args.system.now.state_bits c.args.system.now.input_bits c.requires.fit.bits)
+turn_next-requires-clause-low g c = λ k d lt. below (slice_index_or c.args.clause.now k d).var c.args.at.system.now.state_bits (c.requires.clause.over_bits k d lt).1 (states_low c.args.at.system.now.state_bits c.args.at.system.now.input_bits c.requires.at.fit.bits)
   where
     below : (x b : ℕ) → x < b + 2 → 2 * b + 1 < 2 ^ 31 → x < 2 ^ 31
     below x b lt le = omega (arith, lt, le)
@@ -32,38 +32,38 @@ pub refute-requires-clause-well : goal.refute-requires-clause-well
 refute-requires-clause-well g c = c.requires.kept.kept.well
 
 pub refute-requires-clause-frame : goal.refute-requires-clause-frame
-refute-requires-clause-frame g c = before c.args.level c.args.frames.now.last (length (frames_of c.args.frames.now)) (length c.args.kept.now.frames.items) c.requires.level (length_frames c.args.frames.now) c.requires.kept.kept.count
+refute-requires-clause-frame g c = before c.args.at.level c.args.at.frames.now.last (length (frames_of c.args.at.frames.now)) (length c.args.kept.now.frames.items) c.requires.at.level (length_frames c.args.at.frames.now) c.requires.kept.kept.count
 
 pub refute-requires-clause-up_to : goal.refute-requires-clause-up_to
 refute-requires-clause-up_to g c =
-    let assumed : c.as_slice.result.now ≡ against_next c.args.system.now.state_bits c.args.clause.now = grind (arith, common_steps) in
+    let assumed : c.as_slice.result.now ≡ against_next c.args.at.system.now.state_bits c.args.clause.now = grind (arith, common_steps) in
     subst (All (IsUpTo c.args.kept.now.places)) (sym assumed)
-    (against_up_to c.args.system.now.state_bits c.args.kept.now.places c.args.clause.now (room c.args.system.now.state_bits c.args.system.now.input_bits c.args.kept.now.places c.requires.kept.kept.places) c.requires.over)
+    (against_up_to c.args.at.system.now.state_bits c.args.kept.now.places c.args.clause.now (room c.args.at.system.now.state_bits c.args.at.system.now.input_bits c.args.kept.now.places c.requires.kept.kept.places) c.requires.clause.over_bits)
 
 pub refute-requires-clause-apart : goal.refute-requires-clause-apart
 refute-requires-clause-apart g c =
-    let assumed : c.as_slice.result.now ≡ against_next c.args.system.now.state_bits c.args.clause.now = grind (arith, common_steps) in
-    subst HasNoOpposites (sym assumed) (against_apart c.args.system.now.state_bits c.args.clause.now c.requires.apart)
+    let assumed : c.as_slice.result.now ≡ against_next c.args.at.system.now.state_bits c.args.clause.now = grind (arith, common_steps) in
+    subst HasNoOpposites (sym assumed) (against_apart c.args.at.system.now.state_bits c.args.clause.now c.requires.clause.apart)
 
 pub returns-in-None-clause-asked : goal.returns-in-None-clause-asked
 returns-in-None-clause-asked g c = c.in_ok-refute.ensures.asked
 
 pub join-requires : goal.join-requires
 join-requires g c =
-    let assumed : c.as_slice.result.now ≡ against_next c.args.system.now.state_bits c.args.clause.now = grind (arith, common_steps) in
-    let bits : c.from-bits.result ≡ c.args.system.now.state_bits = grind (arith, common_steps) in
-    subst (λ (b : ℕ). All (λ l. b + 2 ≤ l.var) c.in-Some.core) (sym bits) (core_high c.args.system.now.state_bits c.args.clause.now c.in-Some.core c.requires.over
-    (unsat_told c.args.system.now c.requires.kept.bad (frames_of c.args.frames.now) Step (c.args.level - 1) c.as_slice.result.now (against_next c.args.system.now.state_bits c.args.clause.now) (Unsat c.in-Some.core) c.in-Some.core assumed refl
-    ((some_of c.in_ok-refute.field-0 c.in-Some.core (λ core. Tells c.args.kept.now Step (c.args.level - 1) c.as_slice.result.now (Unsat core)) c.in-Some.is c.in_ok-refute.ensures.core) (apart_system c.args.system.now) (apart_list (places_of c.args.system.now) c.requires.kept.bad) (frames_of c.args.frames.now) c.requires.kept.kept)).negated)
+    let assumed : c.as_slice.result.now ≡ against_next c.args.at.system.now.state_bits c.args.clause.now = grind (arith, common_steps) in
+    let bits : c.from-bits.result ≡ c.args.at.system.now.state_bits = grind (arith, common_steps) in
+    subst (λ (b : ℕ). All (λ l. b + 2 ≤ l.var) c.in-Some.core) (sym bits) (core_high c.args.at.system.now.state_bits c.args.clause.now c.in-Some.core c.requires.clause.over_bits
+    (unsat_told c.args.at.system.now c.requires.kept.bad (frames_of c.args.at.frames.now) Step (c.args.at.level - 1) c.as_slice.result.now (against_next c.args.at.system.now.state_bits c.args.clause.now) (Unsat c.in-Some.core) c.in-Some.core assumed refl
+    ((some_of c.in_ok-refute.field-0 c.in-Some.core (λ core. Tells c.args.kept.now Step (c.args.at.level - 1) c.as_slice.result.now (Unsat core)) c.in-Some.is c.in_ok-refute.ensures.core) (apart_system c.args.at.system.now) (apart_list (places_of c.args.at.system.now) c.requires.kept.bad) (frames_of c.args.at.frames.now) c.requires.kept.kept)).negated)
 
 pub returns-clause-core : goal.returns-clause-core
 returns-clause-core g c =
-    let assumed : c.as_slice.result.now ≡ against_next c.args.system.now.state_bits c.args.clause.now = grind (arith, common_steps) in
-    let told = unsat_told c.args.system.now c.requires.kept.bad (frames_of c.args.frames.now) Step (c.args.level - 1) c.as_slice.result.now (against_next c.args.system.now.state_bits c.args.clause.now) (Unsat c.in-Some.core) c.in-Some.core assumed refl
-    ((some_of c.in_ok-refute.field-0 c.in-Some.core (λ core. Tells c.args.kept.now Step (c.args.level - 1) c.as_slice.result.now (Unsat core)) c.in-Some.is c.in_ok-refute.ensures.core) (apart_system c.args.system.now) (apart_list (places_of c.args.system.now) c.requires.kept.bad) (frames_of c.args.frames.now) c.requires.kept.kept) in
-    let is : c.in_ok-back-in-Some.back ≡ map (moved_back c.args.system.now.state_bits) c.in-Some.core = grind (arith, common_steps) in
-    subst (λ (b : List Literal). IsPart b c.args.clause.now × IsAfter c.args.system.now (frames_of c.args.frames.now) c.args.level b) (sym is)
-    (back_part c.args.system.now c.args.clause.now c.in-Some.core told.negated, after_core c.args.system.now (frames_of c.args.frames.now) c.args.level c.requires.kept.bad c.args.clause.now c.in-Some.core c.requires.fit c.requires.framed.framed c.requires.over told)
+    let assumed : c.as_slice.result.now ≡ against_next c.args.at.system.now.state_bits c.args.clause.now = grind (arith, common_steps) in
+    let told = unsat_told c.args.at.system.now c.requires.kept.bad (frames_of c.args.at.frames.now) Step (c.args.at.level - 1) c.as_slice.result.now (against_next c.args.at.system.now.state_bits c.args.clause.now) (Unsat c.in-Some.core) c.in-Some.core assumed refl
+    ((some_of c.in_ok-refute.field-0 c.in-Some.core (λ core. Tells c.args.kept.now Step (c.args.at.level - 1) c.as_slice.result.now (Unsat core)) c.in-Some.is c.in_ok-refute.ensures.core) (apart_system c.args.at.system.now) (apart_list (places_of c.args.at.system.now) c.requires.kept.bad) (frames_of c.args.at.frames.now) c.requires.kept.kept) in
+    let is : c.in_ok-back-in-Some.back ≡ map (moved_back c.args.at.system.now.state_bits) c.in-Some.core = grind (arith, common_steps) in
+    subst (λ (b : List Literal). IsPart b c.args.clause.now × IsAfter c.args.at.system.now (frames_of c.args.at.frames.now) c.args.at.level b) (sym is)
+    (back_part c.args.at.system.now c.args.clause.now c.in-Some.core told.negated, after_core c.args.at.system.now (frames_of c.args.at.frames.now) c.args.at.level c.requires.kept.bad c.args.clause.now c.in-Some.core c.requires.at.fit c.requires.at.framed.framed c.requires.clause.over_bits told)
 
 pub returns-clause-asked : goal.returns-clause-asked
 returns-clause-asked g c = c.in_ok-refute.ensures.asked

@@ -1,5 +1,6 @@
 use Rattle.std.proofs.Common.{◌≡◌, ◌∙◌, ◌-◌, length, sym, subst, true, false, Result, Ok, Err, IfOk}
 use Rattle.std.specs.Result.{is_err}
+use Rattle.cut_frames.specs.Chain.{IsOverBits}
 use Rattle.cut_frames.specs.Parts.{AreAgreed}
 use Rattle.cut_frames.proofs.LastingLaws.{lasting_stronger}
 use Rattle.cut_frames.specs.FramesRecord.{FramesValue}
@@ -15,13 +16,21 @@ returns-then-self-clause-numbered g c =
 
 pub returns-clause-frontier : goal.returns-clause-frontier
 returns-clause-frontier g c =
-    subst (λ (v : FramesValue). length (frames_of c.clear_noting-answer.new.frames) - 1 ≡ length v.frames - 1) c.self.view_is (last_less c.self.inside.levels c.clear_noting-answer.new.frames c.clear_noting-answer.ensures.last)
+    subst (λ (v : FramesValue). length (frames_of c.clear_noting-answer.new.frames) - 1 ≡ length v.frames - 1) c.self.view_is (last_less c.self.inside.levels c.clear_noting-answer.new.frames c.clear_noting-answer.ensures.tightened.last)
 
 pub returns-clause-numbered : goal.returns-clause-numbered
-returns-clause-numbered g c = numbered c.self.inside.system (frames_of c.clear_noting-answer.new.frames) c.clear_noting-answer.ensures.framed.framed
+returns-clause-numbered g c = numbered c.self.inside.system (frames_of c.clear_noting-answer.new.frames) c.clear_noting-answer.ensures.tightened.framed.framed
 
 pub returns-then-is_err-clause-numbered : goal.returns-then-is_err-clause-numbered
 returns-then-is_err-clause-numbered g c = numbered c.self.inside.system (frames_of c.self.inside.levels) c.self.invariant.levelled.framed
+
+pub clear_noting-answer-requires-clause-problem : goal.clear_noting-answer-requires-clause-problem
+clear_noting-answer-requires-clause-problem g c = record {
+  fit = c.self.invariant.fit;
+  bad = c.self.invariant.bad c.if-self.false;
+  history = subst (λ (v : FramesValue). IsOverBits v.system c.args.history.now) (sym c.self.view_is) c.requires.history;
+  positive = c.requires.positive;
+}
 
 when_ok : {T E P : Type 0} (r : Result T E) → is_err r ≡ false → IfOk r (λ x. P) → P
 when_ok (Ok x) e h = h
@@ -37,8 +46,8 @@ invariant_of-self-2 g c =
       agreed = subst (AreAgreed c.self.inside.system) (sym c.clear_noting-answer.ensures.same) c.find-found.ensures.agreed;
       bad = λ ready. c.self.invariant.bad c.if-self.false;
       seen = λ ready. c.self.invariant.seen c.if-self.false;
-      levelled = c.clear_noting-answer.ensures.framed;
+      levelled = c.clear_noting-answer.ensures.tightened.framed;
       lasting = λ ready. lasting_stronger c.self.inside.system (frames_of c.self.inside.levels) (frames_of c.clear_noting-answer.new.frames) c.self.inside.lasting
-          (same_length c.self.inside.levels c.clear_noting-answer.new.frames c.clear_noting-answer.ensures.last) c.clear_noting-answer.ensures.stronger (c.self.invariant.lasting c.if-self.false);
+          (same_length c.self.inside.levels c.clear_noting-answer.new.frames c.clear_noting-answer.ensures.tightened.last) c.clear_noting-answer.ensures.tightened.stronger (c.self.invariant.lasting c.if-self.false);
       kept = λ ready. when_ok c.clear_noting-answer.result (sym c.is_err-self-inside.ensures.value ∙ ready) c.clear_noting-answer.ensures.kept;
     }
