@@ -3,7 +3,7 @@ use Rattle.cut_model_search.proofs.Certifying.{certificate_for}
 use Rattle.cut_model_search.proofs.making.FaultyModel.certificate_text.Goals as goal
 
 pub returns : goal.returns
-returns c =
+returns g c =
     let made = c.in_ok-certificate.ensures in
     IfOk-weaker c.write.result _ _
     (λ bytes text. certificate_for c.args.self.now c.args.a.now c.in_ok-certificate.certificate bytes made.certified made.size made.sets made.traces made.writable text)

@@ -12,16 +12,16 @@ use Rattle.cut_model_search.proofs.Made.{all_print, proof, certified, writable}
 use Rattle.cut_model_search.proofs.making.FaultyModel.certify.Goals as goal
 
 pub texts_of-requires : goal.texts_of-requires
-texts_of-requires c =
+texts_of-requires g c =
     let v = c.args.self.now in
     subst (λ m. All (CanBePrinted m) c.as_slice.result.now) (sym c.plain.ensures)
     (subst (All (CanBePrinted v.model)) (sym c.as_slice.ensures) (all_print v c.can_be_searched.ensures c.args.a.now c.requires.answer c.args.invariant.now c.requires.complete))
 
 pub parts-requires : goal.parts-requires
-parts-requires c = proof c.args.self.now c.can_be_searched.ensures c.args.a.now c.requires.answer c.args.invariant.now c.requires.complete
+parts-requires g c = proof c.args.self.now c.can_be_searched.ensures c.args.a.now c.requires.answer c.args.invariant.now c.requires.complete
 
 pub returns : goal.returns
-returns c =
+returns g c =
     let v = c.args.self.now in
     let a = c.args.a.now in
     let clauses = c.args.invariant.now in
