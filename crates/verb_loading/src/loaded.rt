@@ -56,8 +56,8 @@ pub fn load_case<D: Desk>(
     requires lawful { IsLawful (program_tree model.now.program) (model_tree model.now.typed.model) }
     requires in_var { HasInstancesInVar (program_tree model.now.program) }
     requires spelled { IsSpelled (program_tree model.now.program) }
-    ensures ok { IfOk result (λ l. IfSome (D.told desk.old).files (λ files. HoldsLoaded files name.now (program_tree model.now.program) l))
-        }
+    ensures ok { IfOk result
+        (λ l. IfSome (D.told desk.old).files (λ files. HoldsLoaded files name.now (program_tree model.now.program) l)) }
     ensures loaded { IfOk result (IsLoaded (program_tree model.now.program)) }
     ensures refused { (r : Refusal) → IsErrOf result (stop.Refused r) →
         IfSome (D.told desk.old).files (λ files. RefusesFaults files name.now (program_tree model.now.program) r) }
