@@ -11,8 +11,8 @@ ghost use Rattle.sat_expressions.specs.Branches.{BuildsBranches};
 use crate::branches::{BranchSignals, first_of, no_parts, with_condition, with_value};
 use crate::names::NamedSignals;
 use crate::part::{
-    AskedSignal, ExpressionSignal, Form, answer, applied_part, as_truth, chosen_part, form_of,
-    leaf_part, negated_part, not_part, number_part, or_part, span_part, truth, truth_part,
+    Applied, AskedSignal, ExpressionSignal, Form, answer, applied_part, as_truth, chosen_part,
+    form_of, leaf_part, negated_part, not_part, number_part, or_part, span_part, truth, truth_part,
     union_part,
 };
 use base_values::OutOfMemory;
@@ -65,7 +65,12 @@ pub fn expression(
             Form::Values => {
                 let left = expression(alloc, g, names, AskedSignal::ItsValue, a)?;
                 let right = expression(alloc, g, names, AskedSignal::ItsValue, b)?;
-                applied_part(alloc, g, names, asked, *op, left, right)
+                let of = Applied {
+                    op: *op,
+                    left,
+                    right,
+                };
+                applied_part(alloc, g, names, asked, of)
             }
         },
         Expr::Choice(c, a, b) => {

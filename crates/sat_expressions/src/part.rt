@@ -246,32 +246,39 @@ pub fn negated_part(
     answer(alloc, g, asked, part)
 }
 
+/// An operator with the values on its left and its right.
+#[derive(Drop)]
+pub struct Applied {
+    pub op: Op,
+    pub left: ExpressionSignal,
+    pub right: ExpressionSignal,
+}
+
 /// An operator on two values.
 pub fn applied_part(
     alloc: Global,
     g: &mut Gates,
     names: &NamedSignals<'_>,
     asked: AskedSignal<'_>,
-    op: Op,
-    a: ExpressionSignal,
-    b: ExpressionSignal,
+    of: Applied,
 ) -> Result<ExpressionSignal, OutOfMemory>
     requires symbols { 1 ≤ names.now.symbols }
     requires asked { IsAskedIn g.old (asked_of asked) }
-    requires left { IsSignal g.old (signal_of a.signal) }
-    requires right { IsSignal g.old (signal_of b.signal) }
-    ensures { IfOk result
-        (Answers (asked_of asked.entry) g.old (operator_gates op (sort_width names.now.symbols (operation_sort op a.sort b.sort))
-        (signal_of a.signal) (signal_of b.signal) g.old) (operation_sort op a.sort b.sort) g.new) }
+    requires left { IsSignal g.old (signal_of of.left.signal) }
+    requires right { IsSignal g.old (signal_of of.right.signal) }
+    ensures { IfOk result (Answers (asked_of asked.entry) g.old
+        (operator_gates of.op (sort_width names.now.symbols (operation_sort of.op of.left.sort of.right.sort))
+        (signal_of of.left.signal) (signal_of of.right.signal) g.old) (operation_sort of.op of.left.sort of.right.sort) g.new) }
 {
+    let Applied { op, left, right } = of;
     let width = sort_width(
         names.symbols,
-        operation(false, op, kept(a.sort), kept(b.sort)).sort,
+        operation(false, op, kept(left.sort), kept(right.sort)).sort,
     );
-    let signal = operator(alloc, g, op, width, a.signal, b.signal)?;
+    let signal = operator(alloc, g, op, width, left.signal, right.signal)?;
     let part = ExpressionSignal {
         signal,
-        sort: operation(false, op, kept(a.sort), kept(b.sort)).sort,
+        sort: operation(false, op, kept(left.sort), kept(right.sort)).sort,
     };
     answer(alloc, g, asked, part)
 }
