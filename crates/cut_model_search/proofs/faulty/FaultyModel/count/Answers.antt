@@ -5,8 +5,8 @@ use Rattle.cut_model_search.specs.FaultyModels.{modes_in}
 use Rattle.cut_model_search.proofs.BadLists.{few}
 use Rattle.cut_model_search.proofs.faulty.FaultyModel.count.Goals as goal
 
-pub overflow_cast-len : goal.overflow_cast-len
-overflow_cast-len c =
+pub overflow_cast-result : goal.overflow_cast-result
+overflow_cast-result c =
     let most = few c.args.self.now c.can_be_searched.ensures in
     let same = length-map c.args.self.now.faults mode_of in
     let listed = ap length c.listed.ensures in

@@ -1,6 +1,6 @@
 use Rattle.std.proofs.lemmas.Result.{IfOk-weaker}
 use Rattle.cut_model_search.proofs.Certifying.{certificate_for}
-use Rattle.cut_model_search.proofs.making.FaultyModel.certificate_text.Goals as goal
+use Rattle.cut_model_search.proofs.faulty.FaultyModel.certificate_text.Goals as goal
 
 pub returns : goal.returns
 returns g c =

@@ -4,7 +4,7 @@ use Rattle.smv_language.specs.Flat.{FlatModel}
 use Rattle.sat_encoding_laws.specs.Encodable.{IsEncodable, IsFitTop}
 use Rattle.cut_model_search.specs.FaultyModels.{flat_in, modes_in, whole_in}
 use Rattle.cut_model_search.proofs.BadLists.{faults_within, bad_is}
-use Rattle.cut_model_search.proofs.lists.FaultyModel.bad.Goals as goal
+use Rattle.cut_model_search.proofs.faulty.FaultyModel.bad.Goals as goal
 
 pub bad_clauses-requires : goal.bad_clauses-requires
 bad_clauses-requires c =

@@ -6,7 +6,7 @@ use Rattle.cut_report.specs.FaultText.{faults_text}
 use Rattle.cut_report.specs.AnalysisView.{told_analysis}
 use Rattle.cut_report_laws.proofs.Printed.{answers_printed}
 use Rattle.cut_model_search.specs.FaultyModels.{whole_in}
-use Rattle.cut_model_search.proofs.report.FaultyModel.report.Goals as goal
+use Rattle.cut_model_search.proofs.faulty.FaultyModel.report.Goals as goal
 
 pub returns : goal.returns
 returns c =

@@ -9,7 +9,7 @@ use Rattle.cut_model_search.specs.Certifiable.{certificate_of}
 use Rattle.cut_model_search.specs.FaultyModels.{flat_in, modes_in, event_in, whole_in}
 use Rattle.cut_model_search.specs.Texts.{text_lines, CanBePrinted}
 use Rattle.cut_model_search.proofs.Made.{all_print, proof, certified, writable}
-use Rattle.cut_model_search.proofs.making.FaultyModel.certify.Goals as goal
+use Rattle.cut_model_search.proofs.faulty.FaultyModel.certify.Goals as goal
 
 pub texts_of-requires : goal.texts_of-requires
 texts_of-requires g c =
