@@ -22,8 +22,8 @@ pub struct Conclusion {
 pub fn conclude<D: Desk>(desk: &mut D, name: &str, found: &Conclusion) -> Result<(), WriteStop>
     ensures ok { OnOk result (((D.told desk.new).files ≡ told_maybe (D.told desk.old).files name.now found.now.cert)
         × ((D.told desk.new).said ≡ said_more (D.told desk.old).said found.now.report)) }
-    ensures part { ConcludesInPart name.now found.now (D.told desk.old).files (D.told desk.new).files (D.told desk.old).said
-        (D.told desk.new).said }
+    ensures part { ConcludesInPart name.now found.now
+        (D.told desk.old).files (D.told desk.new).files (D.told desk.old).said (D.told desk.new).said }
     ensures failed { IsErrOf result write_stop.Failed → Rose (D.told desk.old).faults (D.told desk.new).faults }
     ensures stays { IsLater (D.told desk.old) (D.told desk.new) }
 {

@@ -43,8 +43,8 @@ pub fn find_causes<D: Desk>(
 ) -> Result<Status, Stop>
     requires { asked.now.depth ≤ 1000000000 }
     ensures ok { IfOk result (λ s. IfSome (D.told desk.old).files (λ files.
-        HasFoundCauses files asked.now.model.now asked.now.faults.now asked.now.causes.now asked.now.top.now asked.now.cert.now
-        asked.now.depth s
+        HasFoundCauses files asked.now.model.now asked.now.faults.now asked.now.causes.now asked.now.top.now
+        asked.now.cert.now asked.now.depth s
         (D.told desk.old).files (D.told desk.new).files (D.told desk.old).said (D.told desk.new).said)) }
     ensures finished { IfOk result IsFinished }
     ensures depth { IfOk result (IsBoundedAt asked.now.depth) }
@@ -53,8 +53,8 @@ pub fn find_causes<D: Desk>(
         (λ files. RefusesStaged files asked.now.model.now asked.now.faults.now asked.now.causes.now asked.now.top.now r) }
     ensures untouched { (r : Refusal) → IsErrOf result (stop.Refused r) →
         ((D.told desk.new).files ≡ (D.told desk.old).files) × ((D.told desk.new).said ≡ (D.told desk.old).said) }
-    ensures left { LeavesCauses asked.now.model.now asked.now.faults.now asked.now.causes.now asked.now.top.now asked.now.cert.now
-        asked.now.depth
+    ensures left { LeavesCauses asked.now.model.now asked.now.faults.now asked.now.causes.now asked.now.top.now
+        asked.now.cert.now asked.now.depth
         (D.told desk.old).files (D.told desk.new).files (D.told desk.old).said (D.told desk.new).said }
     ensures failed { IsErrOf result stop.Desk → Rose (D.told desk.old).faults (D.told desk.new).faults }
     ensures stays { IsLater (D.told desk.old) (D.told desk.new) }
@@ -77,8 +77,8 @@ pub fn check_causes<D: Desk>(
     ensures finished { IfOk result IsFinished }
     ensures refused { (r : Refusal) → IsErrOf result (stop.Refused r) →
         IfSome (D.told desk.old).files
-        (λ files. RefusesCauseCheck files asked.now.model.now asked.now.faults.now asked.now.causes.now asked.now.top.now
-        asked.now.cert.now r) }
+        (λ files. RefusesCauseCheck files asked.now.model.now asked.now.faults.now asked.now.causes.now
+        asked.now.top.now asked.now.cert.now r) }
     ensures untouched { (r : Refusal) → IsErrOf result (stop.Refused r) →
         ((D.told desk.new).files ≡ (D.told desk.old).files) × ((D.told desk.new).said ≡ (D.told desk.old).said) }
     ensures left { LeavesCheck asked.now.model.now asked.now.faults.now asked.now.causes.now asked.now.top.now asked.now.cert.now
@@ -133,8 +133,8 @@ fn prepare_check<D: Desk>(
         AcceptsCauses files asked.now.model.now asked.now.faults.now asked.now.causes.now asked.now.top.now asked.now.cert.now report)) }
     ensures refused { (r : Refusal) → IsErrOf result (stop.Refused r) →
         IfSome (D.told desk.old).files
-        (λ files. RefusesCauseCheck files asked.now.model.now asked.now.faults.now asked.now.causes.now asked.now.top.now
-        asked.now.cert.now r) }
+        (λ files. RefusesCauseCheck files asked.now.model.now asked.now.faults.now asked.now.causes.now
+        asked.now.top.now asked.now.cert.now r) }
     ensures failed { IsErrOf result stop.Desk → Rose (D.told desk.old).faults (D.told desk.new).faults }
     ensures stays { OnlyReads (D.told desk.old) (D.told desk.new) }
 {

@@ -161,8 +161,8 @@ fn load_causes<D: Desk>(
     ensures staged { IfOk result (IsStagedCase case.now) }
     ensures refused { (r : Refusal) → IsErrOf result (stop.Refused r) →
         IfSome (D.told desk.old).files
-        (λ files. RefusesCauses files name.now (faults_in case.now) (extension_in case.now) (flat_in case.now) (modes_in case.now)
-        r) }
+        (λ files. RefusesCauses files name.now (faults_in case.now) (extension_in case.now)
+        (flat_in case.now) (modes_in case.now) r) }
     ensures failed { IsErrOf result stop.Desk → Rose (D.told desk.old).faults (D.told desk.new).faults }
     ensures stays { OnlyReads (D.told desk.old) (D.told desk.new) }
 {
@@ -179,8 +179,8 @@ fn read_causes_file<D: Desk>(alloc: Global, desk: &mut D, name: &str) -> Result<
     ensures bytes { IfOk result (λ bytes. IfSome (D.told desk.old).files (λ files. HasAtMost 1048576 files name.now bytes.items)) }
     ensures short { IfOk result (λ bytes. length bytes.items ≤ 1048576) }
     ensures refused { (r : Refusal) → IsErrOf result (stop.Refused r) →
-        (told : InputFault) × (r ≡ refusal.Causes told) × IfSome (D.told desk.old).files (λ files. IsRefusedCausesFile files name.now told)
-        }
+        (told : InputFault) × (r ≡ refusal.Causes told)
+        × IfSome (D.told desk.old).files (λ files. IsRefusedCausesFile files name.now told) }
     ensures failed { IsErrOf result stop.Desk → Rose (D.told desk.old).faults (D.told desk.new).faults }
     ensures stays { OnlyReads (D.told desk.old) (D.told desk.new) }
 {

@@ -45,8 +45,8 @@ pub fn find_orders<D: Desk>(
     ensures depth { IfOk result (IsBoundedAt asked.now.depth) }
     ensures refused { (r : Refusal) → IsErrOf result (stop.Refused r) →
         IsAskedPair asked.now.set.now asked.now.first asked.now.second → IfSome (D.told desk.old).files (λ files.
-        RefusesPair files asked.now.model.now asked.now.faults.now asked.now.top.now (numbers_of asked.now.set.now) asked.now.first
-        asked.now.second r) }
+        RefusesPair files asked.now.model.now asked.now.faults.now asked.now.top.now
+        (numbers_of asked.now.set.now) asked.now.first asked.now.second r) }
     ensures untouched { (r : Refusal) → IsErrOf result (stop.Refused r) →
         ((D.told desk.new).files ≡ (D.told desk.old).files) × ((D.told desk.new).said ≡ (D.told desk.old).said) }
     ensures failed { IsErrOf result stop.Desk → Rose (D.told desk.old).faults (D.told desk.new).faults }
@@ -76,8 +76,8 @@ fn prepare<D: Desk>(
     ensures depth { IfOk result (λ k. IsBoundedAt asked.now.depth (ended_with (told_ending k.ending))) }
     ensures refused { (r : Refusal) → IsErrOf result (stop.Refused r) →
         IsAskedPair asked.now.set.now asked.now.first asked.now.second → IfSome (D.told desk.old).files (λ files.
-        RefusesPair files asked.now.model.now asked.now.faults.now asked.now.top.now (numbers_of asked.now.set.now) asked.now.first
-        asked.now.second r) }
+        RefusesPair files asked.now.model.now asked.now.faults.now asked.now.top.now
+        (numbers_of asked.now.set.now) asked.now.first asked.now.second r) }
     ensures failed { IsErrOf result stop.Desk → Rose (D.told desk.old).faults (D.told desk.new).faults }
     ensures stays { OnlyReads (D.told desk.old) (D.told desk.new) }
 {

@@ -28,11 +28,10 @@ pub(crate) fn causes<D: Desk>(
     panel: &mut Panel,
 ) -> Status
     requires { asked.now.depth ≤ 1000000000 }
-    ensures answered { IsCarriedOut (seen (ask.Causes asked.now)) result (D.told desk.old).files (D.told desk.new).files
-        (D.told desk.old).said
-        (D.told desk.new).said }
-    ensures left { IsLeftInPart (seen (ask.Causes asked.now)) (D.told desk.old).files (D.told desk.new).files (D.told desk.old).said
-        (D.told desk.new).said }
+    ensures answered { IsCarriedOut (seen (ask.Causes asked.now)) result
+        (D.told desk.old).files (D.told desk.new).files (D.told desk.old).said (D.told desk.new).said }
+    ensures left { IsLeftInPart (seen (ask.Causes asked.now))
+        (D.told desk.old).files (D.told desk.new).files (D.told desk.old).said (D.told desk.new).said }
     ensures status { IsOfCommand (seen (ask.Causes asked.now)) result }
     ensures failed { result ≡ Status.Desk → Rose (D.told desk.old).faults (D.told desk.new).faults }
     ensures stays { IsLater (D.told desk.old) (D.told desk.new) }
@@ -43,11 +42,10 @@ pub(crate) fn causes<D: Desk>(
 
 /// Judges a certificate of faults and common causes.
 pub(crate) fn checked_causes<D: Desk>(alloc: Global, desk: &mut D, asked: &CheckCauses) -> Status
-    ensures answered { IsCarriedOut (seen (ask.CheckCauses asked.now)) result (D.told desk.old).files (D.told desk.new).files
-        (D.told desk.old).said
-        (D.told desk.new).said }
-    ensures left { IsLeftInPart (seen (ask.CheckCauses asked.now)) (D.told desk.old).files (D.told desk.new).files (D.told desk.old).said
-        (D.told desk.new).said }
+    ensures answered { IsCarriedOut (seen (ask.CheckCauses asked.now)) result
+        (D.told desk.old).files (D.told desk.new).files (D.told desk.old).said (D.told desk.new).said }
+    ensures left { IsLeftInPart (seen (ask.CheckCauses asked.now))
+        (D.told desk.old).files (D.told desk.new).files (D.told desk.old).said (D.told desk.new).said }
     ensures status { IsOfCommand (seen (ask.CheckCauses asked.now)) result }
     ensures failed { result ≡ Status.Desk → Rose (D.told desk.old).faults (D.told desk.new).faults }
     ensures stays { IsLater (D.told desk.old) (D.told desk.new) }
@@ -64,11 +62,10 @@ pub(crate) fn orders<D: Desk>(
     panel: &mut Panel,
 ) -> Status
     requires { IsAskedPair asked.now.set.now asked.now.first asked.now.second }
-    ensures answered { IsCarriedOut (seen (ask.Orders asked.now)) result (D.told desk.old).files (D.told desk.new).files
-        (D.told desk.old).said
-        (D.told desk.new).said }
-    ensures left { IsLeftInPart (seen (ask.Orders asked.now)) (D.told desk.old).files (D.told desk.new).files (D.told desk.old).said
-        (D.told desk.new).said }
+    ensures answered { IsCarriedOut (seen (ask.Orders asked.now)) result
+        (D.told desk.old).files (D.told desk.new).files (D.told desk.old).said (D.told desk.new).said }
+    ensures left { IsLeftInPart (seen (ask.Orders asked.now))
+        (D.told desk.old).files (D.told desk.new).files (D.told desk.old).said (D.told desk.new).said }
     ensures status { IsOfCommand (seen (ask.Orders asked.now)) result }
     ensures failed { result ≡ Status.Desk → Rose (D.told desk.old).faults (D.told desk.new).faults }
     ensures stays { IsLater (D.told desk.old) (D.told desk.new) }
@@ -80,11 +77,10 @@ pub(crate) fn orders<D: Desk>(
 /// Judges a certificate of such an order.
 pub(crate) fn checked_orders<D: Desk>(alloc: Global, desk: &mut D, asked: &CheckOrders) -> Status
     requires { IsAskedPair asked.now.set.now asked.now.first asked.now.second }
-    ensures answered { IsCarriedOut (seen (ask.CheckOrders asked.now)) result (D.told desk.old).files (D.told desk.new).files
-        (D.told desk.old).said
-        (D.told desk.new).said }
-    ensures left { IsLeftInPart (seen (ask.CheckOrders asked.now)) (D.told desk.old).files (D.told desk.new).files (D.told desk.old).said
-        (D.told desk.new).said }
+    ensures answered { IsCarriedOut (seen (ask.CheckOrders asked.now)) result
+        (D.told desk.old).files (D.told desk.new).files (D.told desk.old).said (D.told desk.new).said }
+    ensures left { IsLeftInPart (seen (ask.CheckOrders asked.now))
+        (D.told desk.old).files (D.told desk.new).files (D.told desk.old).said (D.told desk.new).said }
     ensures status { IsOfCommand (seen (ask.CheckOrders asked.now)) result }
     ensures failed { result ≡ Status.Desk → Rose (D.told desk.old).faults (D.told desk.new).faults }
     ensures stays { IsLater (D.told desk.old) (D.told desk.new) }
@@ -101,11 +97,10 @@ pub(crate) fn odds<D: Desk>(
     panel: &mut Panel,
 ) -> Status
     requires { asked.now.depth ≤ 1000000000 }
-    ensures answered { IsCarriedOut (seen (ask.Odds asked.now)) result (D.told desk.old).files (D.told desk.new).files
-        (D.told desk.old).said
-        (D.told desk.new).said }
-    ensures left { IsLeftInPart (seen (ask.Odds asked.now)) (D.told desk.old).files (D.told desk.new).files (D.told desk.old).said
-        (D.told desk.new).said }
+    ensures answered { IsCarriedOut (seen (ask.Odds asked.now)) result
+        (D.told desk.old).files (D.told desk.new).files (D.told desk.old).said (D.told desk.new).said }
+    ensures left { IsLeftInPart (seen (ask.Odds asked.now))
+        (D.told desk.old).files (D.told desk.new).files (D.told desk.old).said (D.told desk.new).said }
     ensures status { IsOfCommand (seen (ask.Odds asked.now)) result }
     ensures failed { result ≡ Status.Desk → Rose (D.told desk.old).faults (D.told desk.new).faults }
     ensures stays { IsLater (D.told desk.old) (D.told desk.new) }

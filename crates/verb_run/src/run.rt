@@ -59,8 +59,8 @@ pub fn run<D: Desk>(
 ) -> Status
     // Unless the desk failed or memory ran out, the whole of what words and files come to stands.
     ensures answered { IsAnswer result → IfSome (D.told desk.old).files (λ files.
-        HasAnswered files (map (λ w. w.now) words.now) result (D.told desk.old).files (D.told desk.new).files (D.told desk.old).said
-        (D.told desk.new).said) }
+        HasAnswered files (map (λ w. w.now) words.now) result
+        (D.told desk.old).files (D.told desk.new).files (D.told desk.old).said (D.told desk.new).said) }
     // What the words and files come to is one, and it is the answer and what stands: the first rule that is broken, at its
     // place, the first moment that stops the trace from reaching the event, the extension and its report, the report of a
     // trace that reaches it, or the case and the event that were analysed.
@@ -116,8 +116,8 @@ pub fn run<D: Desk>(
     ensures caused { (model faults file top cert : Text) (depth : ℕ) → IsFinished result →
         AsksForCauses (map (λ w. w.now) words.now) model faults file top depth cert →
         IfSome (D.told desk.old).files (λ files.
-        HasFoundCauses files model faults file top cert depth result (D.told desk.old).files (D.told desk.new).files (D.told desk.old).said
-        (D.told desk.new).said) }
+        HasFoundCauses files model faults file top cert depth result
+        (D.told desk.old).files (D.told desk.new).files (D.told desk.old).said (D.told desk.new).said) }
     // A run that is done has checked such a certificate: its sets are shown for all caused traces, of every length; no file was
     // changed.
     ensures caused_accepted { (model faults file top cert : Text) → result ≡ Status.Done →
@@ -130,8 +130,8 @@ pub fn run<D: Desk>(
     ensures ordered { (model faults top set cert : Text) (first second depth : ℕ) → IsFinished result →
         AsksForOrder (map (λ w. w.now) words.now) model faults top set first second depth cert →
         IfSome (D.told desk.old).files (λ files.
-        HasOrder files model faults top (numbers_of set) first second depth cert result (D.told desk.old).files (D.told desk.new).files
-        (D.told desk.old).said (D.told desk.new).said) }
+        HasOrder files model faults top (numbers_of set) first second depth cert result
+        (D.told desk.old).files (D.told desk.new).files (D.told desk.old).said (D.told desk.new).said) }
     // A run that is done has checked a certificate of what is claimed of two faults, and the claim holds; no file was changed.
     ensures order_accepted { (model faults top set claim cert : Text) (first second : ℕ) → result ≡ Status.Done →
         AsksToCheckOrder (map (λ w. w.now) words.now) model faults top set first second claim cert →
@@ -157,8 +157,8 @@ pub fn run<D: Desk>(
     // However it ends, nothing was done, or a part of that stands: a prefix of what would be written and said.
     ensures left { (((D.told desk.new).files ≡ (D.told desk.old).files) × ((D.told desk.new).said ≡ (D.told desk.old).said)) ⊎ IfSome
         (D.told desk.old).files (λ files.
-        HasStopped files (map (λ w. w.now) words.now) (D.told desk.old).files (D.told desk.new).files (D.told desk.old).said
-        (D.told desk.new).said) }
+        HasStopped files (map (λ w. w.now) words.now)
+        (D.told desk.old).files (D.told desk.new).files (D.told desk.old).said (D.told desk.new).said) }
     // The desk's status comes only where its count of faults rose.
     ensures failed { result ≡ Status.Desk → Rose (D.told desk.old).faults (D.told desk.new).faults }
     ensures later { (D.told desk.old).faults ≤ (D.told desk.new).faults }
@@ -170,12 +170,12 @@ pub fn run<D: Desk>(
 /// Reads the words, and carries out what they ask for.
 fn answer<D: Desk>(alloc: Global, words: &[&str], desk: &mut D, panel: &mut Panel) -> Status
     ensures answered { IsAnswer result → IfSome (D.told desk.old).files (λ files.
-        HasAnswered files (map (λ w. w.now) words.now) result (D.told desk.old).files (D.told desk.new).files (D.told desk.old).said
-        (D.told desk.new).said) }
+        HasAnswered files (map (λ w. w.now) words.now) result
+        (D.told desk.old).files (D.told desk.new).files (D.told desk.old).said (D.told desk.new).said) }
     ensures left { (((D.told desk.new).files ≡ (D.told desk.old).files) × ((D.told desk.new).said ≡ (D.told desk.old).said)) ⊎ IfSome
         (D.told desk.old).files (λ files.
-        HasStopped files (map (λ w. w.now) words.now) (D.told desk.old).files (D.told desk.new).files (D.told desk.old).said
-        (D.told desk.new).said) }
+        HasStopped files (map (λ w. w.now) words.now)
+        (D.told desk.old).files (D.told desk.new).files (D.told desk.old).said (D.told desk.new).said) }
     ensures depth { (c : Asked) (k : ℕ) → WordsMean (map (λ w. w.now) words.now) c → result ≡ Status.Bounded k → depth_of c ≡ Some k }
     ensures words { (rule place : ℕ) → IsAnswer result → BreaksFirst (map (λ w. w.now) words.now) rule place →
         (f : WordFault) × (rule_of f ≡ rule) × (place_of f ≡ place) × (result ≡ Status.Words f) }

@@ -45,10 +45,10 @@ pub(crate) fn carry_out<D: Desk>(
     asked: &Askable,
     panel: &mut Panel,
 ) -> Status
-    ensures answered { IsCarriedOut (seen asked.now) result (D.told desk.old).files (D.told desk.new).files (D.told desk.old).said
-        (D.told desk.new).said }
-    ensures left { IsLeftInPart (seen asked.now) (D.told desk.old).files (D.told desk.new).files (D.told desk.old).said
-        (D.told desk.new).said }
+    ensures answered { IsCarriedOut (seen asked.now) result
+        (D.told desk.old).files (D.told desk.new).files (D.told desk.old).said (D.told desk.new).said }
+    ensures left { IsLeftInPart (seen asked.now)
+        (D.told desk.old).files (D.told desk.new).files (D.told desk.old).said (D.told desk.new).said }
     ensures status { IsOfCommand (seen asked.now) result }
     ensures failed { result ≡ Status.Desk → Rose (D.told desk.old).faults (D.told desk.new).faults }
     ensures stays { IsLater (D.told desk.old) (D.told desk.new) }
@@ -70,11 +70,10 @@ pub(crate) fn carry_out<D: Desk>(
 
 /// Reads both files, writes the extension, and says its faults.
 fn extend_model<D: Desk>(alloc: Global, desk: &mut D, asked: &Extend) -> Status
-    ensures answered { IsCarriedOut (seen (ask.Extend asked.now)) result (D.told desk.old).files (D.told desk.new).files
-        (D.told desk.old).said
-        (D.told desk.new).said }
-    ensures left { IsLeftInPart (seen (ask.Extend asked.now)) (D.told desk.old).files (D.told desk.new).files (D.told desk.old).said
-        (D.told desk.new).said }
+    ensures answered { IsCarriedOut (seen (ask.Extend asked.now)) result
+        (D.told desk.old).files (D.told desk.new).files (D.told desk.old).said (D.told desk.new).said }
+    ensures left { IsLeftInPart (seen (ask.Extend asked.now))
+        (D.told desk.old).files (D.told desk.new).files (D.told desk.old).said (D.told desk.new).said }
     ensures status { IsOfCommand (seen (ask.Extend asked.now)) result }
     ensures failed { result ≡ Status.Desk → Rose (D.told desk.old).faults (D.told desk.new).faults }
     ensures stays { IsLater (D.told desk.old) (D.told desk.new) }
@@ -87,11 +86,10 @@ fn extend_model<D: Desk>(alloc: Global, desk: &mut D, asked: &Extend) -> Status
 
 /// Reads the three files and the top event, and says what a reaching trace has failed.
 fn replay_trace<D: Desk>(alloc: Global, desk: &mut D, asked: &Replay) -> Status
-    ensures answered { IsCarriedOut (seen (ask.Replay asked.now)) result (D.told desk.old).files (D.told desk.new).files
-        (D.told desk.old).said
-        (D.told desk.new).said }
-    ensures left { IsLeftInPart (seen (ask.Replay asked.now)) (D.told desk.old).files (D.told desk.new).files (D.told desk.old).said
-        (D.told desk.new).said }
+    ensures answered { IsCarriedOut (seen (ask.Replay asked.now)) result
+        (D.told desk.old).files (D.told desk.new).files (D.told desk.old).said (D.told desk.new).said }
+    ensures left { IsLeftInPart (seen (ask.Replay asked.now))
+        (D.told desk.old).files (D.told desk.new).files (D.told desk.old).said (D.told desk.new).said }
     ensures status { IsOfCommand (seen (ask.Replay asked.now)) result }
     ensures failed { result ≡ Status.Desk → Rose (D.told desk.old).faults (D.told desk.new).faults }
     ensures stays { IsLater (D.told desk.old) (D.told desk.new) }
@@ -104,11 +102,10 @@ fn replay_trace<D: Desk>(alloc: Global, desk: &mut D, asked: &Replay) -> Status
 
 /// Reads both files and the top event, writes the extension, searches, and says the report.
 fn analyse_event<D: Desk>(alloc: Global, desk: &mut D, asked: &Analyse, panel: &mut Panel) -> Status
-    ensures answered { IsCarriedOut (seen (ask.Analyse asked.now)) result (D.told desk.old).files (D.told desk.new).files
-        (D.told desk.old).said
-        (D.told desk.new).said }
-    ensures left { IsLeftInPart (seen (ask.Analyse asked.now)) (D.told desk.old).files (D.told desk.new).files (D.told desk.old).said
-        (D.told desk.new).said }
+    ensures answered { IsCarriedOut (seen (ask.Analyse asked.now)) result
+        (D.told desk.old).files (D.told desk.new).files (D.told desk.old).said (D.told desk.new).said }
+    ensures left { IsLeftInPart (seen (ask.Analyse asked.now))
+        (D.told desk.old).files (D.told desk.new).files (D.told desk.old).said (D.told desk.new).said }
     ensures status { IsOfCommand (seen (ask.Analyse asked.now)) result }
     ensures failed { result ≡ Status.Desk → Rose (D.told desk.old).faults (D.told desk.new).faults }
     ensures stays { IsLater (D.told desk.old) (D.told desk.new) }
@@ -121,11 +118,10 @@ fn analyse_event<D: Desk>(alloc: Global, desk: &mut D, asked: &Analyse, panel: &
 
 /// Reads the three files and the top event, and says that the certificate is accepted.
 fn check_certificate<D: Desk>(alloc: Global, desk: &mut D, asked: &Check) -> Status
-    ensures answered { IsCarriedOut (seen (ask.Check asked.now)) result (D.told desk.old).files (D.told desk.new).files
-        (D.told desk.old).said
-        (D.told desk.new).said }
-    ensures left { IsLeftInPart (seen (ask.Check asked.now)) (D.told desk.old).files (D.told desk.new).files (D.told desk.old).said
-        (D.told desk.new).said }
+    ensures answered { IsCarriedOut (seen (ask.Check asked.now)) result
+        (D.told desk.old).files (D.told desk.new).files (D.told desk.old).said (D.told desk.new).said }
+    ensures left { IsLeftInPart (seen (ask.Check asked.now))
+        (D.told desk.old).files (D.told desk.new).files (D.told desk.old).said (D.told desk.new).said }
     ensures status { IsOfCommand (seen (ask.Check asked.now)) result }
     ensures failed { result ≡ Status.Desk → Rose (D.told desk.old).faults (D.told desk.new).faults }
     ensures stays { IsLater (D.told desk.old) (D.told desk.new) }
@@ -139,11 +135,10 @@ fn check_certificate<D: Desk>(alloc: Global, desk: &mut D, asked: &Check) -> Sta
 /// Reads the three files, searches for each top event, and says the table.
 fn tabulate<D: Desk>(alloc: Global, desk: &mut D, asked: &Fmea, panel: &mut Panel) -> Status
     requires { asked.now.size ≤ 2 }
-    ensures answered { IsCarriedOut (seen (ask.Fmea asked.now)) result (D.told desk.old).files (D.told desk.new).files
-        (D.told desk.old).said
-        (D.told desk.new).said }
-    ensures left { IsLeftInPart (seen (ask.Fmea asked.now)) (D.told desk.old).files (D.told desk.new).files (D.told desk.old).said
-        (D.told desk.new).said }
+    ensures answered { IsCarriedOut (seen (ask.Fmea asked.now)) result
+        (D.told desk.old).files (D.told desk.new).files (D.told desk.old).said (D.told desk.new).said }
+    ensures left { IsLeftInPart (seen (ask.Fmea asked.now))
+        (D.told desk.old).files (D.told desk.new).files (D.told desk.old).said (D.told desk.new).said }
     ensures status { IsOfCommand (seen (ask.Fmea asked.now)) result }
     ensures failed { result ≡ Status.Desk → Rose (D.told desk.old).faults (D.told desk.new).faults }
     ensures stays { IsLater (D.told desk.old) (D.told desk.new) }
@@ -157,11 +152,10 @@ fn tabulate<D: Desk>(alloc: Global, desk: &mut D, asked: &Fmea, panel: &mut Pane
 /// Generates a case, writes it, searches it, and says its line.
 fn make_case<D: Desk>(alloc: Global, desk: &mut D, asked: &Make, panel: &mut Panel) -> Status
     requires { asked.now.stages ≤ 64 }
-    ensures answered { IsCarriedOut (seen (ask.Make asked.now)) result (D.told desk.old).files (D.told desk.new).files
-        (D.told desk.old).said
-        (D.told desk.new).said }
-    ensures left { IsLeftInPart (seen (ask.Make asked.now)) (D.told desk.old).files (D.told desk.new).files (D.told desk.old).said
-        (D.told desk.new).said }
+    ensures answered { IsCarriedOut (seen (ask.Make asked.now)) result
+        (D.told desk.old).files (D.told desk.new).files (D.told desk.old).said (D.told desk.new).said }
+    ensures left { IsLeftInPart (seen (ask.Make asked.now))
+        (D.told desk.old).files (D.told desk.new).files (D.told desk.old).said (D.told desk.new).said }
     ensures status { IsOfCommand (seen (ask.Make asked.now)) result }
     ensures failed { result ≡ Status.Desk → Rose (D.told desk.old).faults (D.told desk.new).faults }
     ensures stays { IsLater (D.told desk.old) (D.told desk.new) }
@@ -291,8 +285,8 @@ fn deliver_extension<D: Desk>(desk: &mut D, file: &str, made: &Made) -> Status
 fn deliver_report<D: Desk>(desk: &mut D, report: &ByteList) -> Status
     ensures done { IsAnswer result →
         IsDelivered (says report.now) result (D.told desk.old).files (D.told desk.new).files (D.told desk.old).said (D.told desk.new).said }
-    ensures part { IsDeliveredInPart (says report.now) (D.told desk.old).files (D.told desk.new).files (D.told desk.old).said
-        (D.told desk.new).said }
+    ensures part { IsDeliveredInPart (says report.now)
+        (D.told desk.old).files (D.told desk.new).files (D.told desk.old).said (D.told desk.new).said }
     ensures failed { result ≡ Status.Desk → Rose (D.told desk.old).faults (D.told desk.new).faults }
     ensures stays { IsLater (D.told desk.old) (D.told desk.new) }
 {

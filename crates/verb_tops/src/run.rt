@@ -29,8 +29,8 @@ pub fn run_each<D: Desk>(
 ) -> Status
     // Unless the desk failed or memory ran out, the words were refused, or the whole of what the files come to stands.
     ensures answered { IsAnswer result → IfSome (D.told desk.old).files (λ files.
-        HasAnsweredEach files (map (λ w. w.now) words.now) result (D.told desk.old).files (D.told desk.new).files (D.told desk.old).said
-        (D.told desk.new).said) }
+        HasAnsweredEach files (map (λ w. w.now) words.now) result
+        (D.told desk.old).files (D.told desk.new).files (D.told desk.old).said (D.told desk.new).said) }
     // The desk's status comes only where its count of faults rose.
     ensures failed { result ≡ Status.Desk → Rose (D.told desk.old).faults (D.told desk.new).faults }
     ensures later { (D.told desk.old).faults ≤ (D.told desk.new).faults }
@@ -42,8 +42,8 @@ pub fn run_each<D: Desk>(
 /// Reads the words, and carries out what they ask for.
 fn answer<D: Desk>(alloc: Global, words: &[&str], desk: &mut D, panel: &mut Panel) -> Status
     ensures answered { IsAnswer result → IfSome (D.told desk.old).files (λ files.
-        HasAnsweredEach files (map (λ w. w.now) words.now) result (D.told desk.old).files (D.told desk.new).files (D.told desk.old).said
-        (D.told desk.new).said) }
+        HasAnsweredEach files (map (λ w. w.now) words.now) result
+        (D.told desk.old).files (D.told desk.new).files (D.told desk.old).said (D.told desk.new).said) }
     ensures failed { result ≡ Status.Desk → Rose (D.told desk.old).faults (D.told desk.new).faults }
     ensures later { (D.told desk.old).faults ≤ (D.told desk.new).faults }
     ensures quiet { (D.told desk.old).quiet → (D.told desk.new).quiet × ((D.told desk.new).faults ≡ (D.told desk.old).faults) }

@@ -56,8 +56,8 @@ fn number_of(rt: HostRuntime, alloc: Global, words: &[String]) -> u8 {
 
 /// The number of the status with which a run with these words over a desk ends.
 fn ended<D: Desk>(alloc: Global, words: &[&str], desk: &mut D, errors: Stderr) -> u8
-    ensures { IsEnded (map (λ w. w.now) words.now) result (D.told desk.old).files (D.told desk.new).files (D.told desk.old).said
-        (D.told desk.new).said
+    ensures { IsEnded (map (λ w. w.now) words.now) result
+        (D.told desk.old).files (D.told desk.new).files (D.told desk.old).said (D.told desk.new).said
         (D.told desk.old).faults (D.told desk.new).faults }
 {
     match advised(alloc, words, desk, errors) {
@@ -75,8 +75,8 @@ fn advised<D: Desk>(
     errors: Stderr,
 ) -> Result<Status, OutOfMemory>
     ensures { IfOk result
-        (λ s. HasRun (map (λ w. w.now) words.now) s (D.told desk.old).files (D.told desk.new).files (D.told desk.old).said
-        (D.told desk.new).said
+        (λ s. HasRun (map (λ w. w.now) words.now) s
+        (D.told desk.old).files (D.told desk.new).files (D.told desk.old).said (D.told desk.new).said
         (D.told desk.old).faults (D.told desk.new).faults) }
 {
     let mut advisers: Vec<Box<dyn Adviser>> = Vec::new(alloc);
