@@ -1,7 +1,7 @@
 //! What a search came to, as it is written and said: a certificate, where there is one, and a report.
 //!
 //! The main function is [`conclude`], which all verbs that search for one top event end with.
-ghost use Rattle.std.specs.Prelude.{◌≡◌, ◌≤◌, OnOk, OnErr, IsErrOf};
+ghost use Rattle.std.specs.Prelude.{◌≡◌, OnOk, OnErr, IsErrOf};
 ghost use Rattle.base_files.specs.Desk.{OnlyWrites, IsLater, Rose, said_more};
 ghost use Rattle.base_files.specs.declared.desk.WriteStop.TheVariants as write_stop;
 ghost use Rattle.verb_loading.specs.CaseAnswers.{told_maybe, WritesPrefixMaybe};

@@ -1,7 +1,7 @@
 //! Certificates of an order of two faults.
 //!
 //! The main function is [`check_orders`]. A certificate of an order lists no set: it shows that no trace speaks against the claim.
-ghost use Rattle.std.specs.Prelude.{◌≡◌, ◌≤◌, ◌⊎◌, [], codes, IfOk, IfSome, IsErrOf, OnOk};
+ghost use Rattle.std.specs.Prelude.{◌≡◌, ◌⊎◌, [], codes, IfOk, IfSome, IsErrOf, OnOk};
 ghost use Rattle.base_files.specs.Desk.{OnlyReads, OnlySays, Rose, SaysPrefix};
 ghost use Rattle.smv_language.specs.ModelTree.{model_tree, flat_tree};
 ghost use Rattle.cut_search_laws.specs.Searchable.{IsSearchable};

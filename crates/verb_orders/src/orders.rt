@@ -2,11 +2,9 @@
 //!
 //! The main function is [`find_orders`]: a first search looks for a trace that reaches the top event with exactly the set, and a second
 //! for one that speaks against the order that the first shows.
-ghost use Rattle.std.specs.Prelude.{◌≡◌, ◌≤◌, ◌⊎◌, ℕ, Some, None, IfOk, IfSome, IsErrOf, length};
+ghost use Rattle.std.specs.Prelude.{◌≡◌, ◌⊎◌, ℕ, Some, None, IfOk, IfSome, IsErrOf, length};
 ghost use Rattle.base_files.specs.Desk.{OnlyReads, IsLater, Rose};
-ghost use Rattle.smv_language.specs.ModelTree.{flat_tree};
 ghost use Rattle.cut_text_laws.specs.Analysis.{told_ending};
-ghost use Rattle.verb_loading.specs.LoadedEvents.{case_in};
 ghost use Rattle.verb_command_line.specs.Sets.{numbers_of};
 ghost use Rattle.verb_loading.specs.declared.status.Refusal.{Refusal};
 ghost use Rattle.verb_loading.specs.declared.input.Stop.TheVariants as stop;

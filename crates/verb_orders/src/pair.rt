@@ -1,7 +1,7 @@
 //! A set of faults with two of them, and the extension staged for these two.
 //!
 //! The main function is [`load_pair`]: it reads the files, refuses a set with a number that is none of a fault, and stages the model.
-ghost use Rattle.std.specs.Prelude.{◌≡◌, ◌≢◌, ◌≤◌, ℕ, false, IsTrue, length, map, IfOk, IfSome, IsErrOf, OnOk};
+ghost use Rattle.std.specs.Prelude.{◌≡◌, ◌≢◌, ℕ, false, IsTrue, length, map, IfOk, IfSome, IsErrOf, OnOk};
 ghost use Rattle.base_files.specs.Desk.{OnlyReads, Rose};
 ghost use Rattle.smv_language.specs.ModelTree.{model_tree};
 ghost use Rattle.smv_flat_laws.specs.FaultModes.{mode_of};

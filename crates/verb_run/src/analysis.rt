@@ -1,7 +1,7 @@
 //! An analysis: what is written and said.
 //!
 //! The main function is [`deliver_analysis`]: the extension is written first, and the report said last.
-ghost use Rattle.std.specs.Prelude.{◌≡◌, ◌≤◌, IfOk, IsErrOf};
+ghost use Rattle.std.specs.Prelude.{IfOk, IsErrOf};
 ghost use Rattle.base_files.specs.Desk.{IsLater, Rose};
 ghost use Rattle.base_files.specs.declared.desk.WriteStop.TheVariants as write_stop;
 ghost use Rattle.verb_run.specs.Analyses.{HasAnalysed, AnalysesInPart};

@@ -1,7 +1,7 @@
 //! A certificate judged over the extension.
 //!
 //! The main function is [`check_file`]: `cert_file` reads the certificate, and `cert_check` judges it.
-ghost use Rattle.std.specs.Prelude.{◌≡◌, ◌≤◌, ◌<◌, ◌^◌, length, IfOk, IsOk, OnOk, IfSome, IsErrOf};
+ghost use Rattle.std.specs.Prelude.{◌<◌, ◌^◌, length, IfOk, IsOk, OnOk, IfSome, IsErrOf};
 ghost use Rattle.base_files.specs.Desk.{OnlyReads, Rose};
 ghost use Rattle.smv_language.specs.ModelTree.{flat_tree};
 ghost use Rattle.cert_text.specs.CertificateView.{seen};

@@ -2,7 +2,7 @@
 //!
 //! [`stopped`] ends a run that can't go on and says the line of a refusal; [`finished`] and [`ended`] end one that wrote and said,
 //! and [`concluded`] one whose work did so in another crate.
-ghost use Rattle.std.specs.Prelude.{◌≡◌, ◌≤◌, ◌⊎◌, IfOk, OnOk, IsErrOf};
+ghost use Rattle.std.specs.Prelude.{◌≡◌, ◌⊎◌, IfOk, OnOk, IsErrOf};
 ghost use Rattle.base_files.specs.Desk.{OnlySays, IsLater, Rose, told_with, WritesPrefix, said_more, SaysPrefix};
 ghost use Rattle.base_files.specs.declared.desk.WriteStop.TheVariants as write_stop;
 ghost use Rattle.verb_loading.specs.declared.input.Stop.TheVariants as stops;

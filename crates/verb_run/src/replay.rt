@@ -1,7 +1,7 @@
 //! A trace judged over the extension, and what is said of one that reaches the top event.
 //!
 //! The main function is [`replay_file`]: [`judge_trace`] refuses moments that are none, and [`replay_report`] names the failed faults.
-ghost use Rattle.std.specs.Prelude.{◌≤◌, IfSome, ◌≡◌, ◌++◌, if◌then◌else◌, [], codes, false, length, IfOk, OnOk, IsErrOf};
+ghost use Rattle.std.specs.Prelude.{IfSome, ◌≡◌, ◌++◌, if◌then◌else◌, [], codes, false, length, IfOk, OnOk, IsErrOf};
 ghost use Rattle.smv_language.specs.ModelTree.{model_tree, flat_tree};
 ghost use Rattle.smv_flat_laws.specs.FaultModes.{mode_of};
 ghost use Rattle.smv_flat_laws.specs.FlatTrace.{stands_in_some};

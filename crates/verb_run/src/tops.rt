@@ -3,7 +3,7 @@
 //! [`load_table`] reads the three files and refuses; [`deliver_table`] searches for each event, in frames that are made once, and says
 //! the table.
 ghost use Rattle.std.specs.Prelude.{◌≡◌, ◌≤◌, List, All, [], false, length, map, IfOk, OnOk, IfErr, IfSome, IsErrOf};
-ghost use Rattle.base_files.specs.Desk.{OnlyReads, OnlySays, IsLater, Rose};
+ghost use Rattle.base_files.specs.Desk.{OnlyReads, IsLater, Rose};
 ghost use Rattle.base_files.specs.declared.desk.WriteStop.TheVariants as write_stop;
 ghost use Rattle.smv_language.specs.ProgramTree.{Formula, program_tree};
 ghost use Rattle.smv_language.specs.Trace.{Each, EachBoth};

@@ -1,7 +1,7 @@
 //! All top events of a case, one after the other.
 //!
 //! The main function is [`deliver_each`]: the extension is written first, and then each event searched in frames that are made once.
-ghost use Rattle.std.specs.Prelude.{◌≡◌, ◌≤◌, IfOk, IsErrOf};
+ghost use Rattle.std.specs.Prelude.{◌≡◌, IfOk, IsErrOf};
 ghost use Rattle.base_files.specs.Desk.{IsLater, Rose};
 ghost use Rattle.base_files.specs.declared.desk.WriteStop.TheVariants as write_stop;
 ghost use Rattle.sat_encoding_laws.specs.Lists.{system_of};

@@ -1,7 +1,7 @@
 //! The top call.
 //!
 //! The main function is [`run_each`]. Its contract has all that is promised of a run.
-ghost use Rattle.std.specs.Prelude.{◌≡◌, ◌≤◌, Option, IfSome, map};
+ghost use Rattle.std.specs.Prelude.{◌≡◌, ◌≤◌, IfSome, map};
 ghost use Rattle.base_files.specs.Desk.{Rose};
 ghost use Rattle.verb_loading.specs.Statuses.{IsAnswer};
 ghost use Rattle.verb_tops.specs.Each.{AnswersEach, HasAnsweredEach};

@@ -1,4 +1,4 @@
-use Rattle.std.proofs.Common.{arith, Err, IsErrOf, sym, ap, map, ◌∙◌}
+use Rattle.std.proofs.Common.{Err, IsErrOf, sym, ap, map, ◌∙◌}
 use Rattle.std.proofs.lemmas.Result.{err_from_is_err_and}
 use Rattle.smv_language.specs.ProgramTree.{program_tree}
 use Rattle.smv_language.specs.ModelTree.{model_tree}

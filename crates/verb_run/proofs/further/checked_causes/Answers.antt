@@ -1,10 +1,10 @@
-use Rattle.std.proofs.Common.{List, ⊎_elim, IfOk, ◌≡◌, ◌∙◌}
+use Rattle.std.proofs.Common.{List, ⊎_elim, ◌≡◌}
 use Rattle.base_files.specs.declared.files.NamedFile.{NamedFile}
 use Rattle.verb_causes.specs.Causes.{HasCheckedCauses, ChecksCausesInPart}
 use Rattle.verb_loading.specs.declared.status.Status.{Status}
 use Rattle.verb_loading.specs.declared.status.Status.TheVariants as status
 use Rattle.verb_run.specs.Runs.{Stands, StandsInPart, accepts_causes, is_refused, is_done, CommandComesTo}
-use Rattle.verb_run.proofs.FurtherLaws.{answers_work, leaves_work, rose_before, done_told, some_told, left_said, done_also}
+use Rattle.verb_run.proofs.FurtherLaws.{answers_work, leaves_work, rose_before, some_told, left_said, done_also}
 use Rattle.verb_command_line.specs.declared.command.Command.TheVariants as ask
 use Rattle.verb_command_line.specs.CommandView.{seen}
 use Rattle.verb_loading.proofs.SaidLaws.{rose_later}

@@ -1,4 +1,4 @@
-use Rattle.std.proofs.Common.{codes, List, ⊎_elim, ◌∙◌}
+use Rattle.std.proofs.Common.{codes, List, ⊎_elim}
 use Rattle.base_files.specs.declared.files.NamedFile.{NamedFile}
 use Rattle.verb_orders.specs.Orders.{HasCheckedOrder, AcceptsOrder}
 use Rattle.verb_loading.specs.declared.status.Status.{Status}

@@ -1,4 +1,4 @@
-use Rattle.std.proofs.Common.{List, ⊎_elim, ◌∙◌, refl}
+use Rattle.std.proofs.Common.{List, ⊎_elim, refl}
 use Rattle.base_files.specs.declared.files.NamedFile.{NamedFile}
 use Rattle.verb_orders.specs.Orders.{HasOrder, OrdersInPart}
 use Rattle.verb_loading.specs.declared.status.Status.{Status}

@@ -1,4 +1,4 @@
-use Rattle.std.proofs.Common.{Some, Err, inr, sym, ap, ◌∙◌}
+use Rattle.std.proofs.Common.{Some, Err, inr, sym, ap}
 use Rattle.verb_command_line.specs.declared.command.Command.TheVariants as ask
 use Rattle.verb_command_line.specs.CommandView.{seen}
 use Rattle.verb_run.specs.Findings.{analysed_case, analysed_size}

@@ -1,4 +1,4 @@
-use Rattle.std.proofs.Common.{◌≡◌, ◌≤◌, take}
+use Rattle.std.proofs.Common.{◌≡◌, take}
 use Rattle.base_files.specs.Desk.{IsLater}
 use Rattle.verb_tops.specs.Each.{HasReported}
 use Rattle.verb_tops.specs.Work.{case_of_asked, events_of_asked, size_of_asked}
