@@ -13,9 +13,11 @@ import shlex
 
 from running import verbs
 
+# Limits of the program, by their names in its sources; `tools/limits` compares the two.
+MOST_FAULTS, MOST_STAGES, MOST_TOP_BYTES, GREATEST_DEPTH, GREATEST_CASE = 256, 64, 65536, 1000000000, 1000000000
 # What the numbers of options are, as the sentence on a wrong one has it.
-LIMITS = {"--depth": "0 to 1000000000", "--number": "0 to 1000000000", "--stages": "1 to 64", "--first": "1 to 256", "--second": "1 to 256"}
-EVENT_BYTES = 65536
+LIMITS = {"--depth": f"0 to {GREATEST_DEPTH}", "--number": f"0 to {GREATEST_CASE}", "--stages": f"1 to {MOST_STAGES}",
+          "--first": f"1 to {MOST_FAULTS}", "--second": f"1 to {MOST_FAULTS}"}
 
 
 class Wrong(Exception):
@@ -151,11 +153,11 @@ def event_of(name):
     """Returns the event that a file has."""
     try:
         with open(name, "rb") as it:
-            data = it.read(EVENT_BYTES + 1)
+            data = it.read(MOST_TOP_BYTES + 1)
     except OSError as error:
         raise Wrong(f"{printable(name)}: {error.strerror}, of the file of --top @FILE", 5) from None
-    if len(data) > EVENT_BYTES:
-        raise Wrong(f"{printable(name)}: the event has more than {EVENT_BYTES} bytes", 5)
+    if len(data) > MOST_TOP_BYTES:
+        raise Wrong(f"{printable(name)}: the event has more than {MOST_TOP_BYTES} bytes", 5)
     if b"\0" in data:
         raise Wrong(f"{printable(name)}:{data.count(10, 0, data.index(0)) + 1}: a byte 0 is no part of an event", 5)
     try:
@@ -182,8 +184,8 @@ def command_of(words):
 def number_wrong(words, place):
     """Returns the sentence on a number, a set or a claim that the program has refused at a place of an exact form."""
     option, value = words[place - 2:place]
-    limits = {**LIMITS, "--size": "0 to 2" if words[0] == "fmea" else "0 to 256", "--set": "two or more names of faults or rising numbers",
-              "--claim": "before, after, together or none"}
+    limits = {**LIMITS, "--size": "0 to 2" if words[0] == "fmea" else f"0 to {MOST_FAULTS}",
+              "--set": "two or more names of faults or rising numbers", "--claim": "before, after, together or none"}
     kind = "" if option in ("--set", "--claim") else "a number from "
     return f"{option} is {kind}{limits[option]}, and not {shown(value)}"
 

@@ -1,11 +1,12 @@
 -- The values of a domain, and how many there are.
-use Rattle.std.specs.Prelude.{ℕ, neg_ℤ, ◌+ℤ◌, Bool, List, [], ◌∷◌, ◌+◌, ◌-ℤ◌, ◌≤ℤ◌, Contains, if◌then◌else◌, pos, nat_abs, nat_eq}
+use Rattle.std.specs.Prelude.{ℕ, ◌+ℤ◌, Bool, List, [], ◌∷◌, ◌+◌, ◌-ℤ◌, ◌≤ℤ◌, Contains, if◌then◌else◌, pos, nat_abs, nat_eq}
 use Rattle.std.specs.List.{list_any}
 use Rattle.std.specs.Ordering.{int_eq}
 use Rattle.base_values.specs.declared.domain.Domain.{Domain}
 use Rattle.base_values.specs.declared.domain.Domain.TheVariants as domain
 use Rattle.base_values.specs.declared.value.Value.{Value}
 use Rattle.base_values.specs.declared.value.Value.TheVariants as value
+use Rattle.base_values.specs.declared.limits.TheConstants.{LEAST_NUMBER, GREATEST_NUMBER}
 
 -- the value is one of the domain's
 abbrev pub Has : Domain → Value → Type 0
@@ -17,7 +18,7 @@ Has _ _ = ⊥
 
 -- a range is not empty and ends within 32 bits
 abbrev pub IsCountable : Domain → Type 0
-IsCountable (domain.Range lo hi) = (lo ≤ℤ hi) × (neg_ℤ (pos 2147483648) ≤ℤ lo) × (hi ≤ℤ pos 2147483647)
+IsCountable (domain.Range lo hi) = (lo ≤ℤ hi) × (LEAST_NUMBER ≤ℤ lo) × (hi ≤ℤ GREATEST_NUMBER)
 IsCountable _ = Unit {0}
 
 -- how many different items there are: each is counted where it stands last

@@ -5,8 +5,9 @@
 //! [`Valuation`] as a list of values. Every `..List` type of the layers above is an alias of `Items`,
 //! also where a type reaches itself through the list: `specs/formers/items/Items.antt` tells the
 //! toolchain how `Items` stores what it holds. Want of memory is [`OutOfMemory`], and `?` makes it
-//! from each refusal of std. What a domain's values are stands in `specs/Domains.antt`, and how bytes are
-//! cut at a byte in `specs/Separators.antt`.
+//! from each refusal of std. What limits texts, models and the command line stands in [`limits`]. What a
+//! domain's values are stands in `specs/Domains.antt`, and how bytes are cut at a byte in
+//! `specs/Separators.antt`.
 //!
 //! ```text
 //! let mut names = NameList::new(alloc);
@@ -20,6 +21,7 @@ mod digits;
 mod domain;
 mod ending;
 mod items;
+pub mod limits;
 mod members;
 mod memory;
 mod name;
