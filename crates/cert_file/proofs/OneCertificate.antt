@@ -1,5 +1,6 @@
 -- What the file of a certificate holds is one, and so is what is wrong with it; and what is so over a case and an event is so over one.
 use Rattle.std.proofs.Common.{◌≡◌, ℕ, List, sym, ap, subst, ◌∙◌}
+use Rattle.base_values.specs.declared.limits.TheConstants.{MOST_CERT_BYTES}
 use Rattle.base_files.specs.declared.files.NamedFile.{NamedFile}
 use Rattle.smv_language.specs.ProgramTree.{Text, Formula}
 use Rattle.smv_language.specs.Tree.{Tree}
@@ -30,21 +31,21 @@ spelled_not_wrong bytes c fault spells (a_bad_line n is bad) = spelled_has_none.
 spelled_not_wrong bytes c fault spells (a_missing_line n is ends) = spelled_has_none.1 bytes c n spells ends
 
 module _ (files : List NamedFile) (name : Text) where
-  same_bytes : (a b : List ℕ) → HasAtMost 268435456 files name a → HasAtMost 268435456 files name b → a ≡ b
-  same_bytes a b has holds = same_bytes_within 268435456 files name a b has holds
+  same_bytes : (a b : List ℕ) → HasAtMost MOST_CERT_BYTES files name a → HasAtMost MOST_CERT_BYTES files name b → a ≡ b
+  same_bytes a b has holds = same_bytes_within MOST_CERT_BYTES files name a b has holds
 
   pub one_refused_certificate : (r s : Refusal) → RefusesCertificate files name r → RefusesCertificate files name s → r ≡ s
   one_refused_certificate r s (certificate_file a is refused) (certificate_file b was also) =
-      is ∙ ap (λ f. refusal.NotAccepted (objection.Cert f)) (one_fault_above 268435456 files name a b refused also) ∙ sym was
-  one_refused_certificate r s (certificate_file a is refused) (certificate_bytes bytes b was has bad) = absurd (no_bytes_within 268435456 files name a bytes refused has)
-  one_refused_certificate r s (certificate_bytes bytes a is has bad) (certificate_file b was refused) = absurd (no_bytes_within 268435456 files name b bytes refused has)
+      is ∙ ap (λ f. refusal.NotAccepted (objection.Cert f)) (one_fault_above MOST_CERT_BYTES files name a b refused also) ∙ sym was
+  one_refused_certificate r s (certificate_file a is refused) (certificate_bytes bytes b was has bad) = absurd (no_bytes_within MOST_CERT_BYTES files name a bytes refused has)
+  one_refused_certificate r s (certificate_bytes bytes a is has bad) (certificate_file b was refused) = absurd (no_bytes_within MOST_CERT_BYTES files name b bytes refused has)
   one_refused_certificate r s (certificate_bytes bytes a is has bad) (certificate_bytes others b was holds also) =
       is
       ∙ ap (λ f. refusal.NotAccepted (objection.Cert f)) (one_wrong_text bytes a b bad (subst (λ t. IsWrongText t b) (same_bytes others bytes holds has) also))
       ∙ sym was
 
   pub held_certificate_not_refused : (a : Certificate) (r : Refusal) → HoldsCertificate files name a → RefusesCertificate files name r → ⊥
-  held_certificate_not_refused a r h (certificate_file fault is refused) = no_bytes_within 268435456 files name fault h.bytes refused h.has
+  held_certificate_not_refused a r h (certificate_file fault is refused) = no_bytes_within MOST_CERT_BYTES files name fault h.bytes refused h.has
   held_certificate_not_refused a r h (certificate_bytes bytes fault is has bad) =
       spelled_not_wrong h.bytes a fault h.spells (subst (λ t. IsWrongText t fault) (same_bytes bytes h.bytes has h.has) bad)
 

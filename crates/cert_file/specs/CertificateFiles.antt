@@ -1,5 +1,6 @@
 -- What the file of a certificate holds, and what is wrong with it.
 use Rattle.std.specs.Prelude.{◌≡◌, ℕ, List}
+use Rattle.base_values.specs.declared.limits.TheConstants.{MOST_CERT_BYTES}
 use Rattle.base_files.specs.declared.files.NamedFile.{NamedFile}
 use Rattle.smv_language.specs.ProgramTree.{Text}
 use Rattle.cert_laws.specs.Certificate.{Certificate}
@@ -22,14 +23,15 @@ pub data IsWrongText (bytes : List ℕ) (fault : InputFault) : Type 0 where
 
 -- the file of a certificate is refused, or its text
 pub data RefusesCertificate (files : List NamedFile) (name : Text) (r : Refusal) : Type 0 where
-  certificate_file : (fault : InputFault) → r ≡ refusal.NotAccepted (objection.Cert fault) → IsRefusedAbove 268435456 files name fault →
+  certificate_file : (fault : InputFault) → r ≡ refusal.NotAccepted (objection.Cert fault) →
+      IsRefusedAbove MOST_CERT_BYTES files name fault →
       RefusesCertificate files name r
   certificate_bytes : (bytes : List ℕ) (fault : InputFault) → r ≡ refusal.NotAccepted (objection.Cert fault) →
-      HasAtMost 268435456 files name bytes → IsWrongText bytes fault →
+      HasAtMost MOST_CERT_BYTES files name bytes → IsWrongText bytes fault →
       RefusesCertificate files name r
 
 -- the file holds a text that spells this certificate
 pub record HoldsCertificate (files : List NamedFile) (name : Text) (a : Certificate) : Type 0 where
   pub bytes : List ℕ
-  pub has : HasAtMost 268435456 files name bytes
+  pub has : HasAtMost MOST_CERT_BYTES files name bytes
   pub spells : SpellsCertificate bytes a

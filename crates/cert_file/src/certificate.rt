@@ -15,15 +15,13 @@ ghost use Rattle.verb_loading.specs.declared.status.Objection.TheVariants as obj
 ghost use Rattle.verb_loading.specs.declared.input.Stop.TheVariants as stop;
 
 use base_files::{Desk, DeskFault, read_whole};
+use base_values::limits::MOST_CERT_BYTES;
 use base_values::{ByteList, OutOfMemory};
 use cert_check::spelled_are_checkable;
 use cert_text::{CertFault, Certificate, read};
 use std::alloc::Global;
 use verb_loading::input::Stop;
 use verb_loading::status::{InputFault, Objection, Part, Refusal};
-
-/// The limit of the file of a certificate, in bytes.
-const CERT_LIMIT: u64 = 268_435_456;
 
 /// The certificate that the file spells.
 pub fn load_certificate<D: Desk>(
@@ -51,18 +49,18 @@ pub fn load_certificate<D: Desk>(
 
 /// The bytes of the file of a certificate.
 fn read_certificate_file<D: Desk>(alloc: Global, desk: &mut D, name: &str) -> Result<Vec<u8>, Stop>
-    ensures bytes { IfOk result (λ bytes. IfSome (D.told desk.old).files (λ files. HasAtMost 268435456 files name.now bytes.items)) }
-    ensures short { IfOk result (λ bytes. length bytes.items ≤ 268435456) }
+    ensures bytes { IfOk result (λ bytes. IfSome (D.told desk.old).files (λ files. HasAtMost MOST_CERT_BYTES files name.now bytes.items)) }
+    ensures short { IfOk result (λ bytes. length bytes.items ≤ MOST_CERT_BYTES) }
     ensures refused { (r : Refusal) → IsErrOf result (stop.Refused r) →
         (fault : InputFault) × (r ≡ refusal.NotAccepted (objection.Cert fault))
-        × IfSome (D.told desk.old).files (λ files. IsRefusedAbove 268435456 files name.now fault) }
+        × IfSome (D.told desk.old).files (λ files. IsRefusedAbove MOST_CERT_BYTES files name.now fault) }
     ensures failed { IsErrOf result stop.Desk → Rose (D.told desk.old).faults (D.told desk.new).faults }
     ensures stays { OnlyReads (D.told desk.old) (D.told desk.new) }
 {
-    match read_whole(alloc, desk, name, CERT_LIMIT) {
+    match read_whole(alloc, desk, name, MOST_CERT_BYTES) {
         Ok(bytes) => Ok(bytes),
         Err(DeskFault::Absent) => Err(cert_stop(Part::Absent, 1, 0)),
-        Err(DeskFault::TooLong) => Err(cert_stop(Part::Length, 1, CERT_LIMIT)),
+        Err(DeskFault::TooLong) => Err(cert_stop(Part::Length, 1, MOST_CERT_BYTES)),
         Err(DeskFault::Failed) => Err(Stop::Desk),
         Err(DeskFault::OutOfMemory) => Err(Stop::Memory),
     }

@@ -1,6 +1,7 @@
 -- A case with a top event can be searched, and a complete answer certified.
 use Rattle.std.proofs.Common.{arith, ◌≡◌, ◌<◌, ◌≤◌, ◌^◌, [], length, map, subst, ◌∙◌}
 use Rattle.std.proofs.lemmas.List.{length-map}
+use Rattle.base_values.specs.declared.limits.TheConstants.{MOST_BITS}
 use Rattle.smv_language.specs.Tree.{Tree}
 use Rattle.smv_language.specs.ProgramTree.{Text, ProgramTree}
 use Rattle.smv_flat_laws.specs.FaultModes.{mode_of}
@@ -22,6 +23,7 @@ use Rattle.verb_loading.specs.LoadedEvents.{IsAnalysable}
 use Rattle.verb_loading.proofs.FlatLimits.{flat_typed}
 use Rattle.verb_loading.proofs.LoadedLaws.{same_counts}
 use Rattle.verb_loading.proofs.TopLaws.{have_models}
+use Rattle.sat_encoding_laws.specs.Variables.{most_asked_cost}
 
 module _ (p : ProgramTree) (l : LoadedCase) (word : Text) (tree : Tree FlatLeaf) (is : IsAnalysable p l word tree) where
   abbrev the_case : Case
@@ -50,12 +52,12 @@ module _ (p : ProgramTree) (l : LoadedCase) (word : Text) (tree : Tree FlatLeaf)
       let c : Case = the_case in
       let h = is.loaded.is_case in
       let typed : IsTyped c.flat = flat_typed c.program is.flat c.instructions c.faults is.lawful h.taken h.are_faults c.flat h.is_flat h.within in
-      let small : cost_of tree ≤ 60000 = let cost = top_fits.small in omega (arith, cost) in
+      let small : cost_of tree ≤ most_asked_cost = let cost = top_fits.small in omega (arith, cost) in
       extensions_searchable c.program c.instructions c.faults is.event.top c.flat c.modes tree model_of_case is.loaded.writable few typed h.typed top_fits.fits small
 
   -- it has few faults
-  pub case_few : length l.limited.faults ≤ 4096
-  case_few = subst (λ n. n ≤ 4096) (length-map l.limited.faults mode_of) (few_faults the_case.flat the_case.modes is.loaded.is_case.typed.small)
+  pub case_few : length l.limited.faults ≤ MOST_BITS
+  case_few = subst (λ n. n ≤ MOST_BITS) (length-map l.limited.faults mode_of) (few_faults the_case.flat the_case.modes is.loaded.is_case.typed.small)
 
   pub case_counts : length (map fault_tree l.limited.woven.faults) ≡ length l.limited.faults
   case_counts = length-map l.limited.woven.faults fault_tree ∙ same_counts l.limited.typed.model l.limited.woven.faults l.limited.faults is.loaded.numbered

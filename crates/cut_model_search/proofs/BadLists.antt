@@ -4,6 +4,7 @@ use Rattle.std.specs.List.{range_with_len}
 use Rattle.std.proofs.lemmas.List.{length-map}
 use Rattle.std.proofs.lemmas.Bool.{cases_lt}
 use Rattle.std.proofs.Math.Nat.{min-le_right, min-eq_left, min-eq_right}
+use Rattle.base_values.specs.declared.limits.TheConstants.{MOST_BITS}
 use Rattle.smv_language.specs.Tree.{Tree}
 use Rattle.smv_language.specs.declared.model.FlatModel.{FlatModel as CodeModel}
 use Rattle.smv_language.specs.ModelTree.{model_tree, variable_tree}
@@ -28,7 +29,7 @@ faults_within full m fs e =
     omega (arith, same)
 
 -- there are at most 4,096 faults
-pub few : (v : FaultyValue) → CanBeSearched v → length (modes_in v) ≤ 4096
+pub few : (v : FaultyValue) → CanBeSearched v → length (modes_in v) ≤ MOST_BITS
 few v can = few_faults (flat_in v) (modes_in v) can.encodable.typed.small
 
 -- the last variables are the bits of history

@@ -10,6 +10,7 @@ use Rattle.smv_language.specs.ProgramTree.{Text}
 use Rattle.smv_language.specs.Values.{Value as Told}
 use Rattle.smv_language.specs.Trace.{Each}
 use Rattle.base_values.specs.declared.value.Value.{Value}
+use Rattle.base_values.specs.declared.limits.TheConstants.{MOST_BITS, MOST_COST}
 use Rattle.smv_language.specs.Flat.{FlatLeaf, FlatModel}
 use Rattle.smv_flat_laws.specs.FlatTrace.{AreInDomains, IsFlatMoment, IsFlatTrace}
 use Rattle.smv_flat_laws.specs.History.{Mode, with_history}
@@ -67,21 +68,21 @@ traces_same : (symbols : List Text) (found : List CodeFound) → traces_of (all_
 traces_same symbols [] = refl
 traces_same symbols (f ∷ fs) = ap (λ more. trace_of symbols f.trace ∷ more) (traces_same symbols fs)
 
--- A model that can be encoded with its history has at most 4,096 bits, and as many faults.
+-- A model that can be encoded with its history has at most `MOST_BITS` bits, and as many faults.
 module _ (m : FlatModel) (fs : List Mode) (is : IsEncodable (with_history m fs)) where
-  pub few_bits : state_bits (with_history m fs) ≤ 4096
-  few_bits = by_tests (nat_lt 50000 (model_cost (with_history m fs))) (nat_lt 4096 (state_bits (with_history m fs))) refl is.typed.small
+  pub few_bits : state_bits (with_history m fs) ≤ MOST_BITS
+  few_bits = by_tests (nat_lt MOST_COST (model_cost (with_history m fs))) (nat_lt MOST_BITS (state_bits (with_history m fs))) refl is.typed.small
     where
-      by_cases : (n : ℕ) → nat_lt 4096 n ≡ false → (4096 < n) ⊎ (n ≤ 4096) → n ≤ 4096
-      by_cases n t (inl more) = let bad : true ≡ false = sym (lt-ltb 4096 n more) ∙ t in cc
+      by_cases : (n : ℕ) → nat_lt MOST_BITS n ≡ false → (MOST_BITS < n) ⊎ (n ≤ MOST_BITS) → n ≤ MOST_BITS
+      by_cases n t (inl more) = let bad : true ≡ false = sym (lt-ltb MOST_BITS n more) ∙ t in cc
       by_cases n t (inr few) = few
 
-      by_tests : (a b : Bool) → nat_lt 4096 (state_bits (with_history m fs)) ≡ b → (a || b) ≡ false → state_bits (with_history m fs) ≤ 4096
+      by_tests : (a b : Bool) → nat_lt MOST_BITS (state_bits (with_history m fs)) ≡ b → (a || b) ≡ false → state_bits (with_history m fs) ≤ MOST_BITS
       by_tests true b t e = cc
       by_tests false true t e = cc
-      by_tests false false t e = by_cases (state_bits (with_history m fs)) t (cases_lt 4096 (state_bits (with_history m fs)))
+      by_tests false false t e = by_cases (state_bits (with_history m fs)) t (cases_lt MOST_BITS (state_bits (with_history m fs)))
 
-  pub few_faults : length fs ≤ 4096
+  pub few_faults : length fs ≤ MOST_BITS
   few_faults = let bits : state_bits (with_history m fs) ≡ state_bits m + length fs = (history_last m fs).1 in omega (arith, few_bits, bits)
 
 -- The analysis is complete.
@@ -196,13 +197,13 @@ module _ (v : FaultyValue) (can : CanBeSearched v) (a : Analysis) (is : IsCertif
     certified = analysed_is_accepted (GivesTrace m) m fs top subject (subjects_right m fs top can.encodable can.fits) made of_analysis
 
     -- Its numbers are small.
-    small_below : (n : ℕ) → n ≤ 4096 → n < 2 ^ 31
+    small_below : (n : ℕ) → n ≤ MOST_BITS → n < 2 ^ 31
     small_below n h = omega (arith, h)
 
     small_set : (set : List ℕ) → IsNumbered (length fs) set → AllByRecursion IsSmall set
     small_set set h = recursion_from_each (λ i. (Rattle.std.proofs.Common.◌≤◌ 1 i) × (i ≤ length fs)) IsSmall (λ i h. small_below i (below i (length fs) h.1 (few_faults m fs can.encodable))) set h
       where
-        below : (i n : ℕ) → i ≤ n → n ≤ 4096 → i ≤ 4096
+        below : (i n : ℕ) → i ≤ n → n ≤ MOST_BITS → i ≤ MOST_BITS
         below i n h k = omega (arith, h, k)
 
     small_clause : (c : List Literal) → IsOverBits (system_of full) c → AllByRecursion IsLiteral c
@@ -212,7 +213,7 @@ module _ (v : FaultyValue) (can : CanBeSearched v) (a : Analysis) (is : IsCertif
         low : (n : ℕ) → 2 ≤ n → 1 ≤ n
         low n h = omega (arith, h)
 
-        high : (n k : ℕ) → n < k + 2 → k ≤ 4096 → n < 2 ^ 63
+        high : (n k : ℕ) → n < k + 2 → k ≤ MOST_BITS → n < 2 ^ 63
         high n k h l = omega (arith, h, l)
 
     pub writable : length a.sets < 2 ^ 63 → length clauses < 2 ^ 63 → All IsWritableText (map (text_lines v.model) a.traces) → IsWritable made
@@ -220,7 +221,7 @@ module _ (v : FaultyValue) (can : CanBeSearched v) (a : Analysis) (is : IsCertif
       one_each = length-map a.traces (text_lines v.model) ∙ sym (length-map a.traces (trace_of m.symbols)) ∙ right.one_each;
       bits = small_below (state_bits full) (few_bits m fs can.encodable);
       faults = small_below (length fs) (few_faults m fs can.encodable);
-      size = small_below a.size (let few : length fs ≤ 4096 = few_faults m fs can.encodable in omega (arith, few, is.small));
+      size = small_below a.size (let few : length fs ≤ MOST_BITS = few_faults m fs can.encodable in omega (arith, few, is.small));
       count_of_sets = few_sets;
       sets = recursion_from_each (IsNumbered (length fs)) (AllByRecursion IsSmall) small_set a.sets numbered;
       traces = recursion_from_All IsWritableText (map (text_lines v.model) a.traces) texts;

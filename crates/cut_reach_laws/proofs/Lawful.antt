@@ -35,6 +35,7 @@ use Rattle.cut_reach_laws.proofs.Naming.{each_of}
 use Rattle.cut_reach_laws.proofs.Words.{cause_words, cause_distinct, own_words, owns_distinct}
 use Rattle.std.proofs.lemmas.Bool.{or_parts as neither}
 use Rattle.std.proofs.lemmas.Option.{slice_get_within as got_within}
+use Rattle.base_values.specs.declared.limits.TheConstants.{MOST_EVENTS, LONGEST_WINDOW}
 use Rattle.fault_weave.proofs.WovenExamples.{texts_differ as differs}
 use Rattle.sat_encoding_laws.proofs.InputsFree.{each_none as none_of}
 use Rattle.smv_flat_laws.proofs.BothLaws.{both_size}
@@ -166,14 +167,14 @@ seven_kept false false false false false false false h = record { apart = refl; 
 record IsKeptCause (faults : List Fault) (w : ProgramTree) (before : List WrittenCause) (c : WrittenCause) : Type 0 where
   apart : has_double c.strikes ≡ false
   window : nat_lt c.to c.from ≡ false
-  narrow : nat_lt 100 c.to ≡ false
-  few : nat_lt 256 (length faults + (length before + 1)) ≡ false
+  narrow : nat_lt LONGEST_WINDOW c.to ≡ false
+  few : nat_lt MOST_EVENTS (length faults + (length before + 1)) ≡ false
   free : is_any_taken w (flat_map names_of_cause before) (names_of_cause c) ≡ false
 
 kept_cause : (faults : List Fault) (w : ProgramTree) (before : List WrittenCause) (c : WrittenCause) → broken_at faults w before c ≡ None → IsKeptCause faults w before c
 kept_cause faults w before c h =
     let all = seven_kept (list_any (λ p. not (is_path_among (map fault_path faults) p)) c.strikes) (list_any (λ (b : WrittenCause). same_text b.name c.name) before) (has_double c.strikes) (nat_lt c.to c.from)
-    (nat_lt 100 c.to) (nat_lt 256 (length faults + (length before + 1))) (is_any_taken w (flat_map names_of_cause before) (names_of_cause c)) h in
+    (nat_lt LONGEST_WINDOW c.to) (nat_lt MOST_EVENTS (length faults + (length before + 1))) (is_any_taken w (flat_map names_of_cause before) (names_of_cause c)) h in
     record { apart = all.apart; window = all.window; narrow = all.narrow; few = all.few; free = all.free }
 
 -- names of which none is one of the program or was added before

@@ -1,5 +1,6 @@
 -- The staged model can be searched.
 use Rattle.std.proofs.Common.{◌≡◌, ℕ, suc, ◌+◌, ◌-◌, ◌^◌, ◌<◌, ◌≤◌, List, [], Option, length, codes, sym, ◌∙◌, ap, subst, arith}
+use Rattle.base_values.specs.declared.limits.TheConstants.{MOST_FAULTS, MOST_TOP_COST}
 use Rattle.smv_language.specs.Tree.{Tree}
 use Rattle.smv_language.specs.Flat.{FlatLeaf, FlatModel}
 use Rattle.smv_flat_laws.specs.History.{Mode, with_history}
@@ -18,6 +19,7 @@ use Rattle.cut_reach_laws.proofs.Grown.{HasClauses}
 use Rattle.cut_reach_laws.proofs.Fits.{fit_set, fit_claim, set_cost, claim_cost}
 use Rattle.cut_reach_laws.proofs.Ordered.{boolean_kept, boolean_added, clauses_kept, fit_kept, no_more_inputs}
 use Rattle.cert_laws.proofs.Own.{own_names, closed_own}
+use Rattle.sat_encoding_laws.specs.Variables.{most_asked_cost}
 
 pub staged_length : (m : FlatModel) (fs : List Mode) (i j : ℕ) → length (stage m fs i j).variables ≡ suc (suc (length m.variables + length fs))
 staged_length m fs i j =
@@ -99,11 +101,11 @@ module _ (m : FlatModel) (fs : List Mode) (top : Tree FlatLeaf) (is : IsSearchab
         (fit_claim staged (length base.variables) claim (with_set (length base.variables - length fs) 1 (length fs) set top) ahead_there behind_there
         (fit_set staged (length base.variables - length fs) 1 (length fs) set top (λ j from to. history_bits j (omega (arith, start, from)) (omega (arith, start, to))) top_fits))
 
-    speaks_small : cost_of top ≤ 50000 → length fs ≤ 256 → cost_of (against staged (length fs) top set claim) ≤ 60000
+    speaks_small : cost_of top ≤ MOST_TOP_COST → length fs ≤ MOST_FAULTS → cost_of (against staged (length fs) top set claim) ≤ most_asked_cost
     speaks_small cost few =
         let of_set = set_cost (length base.variables - length fs) 1 (length fs) set top in
         let of_claim = claim_cost (length base.variables) claim (with_set (length base.variables - length fs) 1 (length fs) set top) in
-        subst (λ e. cost_of e ≤ 60000) (sym at_place) (omega (arith, cost, few, of_set, of_claim))
+        subst (λ e. cost_of e ≤ most_asked_cost) (sym at_place) (omega (arith, cost, few, of_set, of_claim))
 
   few_inputs : input_bits staged ≤ 2 ^ 30
   few_inputs =
@@ -118,7 +120,7 @@ module _ (m : FlatModel) (fs : List Mode) (top : Tree FlatLeaf) (is : IsSearchab
       record { closed = c.closed; typed = typed; symbols = c.symbols; types = c.types; at_first = c.at_first; at_each = c.at_each; at_step = c.at_step }
 
 -- what is asked of a model without faults, over the model itself
-without_faults : (n : FlatModel) (e : Tree FlatLeaf) → IsEncodable n → IsFitTop n e → input_bits n ≤ 2 ^ 30 → cost_of e ≤ 60000 → IsSearchable n [] e
+without_faults : (n : FlatModel) (e : Tree FlatLeaf) → IsEncodable n → IsFitTop n e → input_bits n ≤ 2 ^ 30 → cost_of e ≤ most_asked_cost → IsSearchable n [] e
 without_faults n e is fits inputs small =
     let none : n ≡ with_history n [] = sym (no_bits n) in
     record {

@@ -23,6 +23,7 @@ use Rattle.fault_cause_laws.specs.CausesText.{WrittenCause, BytesSpellCauses}
 use Rattle.fault_cause_laws.specs.CauseRules.{AreLawful, AreReadAs}
 use Rattle.fault_cause_laws.specs.StagedModel.{with_causes, events_of}
 use Rattle.smv_language.specs.Texts.{AreApart}
+use Rattle.sat_encoding_laws.specs.Variables.{most_asked_cost}
 
 -- The model is encodable, its faults are modes of its state, the causes strike them, and the top event fits; inputs and event are small.
 pub record CanHaveCauses (m : FlatModel) (fs : List Mode) (cs : List CommonCause) (top : Tree FlatLeaf) : Type 0 where
@@ -31,7 +32,7 @@ pub record CanHaveCauses (m : FlatModel) (fs : List Mode) (cs : List CommonCause
   pub causes : Each (IsCauseOf (length fs)) cs
   pub fits : IsFitTop m top
   pub few_inputs : input_bits m ≤ 2 ^ 30
-  pub small_top : cost_of top ≤ 60000
+  pub small_top : cost_of top ≤ most_asked_cost
 
 -- The model with causes can be searched with its events and the top event, is encodable itself, has the symbols of its types, and
 -- the top event fits it.

@@ -19,29 +19,30 @@ use Rattle.smv_type_laws.specs.Costs.{digits_above, width_of, width_in, declared
 use Rattle.sat_encoding_laws.specs.Layout.{width_as_input, input_width, input_bits}
 use Rattle.sat_encoding_laws.proofs.SizeLists.{digits_most}
 use Rattle.std.proofs.lemmas.Bool.{cases_lt}
+use Rattle.base_values.specs.declared.limits.TheConstants.{MOST_VARIABLES, MOST_BITS}
 use Rattle.smv_flat_laws.proofs.VariableCounts.{variables_and}
 use Rattle.smv_flat_laws.proofs.BothLaws.{both_size}
 
 -- ---- variables
 
-below_limit : (n one : ℕ) → (2000 ≤ n → ⊥) → one ≤ 1 → n + one ≤ 2000
-below_limit n one none h = ⊎_elim (λ less. omega (arith, less, h)) (λ more. absurd (none more)) (cases_lt n 2000)
+below_limit : (n one : ℕ) → (MOST_VARIABLES ≤ n → ⊥) → one ≤ 1 → n + one ≤ MOST_VARIABLES
+below_limit n one none h = ⊎_elim (λ less. omega (arith, less, h)) (λ more. absurd (none more)) (cases_lt n MOST_VARIABLES)
 
 module _ (p : ProgramTree) where
-  -- one visit more: an instance is no variable, and a variable has at most 1,999 before it
-  room_for : (before : List Visit) (v : Visit) (d : DeclaredTree) → d ≡ v.decl.what → IsKept p (a_visit before v) → variables_before before ≤ 2000 → variables_before before + length (variable_declared v d) ≤ 2000
+  -- one visit more: an instance is no variable, and a variable has fewer before it than the most
+  room_for : (before : List Visit) (v : Visit) (d : DeclaredTree) → d ≡ v.decl.what → IsKept p (a_visit before v) → variables_before before ≤ MOST_VARIABLES → variables_before before + length (variable_declared v d) ≤ MOST_VARIABLES
   room_for before v (instance m actuals) e kept h = omega (arith, h)
   room_for before v boolean e kept h = below_limit (variables_before before) 1 (λ most. kept too_many (subst (PassesLimit before) e most)) (omega arith)
   room_for before v (range lo hi) e kept h = below_limit (variables_before before) 1 (λ most. kept too_many (subst (PassesLimit before) e most)) (omega arith)
   room_for before v (members ms) e kept h = below_limit (variables_before before) 1 (λ most. kept too_many (subst (PassesLimit before) e most)) (omega arith)
 
-  few_after : (before vs : List Visit) → Each (IsKept p) (visit_sites before vs) → variables_before before ≤ 2000 → variables_before (before ++ vs) ≤ 2000
-  few_after before [] kept h = subst (λ xs. variables_before xs ≤ 2000) (sym (append-nil before)) h
+  few_after : (before vs : List Visit) → Each (IsKept p) (visit_sites before vs) → variables_before before ≤ MOST_VARIABLES → variables_before (before ++ vs) ≤ MOST_VARIABLES
+  few_after before [] kept h = subst (λ xs. variables_before xs ≤ MOST_VARIABLES) (sym (append-nil before)) h
   few_after before (v ∷ vs) kept h =
-      let here : variables_before (before ++ v ∷ []) ≤ 2000 = subst (λ n. n ≤ 2000) (sym (variables_and before v)) (room_for before v v.decl.what refl kept.0 h) in
-      subst (λ xs. variables_before xs ≤ 2000) (append_assoc before (v ∷ []) vs) (few_after (before ++ v ∷ []) vs kept.1 here)
+      let here : variables_before (before ++ v ∷ []) ≤ MOST_VARIABLES = subst (λ n. n ≤ MOST_VARIABLES) (sym (variables_and before v)) (room_for before v v.decl.what refl kept.0 h) in
+      subst (λ xs. variables_before xs ≤ MOST_VARIABLES) (append_assoc before (v ∷ []) vs) (few_after (before ++ v ∷ []) vs kept.1 here)
 
-few_variables : (p : ProgramTree) (m : FlatModel) → IsAccepted p → IsFlatOf p m → length m.variables ≤ 2000
+few_variables : (p : ProgramTree) (m : FlatModel) → IsAccepted p → IsFlatOf p m → length m.variables ≤ MOST_VARIABLES
 few_variables p m accepted is =
     let few = few_after p [] (visits p) (accepted_walkable p accepted).visits (omega arith) in
     let same = both_size (IsVariableOf m) (variables_of p) m.variables is.variables in
@@ -81,8 +82,8 @@ inputs_most symbols (x ∷ xs) =
     let sum = sum_by-cons (input_width symbols) x xs in
     omega (arith, one, width, rest, sum)
 
--- with a bit for each of at most 4,096 faults
-pub few_inputs : (p : ProgramTree) (m : FlatModel) (fs : List Mode) → IsAccepted p → IsFlatOf p m → length fs ≤ 4096 → input_bits (with_history m fs) ≤ 2 ^ 30
+-- with a bit for each of at most `MOST_BITS` faults
+pub few_inputs : (p : ProgramTree) (m : FlatModel) (fs : List Mode) → IsAccepted p → IsFlatOf p m → length fs ≤ MOST_BITS → input_bits (with_history m fs) ≤ 2 ^ 30
 few_inputs p m fs accepted is few =
     let own = few_variables p m accepted is in
     let long : length (with_history m fs).variables ≡ length m.variables + length fs = length-append m.variables (bit_variables 0 fs) ∙ ap (λ k. length m.variables + k) (length_bits 0 fs) in

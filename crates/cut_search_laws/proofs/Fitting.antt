@@ -4,6 +4,7 @@ use Rattle.std.specs.Prelude.{nat_lt}
 use Rattle.std.proofs.lemmas.Bool.{ltb-false, or_parts as neither}
 use Rattle.std.proofs.lemmas.Nat.{mul-le}
 use Rattle.std.proofs.lemmas.List.FromFn.{length-range_with_len}
+use Rattle.base_values.specs.declared.limits.TheConstants.{MOST_BITS, MOST_COST}
 use Rattle.smv_language.specs.Flat.{FlatModel}
 use Rattle.smv_flat_laws.specs.History.{Mode, with_history}
 use Rattle.smv_type_laws.specs.Costs.{cost_of, model_cost, state_bits}
@@ -14,18 +15,18 @@ use Rattle.cut_frames.specs.Condition.{IsLow, IsOverNow}
 use Rattle.sat_encoding_laws.specs.FlatTraces.{history_of}
 use Rattle.sat_encoding_laws.specs.Layout.{input_bits, gates_place}
 use Rattle.sat_encoding_laws.specs.Lists.{system_of, first_list, step_list, bad_list}
-use Rattle.sat_encoding_laws.specs.Variables.{UseStates, lists_room, bad_room}
+use Rattle.sat_encoding_laws.specs.Variables.{UseStates, lists_room, bad_room, most_asked_cost}
 use Rattle.sat_encoding_laws.proofs.CleanLists.{lists_use_states}
 use Rattle.sat_encoding_laws.proofs.SizeLists.{lists_small}
 use Rattle.sat_encoding_laws.proofs.HistoryPlaces.{history_last}
 use Rattle.cut_search_laws.specs.Searchable.{ListsFitFrames}
 
--- a typed model costs at most 50,000 and has at most 4,096 bits of state
-limits : (m : FlatModel) → is_too_large m ≡ false → (model_cost m ≤ 50000) × (state_bits m ≤ 4096)
-limits m e = let both = neither (nat_lt 50000 (model_cost m)) (nat_lt 4096 (state_bits m)) e in (ltb-false 50000 (model_cost m) both.0, ltb-false 4096 (state_bits m) both.1)
+-- a typed model costs at most `MOST_COST` and has at most `MOST_BITS` bits of state
+limits : (m : FlatModel) → is_too_large m ≡ false → (model_cost m ≤ MOST_COST) × (state_bits m ≤ MOST_BITS)
+limits m e = let both = neither (nat_lt MOST_COST (model_cost m)) (nat_lt MOST_BITS (state_bits m)) e in (ltb-false MOST_COST (model_cost m) both.0, ltb-false MOST_BITS (state_bits m) both.1)
 
--- so has one with history at most 4,096 faults
-pub few_faults : (m : FlatModel) (fs : List Mode) → is_too_large (with_history m fs) ≡ false → length fs ≤ 4096
+-- so has one with history at most `MOST_BITS` faults
+pub few_faults : (m : FlatModel) (fs : List Mode) → is_too_large (with_history m fs) ≡ false → length fs ≤ MOST_BITS
 few_faults m fs e = let bits = (limits (with_history m fs) e).1 in let more = (history_last m fs).1 in omega (arith, bits, more)
 
 -- a variable of a state that is low is one that frames may ask for
@@ -42,10 +43,10 @@ module _ (m : FlatModel) (n : ℕ) (small : n ≤ 2 ^ 31) where
   overs clauses uses below k d l j e i = over_one (state_bits m) (input_bits m) _ (uses k d l j e i) (let one = below k d l j e i in omega (arith, one, small))
 
 -- counters of so few faults take little room
-small_counters : (size faults : ℕ) → size ≤ faults → faults ≤ 4096 → 2 * (size + 1) * faults ≤ 8194 * 4096
-small_counters size faults h few = mul-le (2 * (size + 1)) faults 8194 4096 (omega (arith, h, few)) few
+small_counters : (size faults : ℕ) → size ≤ faults → faults ≤ MOST_BITS → 2 * (size + 1) * faults ≤ 2 * (MOST_BITS + 1) * MOST_BITS
+small_counters size faults h few = mul-le (2 * (size + 1)) faults (2 * (MOST_BITS + 1)) MOST_BITS (omega (arith, h, few)) few
 
-small_room : (gates bits inputs cost top counters : ℕ) → gates ≡ 2 * bits + inputs + 2 → bits ≤ 4096 → inputs ≤ 2 ^ 30 → cost ≤ 50000 → top ≤ 60000 → counters ≤ 8194 * 4096 →
+small_room : (gates bits inputs cost top counters : ℕ) → gates ≡ 2 * bits + inputs + 2 → bits ≤ MOST_BITS → inputs ≤ 2 ^ 30 → cost ≤ MOST_COST → top ≤ most_asked_cost → counters ≤ 2 * (MOST_BITS + 1) * MOST_BITS →
     gates + 4096 * cost + 1024 * top + counters < 2 ^ 31
 small_room gates bits inputs cost top counters e b i c t n = omega (arith, e, b, i, c, t, n)
 

@@ -17,6 +17,7 @@ use Rattle.sat_encoding_laws.specs.Lists.{system_of, bad_list}
 use Rattle.sat_encoding_laws.specs.Encodable.{IsEncodable, IsFitTop}
 use Rattle.cut_search_laws.specs.Problem.{Problem}
 use Rattle.cut_search_laws.specs.FlatSearch.{IsBadFor}
+use Rattle.sat_encoding_laws.specs.Variables.{most_asked_cost}
 
 -- The model with history is encodable, its faults are modes of it, the top event fits it, and inputs and event are small.
 pub record IsSearchable (m : FlatModel) (fs : List Mode) (top : Tree FlatLeaf) : Type 0 where
@@ -24,7 +25,7 @@ pub record IsSearchable (m : FlatModel) (fs : List Mode) (top : Tree FlatLeaf) :
   pub encodable : IsEncodable (with_history m fs)
   pub fits : IsFitTop (with_history m fs) top
   pub few_inputs : input_bits (with_history m fs) ≤ 2 ^ 30
-  pub small_top : cost_of top ≤ 60000
+  pub small_top : cost_of top ≤ most_asked_cost
 
 -- the lists are such as frames are made of, and the list of bad states such as they clear
 abbrev pub ListsFitFrames : Type 0

@@ -11,6 +11,7 @@ use Rattle.fault_rules.specs.Rules.{broken_at}
 use Rattle.fault_rules.specs.FirstBroken.{AllKept}
 use Rattle.fault_cause_laws.specs.Lamps.{lamps, bulbs, lamp_module, main_module}
 use Rattle.std.proofs.lemmas.Option.{none-some as never_some}
+use Rattle.base_values.specs.declared.limits.TheConstants.{MOST_INSTANCES, MOST_VARIABLES}
 
 abbrev on_decl : DeclTree
 on_decl = record { name = codes "on"; what = boolean }
@@ -59,14 +60,14 @@ lamp_visit n x = record { place = []; on_path = codes "main" ∷ []; number = n;
 abbrev on_visit : Text → Visit
 on_visit x = record { place = x ∷ []; on_path = codes "Lamp" ∷ codes "main" ∷ []; number = 2; role = state; decl = on_decl }
 
-lamp_visited : (before : List Visit) (n : ℕ) (x : Text) → (1000 ≤ instances_before before → ⊥) → IsKept lamps (a_visit before (lamp_visit n x))
+lamp_visited : (before : List Visit) (n : ℕ) (x : Text) → (MOST_INSTANCES ≤ instances_before before → ⊥) → IsKept lamps (a_visit before (lamp_visit n x))
 lamp_visited before n x few no_such_module b = cc
 lamp_visited before n x few wrong_count b = cc
 lamp_visited before n x few module_loop b = cc
 lamp_visited before n x few too_many b = few b
 lamp_visited before n x few other b = b
 
-on_visited : (before : List Visit) (x : Text) → (2000 ≤ variables_before before → ⊥) → IsKept lamps (a_visit before (on_visit x))
+on_visited : (before : List Visit) (x : Text) → (MOST_VARIABLES ≤ variables_before before → ⊥) → IsKept lamps (a_visit before (on_visit x))
 on_visited before x few no_such_module b = cc
 on_visited before x few wrong_count b = cc
 on_visited before x few module_loop b = cc

@@ -2,6 +2,7 @@
 use Rattle.std.proofs.Common.{◌≡◌, ℕ, suc, ◌+◌, ◌<◌, ◌≤◌, Bool, true, false, cond, int_lt, le-ltb, List, [], ◌∷◌, ◌++◌, length, Some, pos, ◌+ℤ◌, refl, ◌∙◌, ap, arith}
 use Rattle.std.proofs.lemmas.Int.{ints}
 use Rattle.std.specs.Prelude.{not}
+use Rattle.base_values.specs.declared.limits.TheConstants.{LONGEST_WINDOW}
 use Rattle.smv_language.specs.declared.expr.Op.TheVariants as op
 use Rattle.smv_language.specs.Tree.{Tree, leaf, not_of, next_of, binary, choice}
 use Rattle.smv_language.specs.ProgramTree.{range}
@@ -30,7 +31,7 @@ range_judged n h =
     ap (λ b. one_value (rule_if b empty_range ++ wide exact) number_class exact []) ends
     ∙ ap (λ b. one_value (rule_if (not b) too_wide) number_class exact []) (both_fit (pos 0) (pos n) (fits_small 0 (omega arith)) (fits_small n h))
 
-module _ (n : FlatModel) (c : CommonCause) (short : c.to ≤ 100) (age : ℕ) (is : HasType n age (range (pos 0) (pos (c.to + 2)))) where
+module _ (n : FlatModel) (c : CommonCause) (short : c.to ≤ LONGEST_WINDOW) (age : ℕ) (is : HasType n age (range (pos 0) (pos (c.to + 2)))) where
   age_judged : (sets : Bool) → judged_in n sets (value_of age) ≡ numbers_in (from_zero (c.to + 2))
   age_judged sets =
       ap (λ (k : Kind). record { kind = k; is_set = false; broken = [] })
@@ -101,7 +102,7 @@ module _ (n : FlatModel) (c : CommonCause) (short : c.to ≤ 100) (age : ℕ) (i
 -- a cause that ends soon, and the number of its age
 pub record HasAge (n : FlatModel) (c : CommonCause) (age : ℕ) : Type 0 where
   pub window : c.from ≤ c.to
-  pub short : c.to ≤ 100
+  pub short : c.to ≤ LONGEST_WINDOW
   pub is_age : HasType n age (range (pos 0) (pos (c.to + 2)))
 
 abbrev pub HaveAges : FlatModel → List CommonCause → List ℕ → Type 0

@@ -1,7 +1,8 @@
--- The window of a cause that breaks no rule ends at most 100 steps after its moment.
+-- The window of a cause that breaks no rule ends at most `LONGEST_WINDOW` steps after its moment.
 use Rattle.std.proofs.Common.{◌≡◌, ℕ, ◌≤◌, Bool, true, false, List, [], ◌∷◌, ◌++◌, Option, Some, None, refl, subst, sym}
 use Rattle.std.specs.Prelude.{if◌then◌else◌}
 use Rattle.std.proofs.lemmas.Bool.{ltb-false}
+use Rattle.base_values.specs.declared.limits.TheConstants.{LONGEST_WINDOW}
 use Rattle.smv_language.specs.ProgramTree.{ProgramTree}
 use Rattle.smv_language.specs.Trace.{Each}
 use Rattle.fault_weave.specs.Faults.{Fault}
@@ -21,17 +22,17 @@ fifth_kept false false false false true rest h = cc
 fifth_kept false false false false false rest h = refl
 
 module _ (faults : List Fault) (w : ProgramTree) where
-  ends_soon : (before written : List WrittenCause) → AllKept faults w before written → (cs : List CommonCause) → AreReadAs faults w written cs → Each (λ (c : CommonCause). c.to ≤ 100) cs
+  ends_soon : (before written : List WrittenCause) → AllKept faults w before written → (cs : List CommonCause) → AreReadAs faults w written cs → Each (λ (c : CommonCause). c.to ≤ LONGEST_WINDOW) cs
   ends_soon before [] kept [] read = tt
   ends_soon before [] kept (a ∷ cs) read = absurd read
   ends_soon before (c ∷ written) kept [] read = absurd read
   ends_soon before (c ∷ written) kept (a ∷ cs) read =
-      (subst (λ n. n ≤ 100) (sym read.0.to) (ltb-false 100 c.to (fifth_kept _ _ _ _ _ _ kept.0)), ends_soon (before ++ c ∷ []) written kept.1 cs read.1)
+      (subst (λ n. n ≤ LONGEST_WINDOW) (sym read.0.to) (ltb-false LONGEST_WINDOW c.to (fifth_kept _ _ _ _ _ _ kept.0)), ends_soon (before ++ c ∷ []) written kept.1 cs read.1)
 
   -- causes that strike faults of the list
   pub short_causes : (written : List WrittenCause) → AllKept faults w [] written → (cs : List CommonCause) → AreReadAs faults w written cs → (many : ℕ) → Each (IsCauseOf many) cs → Each (IsShortCause many) cs
   short_causes written kept cs read many strikes = both cs strikes (ends_soon [] written kept cs read)
     where
-      both : (cs : List CommonCause) → Each (IsCauseOf many) cs → Each (λ (c : CommonCause). c.to ≤ 100) cs → Each (IsShortCause many) cs
+      both : (cs : List CommonCause) → Each (IsCauseOf many) cs → Each (λ (c : CommonCause). c.to ≤ LONGEST_WINDOW) cs → Each (IsShortCause many) cs
       both [] strikes soon = tt
       both (c ∷ cs) strikes soon = (record { strikes = strikes.0; short = soon.0 }, both cs strikes.1 soon.1)

@@ -2,6 +2,7 @@
 use Rattle.std.specs.Prelude.{◌≡◌, ℕ, zero, suc, ◌+◌, ◌-◌, ◌<◌, nat_lt, Bool, true, false, ◌||◌, ◌&&◌, not, List, [], ◌∷◌, ◌++◌, Option}
 use Rattle.std.specs.Prelude.{Some, None, length, map, flat_map, reverse, slice_get, if◌then◌else◌}
 use Rattle.std.specs.List.{list_any}
+use Rattle.base_values.specs.declared.limits.TheConstants.{MOST_EVENTS, LONGEST_WINDOW}
 use Rattle.smv_language.specs.ProgramTree.{Text, Path, ProgramTree}
 use Rattle.smv_language.specs.Texts.{same_text, is_among}
 use Rattle.fault_weave.specs.Faults.{Fault}
@@ -71,8 +72,8 @@ module _ (faults : List Fault) (w : ProgramTree) where
       ∷ (list_any (λ (b : WrittenCause). same_text b.name c.name) before, double_cause)
       ∷ (has_double c.strikes, double_strike)
       ∷ (nat_lt c.to c.from, empty_window)
-      ∷ (nat_lt 100 c.to, too_wide)
-      ∷ (nat_lt 256 (length faults + (length before + 1)), too_many)
+      ∷ (nat_lt LONGEST_WINDOW c.to, too_wide)
+      ∷ (nat_lt MOST_EVENTS (length faults + (length before + 1)), too_many)
       ∷ (is_any_taken w (flat_map names_of_cause before) (names_of_cause c), name_taken)
       ∷ [])
 

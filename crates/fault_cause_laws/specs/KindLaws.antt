@@ -1,5 +1,6 @@
 -- The laws of kinds of the staged model of causes.
 use Rattle.std.specs.Prelude.{◌≡◌, ℕ, ◌≤◌, List, [], length}
+use Rattle.base_values.specs.declared.limits.TheConstants.{LONGEST_WINDOW}
 use Rattle.smv_language.specs.Trace.{Each}
 use Rattle.smv_language.specs.Flat.{FlatModel}
 use Rattle.smv_flat_laws.specs.FlatTrace.{IsModeOf}
@@ -18,10 +19,10 @@ pub record AreOfKinds (m : FlatModel) (fs : List Mode) : Type 0 where
   pub modes : Each (IsModeOf m) fs
   pub symbols : Each (HasSymbols m) fs
 
--- a cause of so many faults whose window ends at most 100 steps after its moment, as it does where no rule of causes is broken
+-- a cause of so many faults whose window ends at most `LONGEST_WINDOW` steps after its moment, as it does where no rule of causes is broken
 pub record IsShortCause (faults : ℕ) (c : CommonCause) : Type 0 where
   pub strikes : IsCauseOf faults c
-  pub short : c.to ≤ 100
+  pub short : c.to ≤ LONGEST_WINDOW
 
 -- the model that is staged for such causes breaks no rule at an item, with the history of its events or without
 abbrev pub StagedBreaksNone : Type 0

@@ -5,6 +5,7 @@ use Rattle.std.specs.List.{list_any}
 use Rattle.std.proofs.lemmas.Grind.{flat_map-append}
 use Rattle.std.proofs.lemmas.List.{length-map, append-nil, append_assoc}
 use Rattle.std.proofs.lemmas.Option.{slice_get-map, same_Some as some_same}
+use Rattle.base_values.specs.declared.limits.TheConstants.{MOST_EVENTS, LONGEST_WINDOW}
 use Rattle.smv_language.specs.ProgramTree.{Text, Path, ProgramTree}
 use Rattle.smv_language.specs.Texts.{same_text, is_among}
 use Rattle.fault_weave.specs.Faults.{Fault}
@@ -55,8 +56,8 @@ module _ (faults : List Fault) (w : ProgramTree) where
       ∷ (list_any (λ (b : WrittenCause). same_text b.name c.name) before, double_cause)
       ∷ (has_double c.strikes, double_strike)
       ∷ (nat_lt c.to c.from, empty_window)
-      ∷ (nat_lt 100 c.to, too_wide)
-      ∷ (nat_lt 256 (n + (length before + 1)), too_many)
+      ∷ (nat_lt LONGEST_WINDOW c.to, too_wide)
+      ∷ (nat_lt MOST_EVENTS (n + (length before + 1)), too_many)
       ∷ (named, name_taken)
       ∷ [])
 

@@ -1,6 +1,7 @@
 -- The first rule that a list of causes breaks, by the names of faults and the texts that are taken.
 use Rattle.std.specs.Prelude.{◌≡◌, ◌⊎◌, ℕ, suc, ◌+◌, nat_lt, Bool, true, false, not, List, [], ◌∷◌, ◌++◌, Option, Some, None, length}
 use Rattle.std.specs.List.{list_any}
+use Rattle.base_values.specs.declared.limits.TheConstants.{MOST_EVENTS, LONGEST_WINDOW}
 use Rattle.smv_language.specs.ProgramTree.{Text, Path, ProgramTree}
 use Rattle.smv_language.specs.Texts.{same_text, is_among}
 use Rattle.fault_rules.specs.KeyedLists.{with_texts}
@@ -31,8 +32,8 @@ is_any_among taken names = list_any (λ x. is_among taken x) names
 abbrev pub bound_broken : ℕ → List Text → ℕ → WrittenCause → Option Rule
 bound_broken faults taken before c =
     first_of ((nat_lt c.to c.from, empty_window)
-    ∷ (nat_lt 100 c.to, too_wide)
-    ∷ (nat_lt 256 (faults + (before + 1)), too_many)
+    ∷ (nat_lt LONGEST_WINDOW c.to, too_wide)
+    ∷ (nat_lt MOST_EVENTS (faults + (before + 1)), too_many)
     ∷ (is_any_among taken (names_of_cause c), name_taken)
     ∷ [])
 
@@ -43,8 +44,8 @@ broken_by paths taken before c =
     ∷ (list_any (λ (b : WrittenCause). same_text b.name c.name) before, double_cause)
     ∷ (has_double c.strikes, double_strike)
     ∷ (nat_lt c.to c.from, empty_window)
-    ∷ (nat_lt 100 c.to, too_wide)
-    ∷ (nat_lt 256 (length paths + (length before + 1)), too_many)
+    ∷ (nat_lt LONGEST_WINDOW c.to, too_wide)
+    ∷ (nat_lt MOST_EVENTS (length paths + (length before + 1)), too_many)
     ∷ (is_any_among taken (names_of_cause c), name_taken)
     ∷ [])
 

@@ -18,9 +18,9 @@ pub enum CauseRule {
     DoubleStrike,
     /// The window ends before it begins.
     EmptyWindow,
-    /// The window ends more than 100 steps after the cause's moment.
+    /// The window ends more than `LONGEST_WINDOW` steps after the cause's moment.
     TooWide,
-    /// With this cause, faults and causes are more than 256.
+    /// With this cause, faults and causes are more than `MOST_EVENTS`.
     TooMany,
     /// A name that is added is taken.
     NameTaken,

@@ -21,18 +21,13 @@ use crate::added::{add_names, cause_names, is_any_taken, own_names};
 use crate::fault::{CauseFault, CauseRule};
 use crate::paths::{has_double, has_text, is_same_path, names_no_fault};
 use crate::written::{Written, WrittenList};
+use base_values::limits::{LONGEST_WINDOW, MOST_EVENTS};
 use base_values::{FaultSet, Name, NameList, OutOfMemory};
 use fault_rules::{TextSet, program_names};
 use fault_staging::{Cause, CauseList};
 use smv_language::Program;
 use smv_language::model::{Fault, FaultList};
 use std::alloc::Global;
-
-/// The most faults and causes together.
-const MOST_EVENTS: usize = 256;
-
-/// The last step after a cause's moment at which its window may end.
-const WIDEST: u64 = 100;
 
 /// The causes with the faults that they strike by their numbers, where no rule is broken.
 pub(crate) fn lawful(
@@ -123,7 +118,7 @@ fn broken_bound(
 {
     if cause.to < cause.from {
         Ok(Some(CauseRule::EmptyWindow))
-    } else if cause.to > WIDEST {
+    } else if cause.to > LONGEST_WINDOW {
         Ok(Some(CauseRule::TooWide))
     } else if before >= MOST_EVENTS || faults >= MOST_EVENTS - before {
         Ok(Some(CauseRule::TooMany))

@@ -1,6 +1,7 @@
 -- A program of stages breaks no rule at any site: the sites in their order.
 use Rattle.std.proofs.Common.{◌≡◌, ℕ, suc, ◌+◌, ◌<◌, ◌≤◌, arith, List, [], ◌∷◌, ◌++◌, length, Option, refl, sym, ◌∙◌, ap, subst, length-append}
 use Rattle.std.specs.Prelude.{codes, map, flat_map}
+use Rattle.base_values.specs.declared.limits.TheConstants.{MOST_INSTANCES, MOST_VARIABLES}
 use Rattle.smv_language.specs.ProgramTree.{boolean, ProgramTree}
 use Rattle.smv_language.specs.Scope.{state}
 use Rattle.smv_language.specs.Trace.{Each}
@@ -56,7 +57,7 @@ module _ (fs : List (Option ℕ)) (last_a last_b : Option ℕ) (are : AreStages 
   visits_are = walk_from 5 1 [] fs
 
   -- Modules by items.
-  items_kept : (k i : ℕ) (before : List Item) (gs : List (Option ℕ)) → AreEarlier i before → i + length gs ≤ 1000 →
+  items_kept : (k i : ℕ) (before : List Item) (gs : List (Option ℕ)) → AreEarlier i before → i + length gs ≤ MOST_INSTANCES →
       Each (IsKept p) (map (an_item (main_numbered fs last_a last_b are)) (numbered_from k before (items_from last_a last_b i gs)))
   items_kept k i before [] earlier h = (dead_kept fs last_a last_b are k i before earlier, tt)
   items_kept k i before (f ∷ gs) earlier h = (
@@ -81,21 +82,21 @@ module _ (fs : List (Option ℕ)) (last_a last_b : Option ℕ) (are : AreStages 
   )
 
   -- The walk.
-  stage_visited : (k i : ℕ) (f : Option ℕ) (before : List Visit) → AreCounted i before → i < 1000 → IsKept p (a_visit before (stage_visit k i f))
+  stage_visited : (k i : ℕ) (f : Option ℕ) (before : List Visit) → AreCounted i before → i < MOST_INSTANCES → IsKept p (a_visit before (stage_visit k i f))
   stage_visited k i f before counted h no_such_module b = cc
   stage_visited k i f before counted h wrong_count b = cc
   stage_visited k i f before counted h module_loop b = cc
   stage_visited k i f before counted h too_many b = omega (arith, b, counted.instances, h)
   stage_visited k i f before counted h other b = b
 
-  out_visited : (i : ℕ) (before : List Visit) → variables_before before < 2000 → IsKept p (a_visit before (out_visit i))
+  out_visited : (i : ℕ) (before : List Visit) → variables_before before < MOST_VARIABLES → IsKept p (a_visit before (out_visit i))
   out_visited i before h no_such_module b = cc
   out_visited i before h wrong_count b = cc
   out_visited i before h module_loop b = cc
   out_visited i before h too_many b = omega (arith, b, h)
   out_visited i before h other b = b
 
-  visits_kept : (k i : ℕ) (before : List Visit) (gs : List (Option ℕ)) → AreCounted i before → i + length gs ≤ 1000 → Each (IsKept p) (visit_sites before (visits_from k i gs))
+  visits_kept : (k i : ℕ) (before : List Visit) (gs : List (Option ℕ)) → AreCounted i before → i + length gs ≤ MOST_INSTANCES → Each (IsKept p) (visit_sites before (visits_from k i gs))
   visits_kept k i before [] counted h = tt
   visits_kept k i before (f ∷ gs) counted h = (
     stage_visited k i f before counted (omega (arith, h)),

@@ -1,11 +1,11 @@
 -- A short text of a program is within the depths where no expression of the program is too high.
-use Rattle.std.proofs.Common.{ℕ, ◌≤◌, arith, List, [], ◌∷◌, ◌++◌, length, length-append}
+use Rattle.std.proofs.Common.{ℕ, ◌*◌, ◌≤◌, arith, List, [], ◌∷◌, ◌++◌, length, length-append}
+use Rattle.base_values.specs.declared.limits.TheConstants.{MOST_HEIGHT, MOST_NESTED}
 use Rattle.smv_lexer.specs.declared.token.TokenKind.TheVariants as k
 use Rattle.smv_language.specs.Tree.{height_of}
 use Rattle.smv_language.specs.ProgramTree.{Formula, DeclaredTree, boolean, range, members, instance, DeclTree, DefineTree, AssignmentTree, SectionTree, var, ivar, frozen, define, constants, assign, init, invar, trans, ModuleTree, ProgramTree}
 use Rattle.smv_language.specs.Trace.{Each}
 use Rattle.smv_language.specs.Lexemes.{Lexeme, sign}
-use Rattle.smv_language.specs.Limits.{deepest}
 use Rattle.smv_language.specs.SpellsProgram.{SpellsMany, no_more, one_more, SpellsCommas, last_one, one_comma, SpellsBracketed, no_brackets, brackets, SpellsExpr, SpellsFormula, open_ended, ended, SpellsDeclared, is_type, is_instance, is_empty_instance, SpellsDecl, declares, SpellsDefine, defines, SpellsAssignment, assigns, SpellsSection, a_var, an_ivar, a_frozen, a_define, some_constants, an_assign, an_init, an_invar, a_trans, SpellsSections, no_section, a_section, skipped, SpellsModule, a_module}
 use Rattle.smv_expression_reader.specs.ExpressionDepths.{Spelling, AreWithin, spelling, in_formula, in_many}
 use Rattle.smv_model_reader.specs.ProgramDepths.{in_commas, in_actual, in_actuals, in_declared, in_decl, in_define, in_assignment, in_section, in_sections, in_module, HasProgramDepths}
@@ -13,7 +13,7 @@ use Rattle.fault_generator_laws.proofs.Short.{spelling_long, lexemes_short}
 
 -- no expression is higher than the limit
 abbrev pub IsLow : Formula → Type 0
-IsLow e = height_of e ≤ deepest
+IsLow e = height_of e ≤ MOST_HEIGHT
 
 abbrev IsLowDeclared : DeclaredTree → Type 0
 IsLowDeclared (instance m actuals) = Each IsLow actuals
@@ -49,7 +49,7 @@ IsLowProgram p = Each IsLowModule p
 
 -- as short a text
 abbrev pub IsShort : List Lexeme → Type 0
-IsShort ts = length ts ≤ 2000
+IsShort ts = length ts ≤ 2 * MOST_NESTED
 
 pub within_both : (xs ys : List Spelling) → AreWithin xs → AreWithin ys → AreWithin (xs ++ ys)
 within_both [] ys h k = k
@@ -120,5 +120,5 @@ sections_within (skipped x ts {us = us} h none q) short low = sections_within q 
 module_within : (ts : List Lexeme) (m : ModuleTree) (p : SpellsModule ts m) → IsShort ts → IsLowModule m → AreWithin (in_module ts m p)
 module_within ts m (a_module {fs = fs} {ts = us} n formals p) short low = sections_within p (back_short fs us (omega (arith, short))) low
 
-pub short_has_depths : (bytes : List ℕ) (p : ProgramTree) → length bytes ≤ 2000 → IsLowProgram p → HasProgramDepths bytes p
+pub short_has_depths : (bytes : List ℕ) (p : ProgramTree) → length bytes ≤ 2 * MOST_NESTED → IsLowProgram p → HasProgramDepths bytes p
 short_has_depths bytes p short low tokens split spelled = many_within SpellsModule in_module IsLowModule module_within spelled (omega (arith, lexemes_short bytes tokens split, short)) low

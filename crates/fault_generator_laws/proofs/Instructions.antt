@@ -2,6 +2,7 @@
 use Rattle.std.proofs.Common.{◌≡◌, ℕ, suc, ◌+◌, ◌*◌, ◌≤◌, arith, Bool, true, false, ◌||◌, List, [], ◌∷◌, length, Option, Some, None, refl, ◌∙◌, ap, subst, inl, inr, le-ltb}
 use Rattle.std.specs.Prelude.{codes, map, flat_map}
 use Rattle.std.specs.List.{list_any}
+use Rattle.base_values.specs.declared.limits.TheConstants.{MOST_FAULTS}
 use Rattle.smv_language.specs.ProgramTree.{Text, DeclaredTree, DeclTree, ProgramTree}
 use Rattle.smv_language.specs.Texts.{same_text}
 use Rattle.smv_language.specs.Scope.{Place, is_symbol_of_type}
@@ -61,7 +62,7 @@ counted_stages k i [] = refl
 counted_stages k i (f ∷ fs) = ap suc (counted_stages (suc k) (suc i) fs)
 
 few_faults : (names : List Text) → count_of names (codes "Relay") ≤ 256 → AllKept (count_broken_at names) (item_sites generated_instructions)
-few_faults names few = (refl, (refl, (rw (le-ltb 256 (0 + (1 * count_of names (codes "Relay"))) (omega (arith, few))) refl, tt)))
+few_faults names few = (refl, (refl, (rw (le-ltb MOST_FAULTS (0 + (1 * count_of names (codes "Relay"))) (omega (arith, few))) refl, tt)))
 
 module _ (fs : List (Option ℕ)) (last_a last_b : Option ℕ) (are : AreStages fs last_a last_b) where
   stages_counted : count_of (modules_of_instances (program_of fs last_a last_b)) (codes "Relay") ≡ length fs

@@ -3,6 +3,7 @@ use Rattle.std.proofs.Common.{◌≡◌, ℕ, suc, ◌+◌, ◌*◌, ◌≤◌, 
 use Rattle.std.specs.Prelude.{codes, map, flat_map, slice_get}
 use Rattle.std.proofs.lemmas.List.{length-map}
 use Rattle.std.proofs.lemmas.List.Sums.{sum_by-cons, sum_by-append}
+use Rattle.base_values.specs.declared.limits.TheConstants.{MOST_BITS, MOST_COST}
 use Rattle.smv_language.specs.Tree.{Tree}
 use Rattle.smv_language.specs.ProgramTree.{Text, DeclaredTree, boolean, ProgramTree}
 use Rattle.smv_language.specs.Scope.{Place, Role, state, input, frozen_role, undeclared, formal_from, kind_in_decls, kind_in_sections, kind_in}
@@ -228,7 +229,7 @@ module _ (fs : List (Option ℕ)) (last_a last_b : Option ℕ) (are : AreStages 
     )
 
     module _ (modes : List Mode) (few : length modes ≤ length fs) (short : length fs ≤ 256) where
-      whole_cost : model_cost (with_history m modes) ≤ 50000
+      whole_cost : model_cost (with_history m modes) ≤ MOST_COST
       whole_cost = omega (
         arith,
         sum_by-append (λ (x : FlatVariable). declared_cost x.declared) m.variables (bit_variables 0 modes),
@@ -249,7 +250,7 @@ module _ (fs : List (Option ℕ)) (last_a last_b : Option ℕ) (are : AreStages 
         short,
       )
 
-      whole_bits : state_bits (with_history m modes) ≤ 4096
+      whole_bits : state_bits (with_history m modes) ≤ MOST_BITS
       whole_bits = omega (
         arith,
         sum_by-append (λ (x : FlatVariable). role_width x.role (declared_width m.symbols x.declared)) m.variables (bit_variables 0 modes),
@@ -260,7 +261,7 @@ module _ (fs : List (Option ℕ)) (last_a last_b : Option ℕ) (are : AreStages 
       )
 
       pub whole_small : is_too_large (with_history m modes) ≡ false
-      whole_small = rw (le-ltb 50000 (model_cost (with_history m modes)) whole_cost, le-ltb 4096 (state_bits (with_history m modes)) whole_bits) refl
+      whole_small = rw (le-ltb MOST_COST (model_cost (with_history m modes)) whole_cost, le-ltb MOST_BITS (state_bits (with_history m modes)) whole_bits) refl
 
 pub generated_small : WovenIsSmall
 generated_small number stages short m is modes few =

@@ -3,6 +3,7 @@ use Rattle.std.proofs.Common.{◌≡◌, ℕ, suc, ◌+◌, ◌^◌, ◌<◌, �
 use Rattle.std.specs.Prelude.{nat_eq, codes}
 use Rattle.std.proofs.lemmas.Bool.Decides.{nat_tests}
 use Rattle.std.proofs.lemmas.Fmt.{decimal_injective}
+use Rattle.base_values.specs.declared.limits.TheConstants.{MOST_INSTANCES}
 use Rattle.smv_language.specs.ProgramTree.{DeclTree, SectionTree, ModuleTree, ProgramTree}
 use Rattle.smv_language.specs.Texts.{same_text}
 use Rattle.smv_language.specs.Trace.{Each}
@@ -42,7 +43,7 @@ program_of fs last_a last_b = program_with relay_sections fs last_a last_b
 
 -- so many stages, of which each is fed by one of them or by TRUE, and so are the last outputs
 pub record AreStages (fs : List (Option ℕ)) (last_a last_b : Option ℕ) : Type 0 where
-  pub few : length fs ≤ 999
+  pub few : length fs < MOST_INSTANCES
   pub fed : Each (IsStageBefore (suc (length fs))) fs
   pub is_a : IsStageBefore (suc (length fs)) last_a
   pub is_b : IsStageBefore (suc (length fs)) last_b
@@ -109,7 +110,7 @@ pub record IsOfStages (p : ProgramTree) (stages : ℕ) : Type 0 where
   pub count : length fs ≡ stages
   pub are : AreStages fs last_a last_b
 
-pub generated_of_stages : (number stages : ℕ) → stages ≤ 999 → IsOfStages (generated_model number stages) stages
+pub generated_of_stages : (number stages : ℕ) → stages < MOST_INSTANCES → IsOfStages (generated_model number stages) stages
 generated_of_stages number stages few = record {
   fs = built.0;
   last_a = (rails_of number stages).last_a;

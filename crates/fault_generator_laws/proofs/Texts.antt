@@ -2,6 +2,7 @@
 use Rattle.std.proofs.Common.{◌≡◌, ℕ, suc, ◌+◌, ◌*◌, ◌<◌, ◌≤◌, arith, List, [], ◌∷◌, ◌++◌, length, Option, Some, None, subst, length-append, suc-mul}
 use Rattle.std.specs.Prelude.{codes, map}
 use Rattle.std.proofs.lemmas.Fmt.{length-decimal-le}
+use Rattle.base_values.specs.declared.limits.TheConstants.{MOST_STAGES}
 use Rattle.smv_language.specs.Tree.{height_of}
 use Rattle.smv_language.specs.ProgramTree.{Text, Formula, ProgramTree}
 use Rattle.smv_language.specs.Text.{text_of, declared_text, line, decl_line, define_line, all_of, section_text, module_text, program_text}
@@ -66,7 +67,7 @@ dead_long last_a last_b h k = omega (
   output_long last_b k,
 )
 
-module _ (fs : List (Option ℕ)) (last_a last_b : Option ℕ) (are : AreStages fs last_a last_b) (few : length fs ≤ 64) where
+module _ (fs : List (Option ℕ)) (last_a last_b : Option ℕ) (are : AreStages fs last_a last_b) (few : length fs ≤ MOST_STAGES) where
   abbrev p : ProgramTree
   p = program_of fs last_a last_b
 

@@ -1,6 +1,7 @@
 -- `dead` keeps every rule of a top event of a program of stages.
 use Rattle.std.proofs.Common.{◌≡◌, ℕ, zero, suc, arith, false, List, [], ◌∷◌, Option, Some, None, refl, sym, ◌∙◌, ap, subst, inl, inr, le-ltb}
 use Rattle.std.specs.Prelude.{codes, IsTrue, nat_lt}
+use Rattle.base_values.specs.declared.limits.TheConstants.{MOST_TOP_COST}
 use Rattle.smv_language.specs.Tree.{Tree}
 use Rattle.smv_language.specs.ProgramTree.{Formula, ModuleTree, ProgramTree}
 use Rattle.smv_language.specs.Scope.{Place, Kind, kind_at, Key, define_key, a_variable_at, an_expression_at, by_kind, means_in, Means}
@@ -71,8 +72,8 @@ module _ (fs : List (Option ℕ)) (last_a last_b : Option ℕ) (are : AreStages 
 
   pub dead_typed : (m : FlatModel) (is : IsFlatOf p m) (tree : Tree FlatLeaf) → IsResolvedAt p m [] generated_top tree → top_fault m tree ≡ None
   dead_typed m is tree resolved =
-      ap (λ (rules : List KindRule). elim (least rules) [ Some r ↦ Some r | None ↦ size_fault (nat_lt 50000 (cost_of tree)) ]) (condition_kept (judged_in m false tree) (logical_kept m (of_truths fs last_a last_b are m is) tree logical))
-      ∙ ap size_fault (le-ltb 50000 (cost_of tree) (omega (arith, logical_cost tree logical)))
+      ap (λ (rules : List KindRule). elim (least rules) [ Some r ↦ Some r | None ↦ size_fault (nat_lt MOST_TOP_COST (cost_of tree)) ]) (condition_kept (judged_in m false tree) (logical_kept m (of_truths fs last_a last_b are m is) tree logical))
+      ∙ ap size_fault (le-ltb MOST_TOP_COST (cost_of tree) (omega (arith, logical_cost tree logical)))
     where
       logical : IsLogical tree
       logical = let r = resolved is in logical_by fs last_a last_b are m is r.0 r.1 [] generated_top tree r.2 (tt, omega arith)

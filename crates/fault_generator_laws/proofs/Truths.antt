@@ -3,6 +3,7 @@
 use Rattle.std.proofs.Common.{◌≡◌, ℕ, zero, suc, ◌*◌, ◌≤◌, arith, Bool, true, false, List, [], ◌∷◌, ◌++◌, length, Option, Some, None, refl, sym, ◌∙◌, ap, subst, le-ltb, sum_by, suc-mul}
 use Rattle.std.specs.Prelude.{slice_get}
 use Rattle.std.proofs.lemmas.List.Sums.{sum_by-cons}
+use Rattle.base_values.specs.declared.limits.TheConstants.{MOST_INSTANCES, MOST_BITS, MOST_COST}
 use Rattle.smv_language.specs.declared.expr.Op.{Op}
 use Rattle.smv_language.specs.declared.expr.Op.TheVariants as op
 use Rattle.smv_language.specs.Tree.{Tree, truth, leaf, not_of, binary}
@@ -169,16 +170,16 @@ few_bits symbols xs h =
     sum_most (λ (x : FlatVariable). role_width x.role (declared_width symbols x.declared)) 1 xs
     (each_more IsBoolean (λ (x : FlatVariable). role_width x.role (declared_width symbols x.declared) ≤ 1) xs (one_bit symbols) h)
 
--- a model of truth values, with less than 1,000 variables, conditions, and definitions
+-- a model of truth values, with no more variables, conditions, and definitions than instances
 pub record IsOfTruths (m : FlatModel) : Type 0 where
   pub booleans : Each IsBoolean m.variables
   pub defined : Each IsDefined m.definitions
   pub at_first : m.at_first ≡ []
   pub at_each : Each IsComparison m.at_each
   pub at_step : m.at_step ≡ []
-  pub variables : length m.variables ≤ 1000
-  pub definitions : length m.definitions ≤ 1000
-  pub conditions : length m.at_each ≤ 1000
+  pub variables : length m.variables ≤ MOST_INSTANCES
+  pub definitions : length m.definitions ≤ MOST_INSTANCES
+  pub conditions : length m.at_each ≤ MOST_INSTANCES
 
 module _ (m : FlatModel) (is : IsOfTruths m) where
   vs_truth : Each IsTruth (judged_variables m.variables)
@@ -207,7 +208,7 @@ module _ (m : FlatModel) (is : IsOfTruths m) where
   no_breach =
       rw (no_variable_breach m.variables is.booleans, no_definition_breach m.definitions (judged_definitions m) js_truth, is.at_first, no_condition_breach m.at_each is.at_each, is.at_step) refl
 
-  cost_is : model_cost m ≤ 50000
+  cost_is : model_cost m ≤ MOST_COST
   cost_is = omega (
     arith,
     variables_cost m.variables is.booleans,
@@ -219,8 +220,8 @@ module _ (m : FlatModel) (is : IsOfTruths m) where
     is.conditions,
   )
 
-  bits_are : state_bits m ≤ 4096
+  bits_are : state_bits m ≤ MOST_BITS
   bits_are = omega (arith, few_bits m.symbols m.variables is.booleans, is.variables)
 
   pub truths_typed : IsTyped m
-  truths_typed = record { kept = no_breach; small = rw (le-ltb 50000 (model_cost m) cost_is, le-ltb 4096 (state_bits m) bits_are) refl }
+  truths_typed = record { kept = no_breach; small = rw (le-ltb MOST_COST (model_cost m) cost_is, le-ltb MOST_BITS (state_bits m) bits_are) refl }

@@ -1,6 +1,7 @@
 -- The extension of a program of stages has three variables a stage, and so passes no limit of numbers.
 use Rattle.std.proofs.Common.{◌≡◌, ℕ, suc, ◌+◌, ◌<◌, ◌≤◌, arith, List, [], ◌∷◌, ◌++◌, length, Option, refl, sym, ◌∙◌, ap, subst}
 use Rattle.std.specs.Prelude.{codes, map, flat_map}
+use Rattle.base_values.specs.declared.limits.TheConstants.{MOST_INSTANCES, MOST_VARIABLES}
 use Rattle.smv_language.specs.ProgramTree.{Text, DeclaredTree, boolean, SectionTree, ProgramTree}
 use Rattle.smv_language.specs.Scope.{state}
 use Rattle.smv_language.specs.Trace.{Each}
@@ -88,17 +89,17 @@ all_uses_within p = (each_flat (IsWithin p) (λ (at : FlatInstance). map (a_use 
     all [] = tt
     all (at ∷ xs) = (uses_within p at (items_named p at.module_name), all xs)
 
--- an instance after fewer than 1,000, and a variable after fewer than 2,000
-stage_within : (p : ProgramTree) (k i : ℕ) (f : Option ℕ) (before : List Visit) → instances_before before < 1000 → IsWithin p (a_visit before (stage_visit k i f))
+-- an instance after fewer than `MOST_INSTANCES`, and a variable after fewer than `MOST_VARIABLES`
+stage_within : (p : ProgramTree) (k i : ℕ) (f : Option ℕ) (before : List Visit) → instances_before before < MOST_INSTANCES → IsWithin p (a_visit before (stage_visit k i f))
 stage_within p k i f before h b = omega (arith, b, h)
 
-out_within : (p : ProgramTree) (i : ℕ) (before : List Visit) → variables_before before < 2000 → IsWithin p (a_visit before (out_inside i))
+out_within : (p : ProgramTree) (i : ℕ) (before : List Visit) → variables_before before < MOST_VARIABLES → IsWithin p (a_visit before (out_inside i))
 out_within p i before h b = omega (arith, b, h)
 
-own_within : (p : ProgramTree) (i : ℕ) (before : List Visit) → variables_before before < 2000 → IsWithin p (a_visit before (own_inside i))
+own_within : (p : ProgramTree) (i : ℕ) (before : List Visit) → variables_before before < MOST_VARIABLES → IsWithin p (a_visit before (own_inside i))
 own_within p i before h b = omega (arith, b, h)
 
-mode_within : (p : ProgramTree) (i : ℕ) (before : List Visit) → variables_before before < 2000 → IsWithin p (a_visit before (mode_inside i))
+mode_within : (p : ProgramTree) (i : ℕ) (before : List Visit) → variables_before before < MOST_VARIABLES → IsWithin p (a_visit before (mode_inside i))
 mode_within p i before h b = omega (arith, b, h)
 
 visits_within : (p : ProgramTree) (k i : ℕ) (before : List Visit) (gs : List (Option ℕ)) → AreWithin i before → i + length gs ≤ 600 → Each (IsWithin p) (visit_sites before (woven_visits k i gs))

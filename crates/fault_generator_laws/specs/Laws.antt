@@ -1,5 +1,6 @@
 -- What the generator's models and instructions keep, as statements.
-use Rattle.std.specs.Prelude.{◌≡◌, ℕ, ◌≤◌, false, List, [], None, length, codes}
+use Rattle.std.specs.Prelude.{◌≡◌, ℕ, ◌<◌, ◌≤◌, false, List, [], None, length, codes}
+use Rattle.base_values.specs.declared.limits.TheConstants.{MOST_INSTANCES, MOST_STAGES}
 use Rattle.smv_language.specs.Tree.{Tree}
 use Rattle.smv_language.specs.ProgramTree.{ProgramTree}
 use Rattle.smv_language.specs.Text.{program_text}
@@ -30,28 +31,28 @@ use Rattle.fault_rules.specs.FirstBroken.{AllKept}
 use Rattle.fault_extend_laws.specs.Expressions.{AllUsesKept}
 use Rattle.fault_generator.specs.Generator.{generated_model, generated_instructions, generated_top}
 
--- a generated model of less than 1,000 stages breaks no rule of flattening: one of 1,000 has an instance too many
+-- a generated model of fewer stages than `MOST_INSTANCES` breaks no rule of flattening: one of as many has an instance too many
 abbrev pub GeneratedIsAccepted : Type 0
-GeneratedIsAccepted = (number stages : ℕ) → stages ≤ 999 → IsAccepted (generated_model number stages)
+GeneratedIsAccepted = (number stages : ℕ) → stages < MOST_INSTANCES → IsAccepted (generated_model number stages)
 
 -- and its flat model breaks no rule of kinds, and is not too large
 abbrev pub GeneratedIsTyped : Type 0
-GeneratedIsTyped = (number stages : ℕ) → stages ≤ 999 → (m : FlatModel) → IsFlatOf (generated_model number stages) m → IsTyped m
+GeneratedIsTyped = (number stages : ℕ) → stages < MOST_INSTANCES → (m : FlatModel) → IsFlatOf (generated_model number stages) m → IsTyped m
 
 -- `dead` breaks no rule of names as a top event of it
 abbrev pub GeneratedTopKeepsNames : Type 0
-GeneratedTopKeepsNames = (number stages : ℕ) → stages ≤ 999 → (rule : Rule) →
+GeneratedTopKeepsNames = (number stages : ℕ) → stages < MOST_INSTANCES → (rule : Rule) →
     BreaksValue (generated_model number stages) [] false generated_top rule → ⊥
 
 -- nor, over its flat model, one of kinds
 abbrev pub GeneratedTopIsTyped : Type 0
 GeneratedTopIsTyped =
-    (number stages : ℕ) → stages ≤ 999 → (m : FlatModel) → IsFlatOf (generated_model number stages) m → (tree : Tree FlatLeaf) →
+    (number stages : ℕ) → stages < MOST_INSTANCES → (m : FlatModel) → IsFlatOf (generated_model number stages) m → (tree : Tree FlatLeaf) →
     IsResolvedAt (generated_model number stages) m [] generated_top tree → top_fault m tree ≡ None
 
 -- the generator's instructions break no rule of items at it
 abbrev pub GeneratedItemsAreKept : Type 0
-GeneratedItemsAreKept = (number stages : ℕ) → stages ≤ 999 →
+GeneratedItemsAreKept = (number stages : ℕ) → stages < MOST_INSTANCES →
     AllKept (broken_at (generated_model number stages)) (item_sites generated_instructions)
 
 -- nor, up to 256 stages, the rule on numbers of faults
@@ -85,16 +86,16 @@ WovenIsSmall =
 
 -- there are as many faults as stages
 abbrev pub GeneratedFaultsAreStages : Type 0
-GeneratedFaultsAreStages = (number stages : ℕ) → stages ≤ 999 → (faults : List Fault) →
+GeneratedFaultsAreStages = (number stages : ℕ) → stages < MOST_INSTANCES → (faults : List Fault) →
     HasFaults (generated_model number stages) generated_instructions faults → length faults ≡ stages
 
--- up to 64 stages the text of a generated model has at most 2,000 bytes
+-- up to `MOST_STAGES` the text of a generated model has at most 2,000 bytes
 abbrev pub GeneratedTextIsShort : Type 0
-GeneratedTextIsShort = (number stages : ℕ) → stages ≤ 64 → length (program_text (generated_model number stages)) ≤ 2000
+GeneratedTextIsShort = (number stages : ℕ) → stages ≤ MOST_STAGES → length (program_text (generated_model number stages)) ≤ 2000
 
 -- so that its expressions are within the depths
 abbrev pub GeneratedTextHasDepths : Type 0
-GeneratedTextHasDepths = (number stages : ℕ) → stages ≤ 64 →
+GeneratedTextHasDepths = (number stages : ℕ) → stages ≤ MOST_STAGES →
     HasProgramDepths (program_text (generated_model number stages)) (generated_model number stages)
 
 -- and so is the text of the instructions
@@ -112,7 +113,7 @@ TopTextHasDepths = HasDepths (codes "dead") generated_top
 -- so that reading the text of the model fails for want of memory alone
 abbrev pub GeneratedTextIsRead : Type 0
 GeneratedTextIsRead =
-    (number stages : ℕ) → stages ≤ 64 → (f : ParseFault) →
+    (number stages : ℕ) → stages ≤ MOST_STAGES → (f : ParseFault) →
     FaultMeans IsProgram (IsProgramTooDeep (program_text (generated_model number stages)))
     (program_text (generated_model number stages)) f →
     f ≡ OutOfMemory

@@ -12,11 +12,12 @@
 //! break no rule of kinds; by `Expressions`, `Roots` and `Typed` the generated ones are such. `Top` has the event,
 //! `Instructions` the rules of a weave, `Faults` the number of faults, and `Woven` and `Sizes` the extension's
 //! numbers and its size with history. `Texts` has the lengths of the texts; a text of at most 2,000 bytes nests its
-//! parentheses less than 1,000 deep, by `Short` and `Depths`, whatever it spells. So by `Readings` nothing but want
+//! parentheses less than `MOST_NESTED` deep, by `Short` and `Depths`, whatever it spells. So by `Readings` nothing but want
 //! of memory stops a reading of them.
 //!
 //! ```text
-//! // 999 stages are 1,000 instances with `main`; 256 stages have 256 faults, and 768 variables in the extension
+//! // one stage less than `MOST_INSTANCES` is that many instances with `main`
+//! // 256 stages have 256 faults, and 768 variables in the extension
 //! ```
 #![tactic(auto)]
 
@@ -27,7 +28,7 @@ ghost use Rattle.fault_generator_laws.specs.Laws.{GeneratedTextHasDepths, Instru
 ghost use Rattle.fault_generator_laws.specs.Laws.{TopTextHasDepths, GeneratedTextIsRead, InstructionTextIsRead, TopTextIsRead};
 ghost use Rattle.fault_generator_laws.specs.Laws.{WovenBreaksNoNumber};
 
-/// A generated model of less than 1,000 stages breaks no rule of names or of kinds, and no limit.
+/// A generated model of fewer stages than `MOST_INSTANCES` breaks no rule of names or of kinds, and no limit.
 pub fn generated_models_are_lawful()
     ensures names { GeneratedIsAccepted }
     ensures kinds { GeneratedIsTyped }
@@ -56,7 +57,7 @@ pub fn generated_extensions_pass_no_limit()
     ensures size { WovenIsSmall }
 {}
 
-/// Up to 64 stages the texts of the model and of the instructions have at most 2,000 bytes, and what they spell is
+/// Up to `MOST_STAGES` the texts of the model and of the instructions have at most 2,000 bytes, and what they spell is
 /// within the depths that are read, as is the word `dead`.
 pub fn generated_texts_are_within_depths()
     ensures short { GeneratedTextIsShort }
@@ -66,7 +67,7 @@ pub fn generated_texts_are_within_depths()
     ensures top_depths { TopTextHasDepths }
 {}
 
-/// Up to 64 stages nothing but want of memory stops a reading of the two texts and of the word `dead`.
+/// Up to `MOST_STAGES` nothing but want of memory stops a reading of the two texts and of the word `dead`.
 pub fn generated_texts_are_read()
     ensures model { GeneratedTextIsRead }
     ensures instructions { InstructionTextIsRead }

@@ -1,6 +1,6 @@
 -- What the templates of the effects and modes give, over leaves that give the slice's values.
 use Rattle.std.proofs.Common.{◌≡◌, ◌≢◌, ◌⊎◌, inl, inr, ◌↔◌, ℕ, suc, arith, Bool, true, false, List, [], ◌∷◌, Some, None, refl, sym, ap, subst, eqb-true}
-use Rattle.std.specs.Prelude.{ℤ, pos, negsuc, nat_eq, ◌-ℤ◌, IsTrue, if◌then◌else◌, codes, ◌||◌}
+use Rattle.std.specs.Prelude.{nat_abs, ℤ, pos, negsuc, nat_eq, ◌-ℤ◌, IsTrue, if◌then◌else◌, codes, ◌||◌}
 use Rattle.smv_language.specs.declared.expr.Op.TheVariants as op
 use Rattle.smv_language.specs.declared.program.Member.{Member}
 use Rattle.smv_language.specs.declared.program.Member.TheVariants as member
@@ -18,6 +18,7 @@ use Rattle.fault_instructions.proofs.AddedNameLaws.{mode_symbol_same, nominal_sy
 use Rattle.smv_language.proofs.OneTree.{same_text_equal}
 use Rattle.smv_language.proofs.BoolLaws.{or_cases}
 use Rattle.base_values.proofs.BoolLaws.{bool_same}
+use Rattle.base_values.specs.declared.limits.TheConstants.{GREATEST_NUMBER}
 use Rattle.fault_instructions.specs.EffectLaw.{stands_at}
 
 pub one_has : (a x : Value) → IsTrue (has (one a) x) ↔ (x ≡ a)
@@ -35,11 +36,11 @@ negative_number n = grind arith
 
 pub number_value : (now next : Leaves Path) (z : ℤ) → evaluate now next (number_tree z) ≡ Some (one (number z))
 number_value now next (pos n) = refl
-number_value now next (negsuc n) = go (nat_eq n 2147483647) refl
+number_value now next (negsuc n) = go (nat_eq n (nat_abs GREATEST_NUMBER)) refl
   where
-    go : (b : Bool) → nat_eq n 2147483647 ≡ b →
-        evaluate now next (if b then binary op.Minus (negate (is_number (pos 2147483647))) (is_number (pos 1)) else negate (is_number (pos (suc n)))) ≡ Some (one (number (negsuc n)))
-    go true e = ap (λ k. Some (one (number (negsuc k)))) (sym (eqb-true n 2147483647 e))
+    go : (b : Bool) → nat_eq n (nat_abs GREATEST_NUMBER) ≡ b →
+        evaluate now next (if b then binary op.Minus (negate (is_number GREATEST_NUMBER)) (is_number (pos 1)) else negate (is_number (pos (suc n)))) ≡ Some (one (number (negsuc n)))
+    go true e = ap (λ k. Some (one (number (negsuc k)))) (sym (eqb-true n (nat_abs GREATEST_NUMBER) e))
     go false e = ap (λ z. Some (one (number z))) (negative_number n)
 
 -- the values of a domain

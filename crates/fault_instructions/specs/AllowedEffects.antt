@@ -1,6 +1,7 @@
 -- Which effects may stand at a variable of a type, and why one may not.
-use Rattle.std.specs.Prelude.{ℤ, pos, negsuc, ◌+ℤ◌, ◌-ℤ◌, Bool, true, false, List, [], ◌∷◌, Option, Some, None, ◌&&◌}
+use Rattle.std.specs.Prelude.{ℤ, pos, ◌+ℤ◌, ◌-ℤ◌, Bool, true, false, List, [], ◌∷◌, Option, Some, None, ◌&&◌}
 use Rattle.std.specs.List.{list_any}
+use Rattle.base_values.specs.declared.limits.TheConstants.{LEAST_NUMBER, GREATEST_NUMBER}
 use Rattle.smv_language.specs.declared.program.Member.{Member}
 use Rattle.smv_language.specs.ProgramTree.{DeclaredTree, boolean, range, members, instance}
 use Rattle.smv_language.specs.Values.{Value, truth, number, symbol, opposite, same_value, at_most, is_between}
@@ -47,7 +48,7 @@ has_two_values (instance m actuals) = false
 
 -- the number is within 32 bits
 abbrev pub is_small : ℤ → Bool
-is_small n = at_most (negsuc 2147483647) n && at_most n (pos 2147483647)
+is_small n = at_most LEAST_NUMBER n && at_most n GREATEST_NUMBER
 
 -- the distance, and both ends moved by it, are within 32 bits
 abbrev pub offset_fits : ℤ → ℤ → ℤ → Bool

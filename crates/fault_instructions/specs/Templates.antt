@@ -1,5 +1,6 @@
 -- What a mode adds for its effect: a branch of the case that gives the read value, and rule sections.
-use Rattle.std.specs.Prelude.{ℤ, pos, negsuc, suc, nat_eq, true, false, List, [], ◌∷◌, Option, Some, None, map, if◌then◌else◌}
+use Rattle.std.specs.Prelude.{nat_abs, ℤ, pos, negsuc, suc, nat_eq, true, false, List, [], ◌∷◌, Option, Some, None, map, if◌then◌else◌}
+use Rattle.base_values.specs.declared.limits.TheConstants.{GREATEST_NUMBER}
 use Rattle.smv_language.specs.declared.expr.Op.TheVariants as op
 use Rattle.smv_language.specs.declared.program.Member.{Member}
 use Rattle.smv_language.specs.declared.program.Member.TheVariants as member
@@ -22,7 +23,7 @@ named x = leaf (x ∷ [])
 abbrev pub number_tree : ℤ → Formula
 number_tree (pos n) = is_number (pos n)
 number_tree (negsuc n) =
-    if nat_eq n 2147483647 then binary op.Minus (negate (is_number (pos 2147483647))) (is_number (pos 1)) else negate
+    if nat_eq n (nat_abs GREATEST_NUMBER) then binary op.Minus (negate (is_number GREATEST_NUMBER)) (is_number (pos 1)) else negate
     (is_number (pos (suc n)))
 
 -- the constant

@@ -5,6 +5,7 @@ ghost use Rattle.smv_language.specs.Tree.{not_of, negate, next_of, binary as bin
 ghost use Rattle.smv_language.specs.ExpressionTree.{tree_of};
 ghost use Rattle.fault_instructions.specs.Templates.{named as named_tree, number_tree};
 
+use base_values::limits::{GREATEST_NUMBER, LEAST_NUMBER};
 use base_values::{Dotted, Items, Name, OutOfMemory};
 use smv_language::{Expr, Op};
 use std::alloc::Global;
@@ -96,9 +97,9 @@ pub fn number_expr(alloc: Global, n: i64) -> Result<Expr<Dotted>, OutOfMemory>
     if n >= 0 {
         return Ok(Expr::Number(n));
     }
-    if n != -2_147_483_648 {
+    if n != LEAST_NUMBER {
         return negated(alloc, Expr::Number(-n));
     }
-    let greatest = negated(alloc, Expr::Number(2_147_483_647))?;
+    let greatest = negated(alloc, Expr::Number(GREATEST_NUMBER))?;
     binary(alloc, Op::Minus, greatest, Expr::Number(1))
 }

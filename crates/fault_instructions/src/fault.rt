@@ -14,6 +14,7 @@ ghost use Rattle.fault_instructions.specs.AllowedEffects.{inverted_fault, offset
 
 use crate::{Constant, Effect};
 use base_values::Name;
+use base_values::limits::{GREATEST_NUMBER, LEAST_NUMBER};
 use smv_language::{Declared, Member};
 
 /// Why an effect may not stand at a variable.
@@ -145,7 +146,7 @@ fn at_least_one(step: i64) -> bool
 fn is_small(n: i64) -> bool
     ensures { result ≡ is_small_number n }
 {
-    -2_147_483_648 <= n && n <= 2_147_483_647
+    LEAST_NUMBER <= n && n <= GREATEST_NUMBER
 }
 
 /// Whether the sum is within 32 bits.
@@ -153,7 +154,7 @@ fn is_small_sum(n: i64, distance: i64) -> bool
     ensures { result ≡ is_small_number (n +ℤ distance) }
 {
     let sum = i128::from(n) + i128::from(distance);
-    -2_147_483_648 <= sum && sum <= 2_147_483_647
+    i128::from(LEAST_NUMBER) <= sum && sum <= i128::from(GREATEST_NUMBER)
 }
 
 /// Whether the difference is within 32 bits.
@@ -161,7 +162,7 @@ fn is_small_difference(n: i64, step: i64) -> bool
     ensures { result ≡ is_small_number (n -ℤ step) }
 {
     let difference = i128::from(n) - i128::from(step);
-    -2_147_483_648 <= difference && difference <= 2_147_483_647
+    i128::from(LEAST_NUMBER) <= difference && difference <= i128::from(GREATEST_NUMBER)
 }
 
 /// Whether a number is in the range, ends included.

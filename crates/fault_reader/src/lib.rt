@@ -16,7 +16,7 @@
 //! A text is read twice, as programs are. The first pass (`extent`, over `place`) makes nothing: outside expressions one token decides
 //! what comes next, so a place in the grammar is all that it keeps, and in an expression the state of the recogniser
 //! of expressions. Only where the whole text spells instructions the second pass (`build`) makes them, and gives
-//! up at the first expression that is higher than `DEEPEST` or nested deeper. What is spelled is read back as it is
+//! up at the first expression that is higher than `MOST_HEIGHT` or nested deeper. What is spelled is read back as it is
 //! spelled, or found too deep (`read_file` of `proofs/FileReads.antt`). So `TooDeep` never hides another refusal, and
 //! both passes take time in proportion to the tokens.
 //!

@@ -66,7 +66,7 @@ fn make(
     }
 }
 
-/// The instructions that the bytes spell, where each expression in them is at most `DEEPEST` high and nested at most
+/// The instructions that the bytes spell, where each expression in them is at most `MOST_HEIGHT` high and nested at most
 /// as deep. It takes time in proportion to the bytes.
 #[tactic(auto, using(smv_expression_reader::proofs::FaultLaws::of_tokens))]
 pub fn instructions(alloc: Global, bytes: &[u8]) -> Result<Instructions, ParseFault>

@@ -1,6 +1,7 @@
 -- The first mode with which there are too many is the first broken rule of counts.
 use Rattle.std.proofs.Common.{◌≡◌, ℕ, suc, ◌+◌, ◌*◌, Bool, true, false, List, [], ◌∷◌, ◌++◌, Some, None, Ok, Err, map, length, refl, sym, ◌∙◌, ap, subst, append_assoc, append-nil, length-append, arith}
-use Rattle.std.specs.Prelude.{if◌then◌else◌, ◌||◌, nat_lt}
+use Rattle.std.specs.Prelude.{if◌then◌else◌, ◌||◌, nat_le, nat_lt}
+use Rattle.base_values.specs.declared.limits.TheConstants.{MOST_FAULTS, MOST_MODES}
 use Rattle.smv_language.specs.ProgramTree.{Text}
 use Rattle.fault_instructions.specs.Instructions.{ModeTree, SliceTree, ExtensionTree}
 use Rattle.fault_rules.specs.Sites.{OwnedSlice, owned, Site, an_extension, a_slice, a_mode, mode_sites, slice_sites, extension_sites}
@@ -45,7 +46,7 @@ module _ (names : List Text) where
         IsCounted n (a_mode before o earlier m ∷ []) (faults_of names before + suc (length earlier) * instances_of names o.owner) (counted_mode (instances_of names o.owner) (length earlier) c)
     one_mode n earlier m c at has =
         subst (λ total. IsCounted n (a_mode before o earlier m ∷ []) total (counted_mode (instances_of names o.owner) (length earlier) c)) sum
-        (go (nat_lt 255 (length earlier) || nat_lt 256 (c.faults + instances_of names o.owner)) (ap (λ k. nat_lt 255 (length earlier) || nat_lt 256 k) sum))
+        (go (nat_le MOST_MODES (length earlier) || nat_lt MOST_FAULTS (c.faults + instances_of names o.owner)) (ap (λ k. nat_le MOST_MODES (length earlier) || nat_lt MOST_FAULTS k) sum))
       where
         sum : c.faults + instances_of names o.owner ≡ faults_of names before + suc (length earlier) * instances_of names o.owner
         sum = grind arith

@@ -1,7 +1,8 @@
 -- The numbers of items and of faults, item by item, or the mode with which there are too many.
-use Rattle.std.specs.Prelude.{ℕ, ◌+◌, Bool, List, [], ◌∷◌, Ok, Err, map, nat_lt, ◌||◌, if◌then◌else◌}
+use Rattle.std.specs.Prelude.{ℕ, ◌+◌, Bool, List, [], ◌∷◌, Ok, Err, map, nat_le, nat_lt, ◌||◌, if◌then◌else◌}
 use Rattle.std.specs.declared.result.Result.{Result}
 use Rattle.std.specs.Borrow.{Bor}
+use Rattle.base_values.specs.declared.limits.TheConstants.{MOST_FAULTS, MOST_MODES}
 use Rattle.smv_language.specs.ProgramTree.{Text}
 use Rattle.fault_instructions.specs.Instructions.{ModeTree, SliceTree, ExtensionTree}
 use Rattle.fault_rules.specs.CountLimits.{instances_of}
@@ -36,7 +37,7 @@ with_mode instances counted = record { item = counted.item + 1; faults = counted
 
 -- a mode at this place of its slice
 abbrev pub is_beyond : ℕ → ℕ → Counted → Bool
-is_beyond instances place counted = nat_lt 255 place || nat_lt 256 (counted.faults + instances)
+is_beyond instances place counted = nat_le MOST_MODES place || nat_lt MOST_FAULTS (counted.faults + instances)
 
 -- the counts after a mode
 abbrev pub counted_mode : ℕ → ℕ → Counted → Outcome

@@ -13,10 +13,8 @@ ghost use Rattle.fault_rules.specs.declared.fault.InstructionRule.TheVariants as
 use crate::fault::{InstructionRule, RuleFault};
 use crate::placed::item_after;
 use base_values::Name;
+use base_values::limits::{MOST_FAULTS, MOST_MODES};
 use fault_instructions::{Extension, Instructions, ModeRule, Slice};
-
-/// The most faults, and the most modes of a slice.
-const LIMIT: usize = 256;
 
 /// How far items are counted: the last item's number, and the number of faults up to it.
 #[derive(Clone, Copy)]
@@ -129,7 +127,7 @@ fn count_mode(instances: usize, place: usize, before: Counted) -> Result<Counted
 {
     let item = item_after(before.item)?;
     match before.faults.checked_add(instances) {
-        Some(faults) if place < LIMIT && faults <= LIMIT => Ok(Counted { item, faults }),
+        Some(faults) if place < MOST_MODES && faults <= MOST_FAULTS => Ok(Counted { item, faults }),
         _ => Err(RuleFault {
             rule: InstructionRule::TooManyFaults,
             item,

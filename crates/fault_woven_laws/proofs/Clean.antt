@@ -1,6 +1,6 @@
 -- Trees with no `next`, each of whose leaves is good: what the weave writes is put together from such.
 use Rattle.std.proofs.Common.{◌≡◌, inl, inr, suc, Bool, true, false, List, [], ◌∷◌, Some, None, refl}
-use Rattle.std.specs.Prelude.{ℤ, pos, negsuc, nat_eq, map, if◌then◌else◌}
+use Rattle.std.specs.Prelude.{nat_abs, ℤ, pos, negsuc, nat_eq, map, if◌then◌else◌}
 use Rattle.smv_language.specs.declared.expr.Op.{Op}
 use Rattle.smv_language.specs.declared.expr.Op.TheVariants as op
 use Rattle.smv_language.specs.declared.program.Member.{Member}
@@ -20,6 +20,7 @@ use Rattle.fault_weave.specs.WovenProgram.{start_tree, mode_branches, set_one, g
 use Rattle.fault_instructions.specs.Weavable.{Among}
 use Rattle.fault_woven_laws.proofs.WovenNamesLeaves.{join_three}
 use Rattle.std.proofs.lemmas.Bool.{or_from as neither_one}
+use Rattle.base_values.specs.declared.limits.TheConstants.{GREATEST_NUMBER}
 
 module _ (P : Path → Type 0) where
   pub record Clean (t : Formula) : Type 0 where
@@ -47,9 +48,9 @@ module _ (P : Path → Type 0) where
 
   pub clean_number : (n : ℤ) → Clean (number_tree n)
   clean_number (pos n) = record { leaves = tt; free = refl }
-  clean_number (negsuc n) = by_test (nat_eq n 2147483647)
+  clean_number (negsuc n) = by_test (nat_eq n (nat_abs GREATEST_NUMBER))
     where
-      by_test : (b : Bool) → Clean (if b then binary op.Minus (negate (is_number (pos 2147483647))) (is_number (pos 1)) else negate (is_number (pos (suc n))))
+      by_test : (b : Bool) → Clean (if b then binary op.Minus (negate (is_number GREATEST_NUMBER)) (is_number (pos 1)) else negate (is_number (pos (suc n))))
       by_test true = record { leaves = tt; free = refl }
       by_test false = record { leaves = tt; free = refl }
 

@@ -3,6 +3,7 @@ use Rattle.std.proofs.Common.{◌≡◌, ℕ, ◌≤◌, ◌+◌, Bool, true, fa
 use Rattle.std.specs.Prelude.{nat_lt}
 use Rattle.std.proofs.lemmas.Bool.{ltb-false, false_from_ne_true as not_true}
 use Rattle.std.proofs.lemmas.List.{length-append}
+use Rattle.base_values.specs.declared.limits.TheConstants.{MOST_TOP_COST}
 use Rattle.smv_language.specs.Tree.{Tree, Trees, Branches, truth as is_truth, number as is_number, leaf, not_of, negate, next_of, binary, choice, case_of, set_of, span, no_tree, tree_then, no_branch, branch_then}
 use Rattle.smv_language.specs.Leaves.{tree_map, trees_map, branches_map}
 use Rattle.smv_language.specs.ProgramTree.{Path, Formula, ProgramTree}
@@ -59,18 +60,18 @@ mutual
 
 -- the least rule that is broken, and else that of the size
 abbrev told_of : Option KindRule → ℕ → Option KindRule
-told_of o cost = elim o [ Some r ↦ Some r | None ↦ size_fault (nat_lt 50000 cost) ]
+told_of o cost = elim o [ Some r ↦ Some r | None ↦ size_fault (nat_lt MOST_TOP_COST cost) ]
 
 -- a condition for which nothing is told breaks no rule, and is small
-none_told : (rs : List KindRule) (cost : ℕ) → told_of (least rs) cost ≡ None → (rs ≡ []) × (cost ≤ 50000)
-none_told [] cost e = (refl, by (nat_lt 50000 cost) refl e)
+none_told : (rs : List KindRule) (cost : ℕ) → told_of (least rs) cost ≡ None → (rs ≡ []) × (cost ≤ MOST_TOP_COST)
+none_told [] cost e = (refl, by (nat_lt MOST_TOP_COST cost) refl e)
   where
-    by : (b : Bool) → nat_lt 50000 cost ≡ b → size_fault b ≡ None → cost ≤ 50000
+    by : (b : Bool) → nat_lt MOST_TOP_COST cost ≡ b → size_fault b ≡ None → cost ≤ MOST_TOP_COST
     by true t h = cc
-    by false t h = ltb-false 50000 cost t
+    by false t h = ltb-false MOST_TOP_COST cost t
 none_told (r ∷ rs) cost e = by (least rs) e
   where
-    by : (o : Option KindRule) → told_of (least_after r o) cost ≡ None → (r ∷ rs ≡ []) × (cost ≤ 50000)
+    by : (o : Option KindRule) → told_of (least_after r o) cost ≡ None → (r ∷ rs ≡ []) × (cost ≤ MOST_TOP_COST)
     by None h = cc
     by (Some q) h = cc
 
@@ -111,7 +112,7 @@ module _ (m : FlatModel) (fs : List Mode) (closed : IsClosed m) where
 top_made : (m n : FlatModel) (tree other : Tree FlatLeaf) → IsJudgedAlike m tree n other → top_fault m tree ≡ None → ReadsOwn n other → reads_input n other ≡ false → has_next other ≡ false → IsTopOf n other
 top_made m n tree other alike told own quiet now =
     let j : Judged = judged_in n false other in
-    let none : (broken_condition j ≡ []) × (cost_of other ≤ 50000) = none_told (broken_condition j) (cost_of other) (alike.fault ∙ told) in
+    let none : (broken_condition j ≡ []) × (cost_of other ≤ MOST_TOP_COST) = none_told (broken_condition j) (cost_of other) (alike.fault ∙ told) in
     record {
       fits = record { own = own; no_input = quiet; right = none.0 };
       one_value = no_set (kind_of_leaf n) other (none_second (unless_class truth_class not_boolean j.kind) j.broken none.0);

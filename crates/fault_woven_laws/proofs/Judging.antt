@@ -1,6 +1,7 @@
 -- An expression is judged over the woven program's flat model, with history or without, as over the program's.
 use Rattle.std.proofs.Common.{◌≡◌, ℕ, Bool, false, Option, Some, None, List, refl, sym, ◌∙◌}
 use Rattle.std.specs.Prelude.{length, nat_lt}
+use Rattle.base_values.specs.declared.limits.TheConstants.{MOST_TOP_COST}
 use Rattle.smv_language.specs.Tree.{Tree}
 use Rattle.smv_language.specs.ProgramTree.{Formula, ProgramTree}
 use Rattle.smv_language.specs.Scope.{Place}
@@ -24,7 +25,7 @@ use Rattle.smv_type_laws.proofs.ResolvedCosts.{resolved_cost}
 
 -- what a condition is refused for, from what is judged of it and what it costs
 abbrev told : Judged → ℕ → Option KindRule
-told j cost = elim (least (broken_condition j)) [ Some r ↦ Some r | None ↦ size_fault (nat_lt 50000 cost) ]
+told j cost = elim (least (broken_condition j)) [ Some r ↦ Some r | None ↦ size_fault (nat_lt MOST_TOP_COST cost) ]
 
 alike : (m : FlatModel) (e : Tree FlatLeaf) (n : FlatModel) (f : Tree FlatLeaf) → ((sets : Bool) → judged_in n sets f ≡ judged_in m sets e) → cost_of f ≡ cost_of e → IsJudgedAlike m e n f
 alike m e n f judged cost = record { judged = judged; cost = cost; fault = λ z. told (judged false z) (cost z) }

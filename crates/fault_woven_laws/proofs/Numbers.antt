@@ -1,7 +1,8 @@
 -- The kinds of the number trees of templates.
 use Rattle.std.proofs.Common.{◌≡◌, ℕ, suc, ◌^◌, ◌<◌, Bool, true, false, ltb-true, lt-ltb, eqb-true, eq-eqb, arith, [], Some, ℤ, pos, negsuc, ◌-ℤ◌, ◌≤ℤ◌, refl, ap, sym, ◌∙◌}
-use Rattle.std.specs.Prelude.{nat_eq, not, if◌then◌else◌}
+use Rattle.std.specs.Prelude.{nat_abs, nat_eq, not, if◌then◌else◌}
 use Rattle.std.proofs.lemmas.Int.{ints}
+use Rattle.base_values.specs.declared.limits.TheConstants.{LEAST_NUMBER, GREATEST_NUMBER}
 use Rattle.smv_language.specs.declared.expr.Op.TheVariants as op
 use Rattle.smv_language.specs.Tree.{number as is_number, negate, binary}
 use Rattle.smv_language.specs.ProgramTree.{Path}
@@ -20,18 +21,18 @@ numbers_in i = record { kind = record { class = number_class; interval = Some i 
 pub numbers_right : (j : Judged) (i : Interval) → j ≡ numbers_in i → Rightly number_class j
 numbers_right j i e = record { kept = ap (λ (k : Judged). k.broken) e; class = ap (λ (k : Judged). k.kind.class) e }
 
-fits_between : (n : ℤ) → negsuc 2147483647 ≤ℤ n → n ≤ℤ pos 2147483647 → fits_number n ≡ true
+fits_between : (n : ℤ) → LEAST_NUMBER ≤ℤ n → n ≤ℤ GREATEST_NUMBER → fits_number n ≡ true
 fits_between (pos n) h g = let below : n < 2 ^ 31 = omega (arith, ints) in lt-ltb n (2 ^ 31) below
 fits_between (negsuc n) h g = let below : n < 2 ^ 31 = omega (arith, ints) in lt-ltb n (2 ^ 31) below
 
-fits_bounds : (n : ℤ) → fits_number n ≡ true → (negsuc 2147483647 ≤ℤ n) × (n ≤ℤ pos 2147483647)
+fits_bounds : (n : ℤ) → fits_number n ≡ true → (LEAST_NUMBER ≤ℤ n) × (n ≤ℤ GREATEST_NUMBER)
 fits_bounds (pos n) e = let below : n < 2 ^ 31 = ltb-true n (2 ^ 31) e in (omega (arith, ints), omega (arith, ints))
 fits_bounds (negsuc n) e = let below : n < 2 ^ 31 = ltb-true n (2 ^ 31) e in (omega (arith, ints), omega (arith, ints))
 
 pub small_fits : (n : ℤ) → is_small n ≡ true → fits_number n ≡ true
 small_fits n e =
-    let h = both_true (at_most (negsuc 2147483647) n) (at_most n (pos 2147483647)) e in
-    fits_between n (not_less (negsuc 2147483647) n h.0) (not_less n (pos 2147483647) h.1)
+    let h = both_true (at_most LEAST_NUMBER n) (at_most n GREATEST_NUMBER) e in
+    fits_between n (not_less LEAST_NUMBER n h.0) (not_less n GREATEST_NUMBER h.1)
 
 pub between_fits : (lo hi n : ℤ) → fits_number lo ≡ true → fits_number hi ≡ true → is_between lo hi (number n) ≡ true → fits_number n ≡ true
 between_fits lo hi n f g e =
@@ -60,22 +61,22 @@ module _ (k : Path → Kind) where
       ∙ ap (λ z. one_value (wide (Some (just z))) number_class (Some (just z)) []) other
       ∙ kept_interval (just (negsuc n)) (both_fit (negsuc n) (negsuc n) f f)
 
-  least_number : (sets : Bool) → judge k sets (binary op.Minus (negate (is_number (pos 2147483647))) (is_number (pos 1))) ≡ numbers_in (just (negsuc 2147483647))
+  least_number : (sets : Bool) → judge k sets (binary op.Minus (negate (is_number GREATEST_NUMBER)) (is_number (pos 1))) ≡ numbers_in (just LEAST_NUMBER)
   least_number sets = refl
 
   pub number_judged : (sets : Bool) (n : ℤ) → fits_number n ≡ true → judge k sets (number_tree n) ≡ numbers_in (just n)
   number_judged sets (pos n) e = literal sets n e
-  number_judged sets (negsuc n) e = by (nat_eq n 2147483647) refl
+  number_judged sets (negsuc n) e = by (nat_eq n (nat_abs GREATEST_NUMBER)) refl
     where
       not_true : (b : Bool) → b ≡ true → b ≡ false → ⊥
       not_true b h g = cc
 
-      by : (b : Bool) → nat_eq n 2147483647 ≡ b →
-          judge k sets (if b then binary op.Minus (negate (is_number (pos 2147483647))) (is_number (pos 1)) else negate (is_number (pos (suc n)))) ≡ numbers_in (just (negsuc n))
-      by true t = let same : n ≡ 2147483647 = eqb-true n 2147483647 t in least_number sets ∙ ap (λ x. numbers_in (just (negsuc x))) (sym same)
+      by : (b : Bool) → nat_eq n (nat_abs GREATEST_NUMBER) ≡ b →
+          judge k sets (if b then binary op.Minus (negate (is_number GREATEST_NUMBER)) (is_number (pos 1)) else negate (is_number (pos (suc n)))) ≡ numbers_in (just (negsuc n))
+      by true t = let same : n ≡ nat_abs GREATEST_NUMBER = eqb-true n (nat_abs GREATEST_NUMBER) t in least_number sets ∙ ap (λ x. numbers_in (just (negsuc x))) (sym same)
       by false t =
           let within : n < 2 ^ 31 = ltb-true n (2 ^ 31) e in
-          let other : n ≡ 2147483647 → ⊥ = λ h. not_true (nat_eq n 2147483647) (eq-eqb n 2147483647 h) t in
+          let other : n ≡ nat_abs GREATEST_NUMBER → ⊥ = λ h. not_true (nat_eq n (nat_abs GREATEST_NUMBER)) (eq-eqb n (nat_abs GREATEST_NUMBER) h) t in
           let below : suc n < 2 ^ 31 = omega arith in
           negated sets n (lt-ltb (suc n) (2 ^ 31) below) e
 

@@ -1,5 +1,6 @@
 -- A top event of a program, which is read over the program and again over what is woven of it.
 use Rattle.std.specs.Prelude.{◌≡◌, ◌≤◌, Bool, false}
+use Rattle.base_values.specs.declared.limits.TheConstants.{MOST_TOP_COST}
 use Rattle.smv_language.specs.Tree.{Tree}
 use Rattle.smv_language.specs.ProgramTree.{Formula, ProgramTree}
 use Rattle.smv_language.specs.Scope.{Place}
@@ -40,4 +41,4 @@ pub record IsTopOf (m : FlatModel) (top : Tree FlatLeaf) : Type 0 where
   pub fits : IsFitTop m top
   pub one_value : (judged_in m false top).is_set ≡ false
   pub no_next : has_next top ≡ false
-  pub small : cost_of top ≤ 50000
+  pub small : cost_of top ≤ MOST_TOP_COST

@@ -7,8 +7,8 @@
 //! limits and its kinds alone to judge.
 //!
 //! ```text
-//! // VAR on : boolean;                   a program with 2,000 variables breaks no rule;
-//! // SLICE Lamp AFFECTS on WITH ..       the woven one has 2,002 and breaks the last rule, at an added item
+//! // VAR on : boolean;                   a program with `MOST_VARIABLES` breaks no rule;
+//! // SLICE Lamp AFFECTS on WITH ..       the woven one has two more and breaks the last rule, at an added item
 //! ```
 //!
 //! Their proofs follow the order of the rules. `WovenNamesItems` has the items of a woven module: those of the module, with
@@ -105,7 +105,7 @@ pub fn tops_mean_the_same()
 
 /// A top event that keeps every rule over the program is one of the extension's model, with history and without: it
 /// is TRUE or FALSE, no set, names what the model has, reads no input and nothing of the next moment, and costs at
-/// most 50,000.
+/// most `MOST_TOP_COST`.
 pub fn tops_fit()
     ensures { TopsFitModels }
 {}

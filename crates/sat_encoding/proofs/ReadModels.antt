@@ -25,9 +25,10 @@ use Rattle.sat_encoding.specs.Values.{StandFor, HasState, HasMoment, values_in, 
 use Rattle.sat_encoding.proofs.ValueLaws.{expected, values_stand}
 use Rattle.smv_type_laws.proofs.SetRows.{or_false_second as second_false}
 use Rattle.base_values.proofs.ListLaws.{drop_there}
+use Rattle.base_values.specs.declared.limits.TheConstants.{MOST_BITS, MOST_COST}
 
-few_bits : (m : FlatModel) → IsTyped m → state_bits m ≤ 4096
-few_bits m t = ltb-false 4096 (state_bits m) (second_false (nat_lt 50000 (model_cost m)) (nat_lt 4096 (state_bits m)) t.small)
+few_bits : (m : FlatModel) → IsTyped m → state_bits m ≤ MOST_BITS
+few_bits m t = ltb-false MOST_BITS (state_bits m) (second_false (nat_lt MOST_COST (model_cost m)) (nat_lt MOST_BITS (state_bits m)) t.small)
 
 module _ (m : Model) (is : IsEncodable (model_tree m)) (a : Assignment) (long : length a ≤ 2 ^ 62) (read : List AValue) where
   place : capped (input_place (model_tree m)) ≡ input_place (model_tree m)

@@ -18,8 +18,9 @@ ghost use Rattle.sat_expressions.specs.BuiltSignals.{signals_of};
 ghost use Rattle.sat_encoding.specs.History.{last_numbers, literal_of, counted_circuit};
 ghost use Rattle.sat_encoding.specs.Copies.{source_model, IsSource};
 
-use crate::layout::literals_from;
+use crate::layout::{END_OF_VARIABLES, literals_from};
 use crate::lists::{ListsSource, holds, source_of, state_copy};
+use base_values::limits::MOST_BITS;
 use base_values::{Items, OutOfMemory, SetList};
 use sat_circuits::counts::at_most;
 use sat_circuits::gates::Gates;
@@ -117,12 +118,12 @@ fn few(alloc: Global, g: &mut Gates, history: &[Lit], size: u32) -> Result<(), O
 /// Counters of so many faults still have their variables.
 fn check_counters(g: &Gates, faults: usize, size: u32) -> Result<(), OutOfMemory>
     ensures room { OnOk result (g.now.free + 4 * (size + 1) * (faults + 1) ≤ 2 ^ 31) }
-    ensures fits { faults ≤ 4096 → size ≤ 4096 → g.now.free + 4 * (size + 1) * (faults + 1) ≤ 2 ^ 31 → IsOk result }
+    ensures fits { faults ≤ MOST_BITS → size ≤ MOST_BITS → g.now.free + 4 * (size + 1) * (faults + 1) ≤ 2 ^ 31 → IsOk result }
 {
-    if faults > 4096 || size > 4096 {
+    if faults > MOST_BITS as usize || size > MOST_BITS as u32 {
         return Err(OutOfMemory);
     }
-    if g.free() + 4 * (size as u64 + 1) * (faults as u64 + 1) <= 2147483648 {
+    if g.free() + 4 * (size as u64 + 1) * (faults as u64 + 1) <= END_OF_VARIABLES {
         Ok(())
     } else {
         Err(OutOfMemory)

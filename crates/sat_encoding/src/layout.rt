@@ -19,6 +19,9 @@ use smv_language::model::Role;
 use smv_types::{Ends, Typed, ends_width, widened, width};
 use std::alloc::Global;
 
+/// The lists have no variable with this number or a greater one.
+pub(crate) const END_OF_VARIABLES: u64 = 2_147_483_648;
+
 /// The least and the greatest number of a domain, where symbols are their numbers. Truth values have none.
 pub(crate) fn ends_of(domain: &Domain) -> Option<Ends>
     ensures { result ≡ domain_interval domain.now }
@@ -136,7 +139,7 @@ pub(crate) fn input_bits(t: &Typed) -> Result<u32, OutOfMemory>
     for i in 0..t.model().variables.len() {
         let variable = t.model().variables.at(i);
         bits += width_as_input(variable.role, domain_width(t.domain(i)));
-        if bits > 2147483648 {
+        if bits > END_OF_VARIABLES {
             return Err(OutOfMemory);
         }
     }

@@ -22,7 +22,9 @@ ghost use Rattle.sat_encoding.specs.Copies.{Builds, IsPlaced};
 
 use crate::domains::domains;
 use crate::inputs::{InputReads, reading_of, reads_input};
-use crate::layout::{Places, input_bits, places_next, places_now, variable_signals};
+use crate::layout::{
+    END_OF_VARIABLES, Places, input_bits, places_next, places_now, variable_signals,
+};
 use base_values::{Items, OutOfMemory};
 use sat_circuits::gates::Gates;
 use sat_clauses::System;
@@ -123,7 +125,7 @@ fn first_gate(source: &ListsSource<'_>) -> Result<u64, OutOfMemory>
     ensures fits { gates_place (source_model source.now) < 2 ^ 31 → IsOk result }
 {
     let first = 2 * source.model.bits() as u64 + source.inputs as u64 + 2;
-    if first >= 2147483648 {
+    if first >= END_OF_VARIABLES {
         return Err(OutOfMemory);
     }
     Ok(first)

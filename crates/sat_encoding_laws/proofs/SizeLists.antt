@@ -29,7 +29,7 @@ use Rattle.sat_encoding_laws.specs.Inputs.{is_input, reads_input}
 use Rattle.sat_encoding_laws.specs.Layout.{literals_from, with_sign, state_width, width_as_input, input_width, variable_signal, place_of, variable_signals, signals_now, signals_next, input_place, next_place, gates_place, input_bits}
 use Rattle.sat_encoding_laws.specs.Lists.{signal_or_false, leaf_signal, Copy, copy_of, names_of, definition_gates, definitions_gates, asserted, asserted_signal, formulas_gates, member_tree, type_tree, type_gates, domains_gates, copy_gates, start_of, state_circuit, first_circuit, step_circuit, state_list, first_list, step_list, bad_list, history_literals, literal_at, unlisted_clause, size_gates}
 use Rattle.sat_encoding_laws.specs.Encodable.{IsListedType, IsEncodable, IsFitTop, IsStateBoolean}
-use Rattle.sat_encoding_laws.specs.Variables.{lists_room, bad_room, AreSmallLists, ListsAreSmall}
+use Rattle.sat_encoding_laws.specs.Variables.{lists_room, bad_room, AreSmallLists, ListsAreSmall, most_asked_cost}
 use Rattle.sat_encoding_laws.proofs.ExpressionMeans.{some_width}
 use Rattle.sat_encoding_laws.proofs.Parts.{ready_later, literal_below}
 use Rattle.sat_encoding_laws.proofs.TypeMeans.{IsNumbers, numbers_of}
@@ -48,6 +48,7 @@ use Rattle.std.proofs.lemmas.List.{length-map}
 use Rattle.std.proofs.lemmas.Bool.{ltb-false, or_parts as both_false}
 use Rattle.std.proofs.Math.Nat.{mul-le-mul_left}
 use Rattle.std.specs.List.{AllByRecursion}
+use Rattle.base_values.specs.declared.limits.TheConstants.{MOST_FAULTS, MOST_BITS, MOST_COST}
 use Rattle.sat_encoding_laws.proofs.SizeExpressions.{IsShort, Takes, AreShortNames, encoded_takes}
 use Rattle.smv_flat_laws.proofs.Conditions.{each_join}
 
@@ -390,12 +391,12 @@ module _ (m : FlatModel) (is : IsEncodable m) where
         (ClausesBelow-more _ (bad_room m top history size) (size_most size) _ says.below)
         (ClausesBelow-from (bad_room m top history size) (map (unlisted_clause ls) sets) (sets_below (bad_room m top history size) (omega arith) ls start sets))
 
-  rooms_fit : input_bits m ≤ 2 ^ 30 → (top : Tree FlatLeaf) (history : List ℕ) (size : ℕ) → cost_of top ≤ 60000 → length history ≤ 256 → size ≤ 256 → bad_room m top history size ≤ 2 ^ 31 - 20000
+  rooms_fit : input_bits m ≤ 2 ^ 30 → (top : Tree FlatLeaf) (history : List ℕ) (size : ℕ) → cost_of top ≤ most_asked_cost → length history ≤ MOST_FAULTS → size ≤ MOST_FAULTS → bad_room m top history size ≤ 2 ^ 31 - 20000
   rooms_fit inputs top history size cost few least =
-      let small = both_false (nat_lt 50000 (model_cost m)) (nat_lt 4096 (state_bits m)) is.typed.small in
-      let costs : model_cost m ≤ 50000 = let h = ltb-false 50000 (model_cost m) small.0 in omega (arith, h) in
-      let states_few : state_bits m ≤ 4096 = let h = ltb-false 4096 (state_bits m) small.1 in omega (arith, h) in
-      let counters : (2 * (size + 1)) * length history ≤ (2 * (size + 1)) * 256 = mul-le-mul_left (2 * (size + 1)) few in
+      let small = both_false (nat_lt MOST_COST (model_cost m)) (nat_lt MOST_BITS (state_bits m)) is.typed.small in
+      let costs : model_cost m ≤ MOST_COST = let h = ltb-false MOST_COST (model_cost m) small.0 in omega (arith, h) in
+      let states_few : state_bits m ≤ MOST_BITS = let h = ltb-false MOST_BITS (state_bits m) small.1 in omega (arith, h) in
+      let counters : (2 * (size + 1)) * length history ≤ (2 * (size + 1)) * MOST_FAULTS = mul-le-mul_left (2 * (size + 1)) few in
       omega (arith, inputs, cost, least, costs, states_few, counters)
 
   pub small_lists : AreSmallLists m

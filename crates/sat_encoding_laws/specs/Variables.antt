@@ -1,5 +1,6 @@
 -- Which variables the lists of states use.
 use Rattle.std.specs.Prelude.{◌≡◌, ◌⊎◌, ℕ, ◌+◌, ◌-◌, ◌*◌, ◌<◌, ◌≤◌, ◌^◌, List, length, All}
+use Rattle.base_values.specs.declared.limits.TheConstants.{MOST_FAULTS, MOST_TOP_COST}
 use Rattle.smv_language.specs.Tree.{Tree}
 use Rattle.smv_language.specs.Trace.{Each}
 use Rattle.smv_language.specs.Flat.{FlatLeaf, FlatModel}
@@ -44,6 +45,10 @@ bad_circuit m top history size =
     let now = state_circuit m in
     size_gates (history_literals m history) size (asserted_signal (encoded (names_of m now.1 now.1) its_value top now.0))
 
+-- the greatest cost of what is asked of a model: that of a top event, and what a set of its faults and a claim on them add
+abbrev pub most_asked_cost : ℕ
+most_asked_cost = MOST_TOP_COST + 10000
+
 -- The variables of the lists are few: where the inputs have at most 2 ^ 30 bits, and the top event, the faults and the
 -- size are within their limits, all are below 2 ^ 31. An input has at most 65 bits. The circuits of the lists end there too,
 -- which leaves room for any one operation, and so does whatever they grow from.
@@ -53,16 +58,16 @@ pub record AreSmallLists (m : FlatModel) : Type 0 where
   pub steps : ClausesBelow (lists_room m) (step_list m)
   pub bad : (top : Tree FlatLeaf) (history : List ℕ) (sets : List (List ℕ)) (size : ℕ) → IsFitTop m top → Each (IsStateBoolean m) history
       → ClausesBelow (bad_room m top history size) (bad_list m top history sets size)
-  pub fits : input_bits m ≤ 2 ^ 30 → (top : Tree FlatLeaf) (history : List ℕ) (size : ℕ) → cost_of top ≤ 60000 → length history ≤ 256 →
-      size ≤ 256 → bad_room m top history size < 2 ^ 31
+  pub fits : input_bits m ≤ 2 ^ 30 → (top : Tree FlatLeaf) (history : List ℕ) (size : ℕ) → cost_of top ≤ most_asked_cost →
+      length history ≤ MOST_FAULTS → size ≤ MOST_FAULTS → bad_room m top history size < 2 ^ 31
   pub inputs : input_bits m ≤ 65 * length m.variables
   pub first_ends : (first_circuit m).free ≤ lists_room m
   pub states_end : (state_circuit m).0.free ≤ lists_room m
   pub steps_end : (step_circuit m).free ≤ lists_room m
   pub bad_ends : (top : Tree FlatLeaf) (history : List ℕ) (size : ℕ) → IsFitTop m top → Each (IsStateBoolean m) history
       → (bad_circuit m top history size).free ≤ bad_room m top history size
-  pub room : input_bits m ≤ 2 ^ 30 → (top : Tree FlatLeaf) (history : List ℕ) (size : ℕ) → cost_of top ≤ 60000 → length history ≤ 256
-      → size ≤ 256 → bad_room m top history size ≤ 2 ^ 31 - 20000
+  pub room : input_bits m ≤ 2 ^ 30 → (top : Tree FlatLeaf) (history : List ℕ) (size : ℕ) → cost_of top ≤ most_asked_cost
+      → length history ≤ MOST_FAULTS → size ≤ MOST_FAULTS → bad_room m top history size ≤ 2 ^ 31 - 20000
 
 -- the lists of an encodable model are small
 abbrev pub ListsAreSmall : Type 0

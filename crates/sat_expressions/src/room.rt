@@ -4,7 +4,7 @@
 //! limits: its circuit ends with room (`lists_use_states` of `sat_encoding_laws`), and circuits only grow.
 //!
 //! Two things are open. That the inputs of an accepted program have at most 2^30 bits: an input has at most 65, and
-//! `flatten` says of the model that it makes that it has at most 2,000 variables (`closed`), but no definition carries that
+//! `flatten` says of the model that it makes that it has at most `MOST_VARIABLES` (`closed`), but no definition carries that
 //! number to what is encoded. And that no word comes to the second, as each word of an expression that breaks no rule
 //! of kinds would have at most 34 bits; the law says 66.
 ghost use Rattle.std.specs.Prelude.{◌≤◌, ◌-◌, ◌^◌, length, IsOk, OnOk};

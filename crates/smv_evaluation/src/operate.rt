@@ -7,6 +7,7 @@ ghost use Rattle.smv_evaluation.specs.OperatorValues.{same, opposite, negative, 
 ghost use Rattle.smv_evaluation.specs.OperatorValues.{on_truths, on_symbols, applied, between};
 
 use base_values::Value;
+use base_values::limits::{GREATEST_NUMBER, LEAST_NUMBER};
 use smv_language::Op;
 
 /// Whether both are the same value.
@@ -72,7 +73,7 @@ pub(crate) fn between(lo: i64, hi: i64, v: Value) -> bool
 fn is_small(n: i64) -> bool
     ensures { result ≡ fits_number n }
 {
-    -2147483648 <= n && n <= 2147483647
+    LEAST_NUMBER <= n && n <= GREATEST_NUMBER
 }
 
 /// An operator on two values.

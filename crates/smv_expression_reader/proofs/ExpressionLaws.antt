@@ -6,6 +6,7 @@ use Rattle.smv_expression_reader.specs.declared.fault.ParseFault.{ParseFault}
 use Rattle.std.proofs.Common.{◌≡◌, ℕ, zero, suc, ◌<◌, ◌≤◌, Bool, true, false, List, [], ◌∷◌, Option, Some, None, length, refl, sym, ap, ◌∙◌, subst, arith}
 use Rattle.std.specs.Prelude.{nat_lt, slice_get}
 use Rattle.std.proofs.lemmas.Bool.Decides.{nat_tests}
+use Rattle.base_values.specs.declared.limits.TheConstants.{MOST_HEIGHT, MOST_NESTED}
 use Rattle.smv_lexer.specs.declared.token.Token.{Token}
 use Rattle.smv_lexer.specs.Tokens.{HasTokens}
 use Rattle.smv_language.specs.Tree.{height_of}
@@ -14,7 +15,6 @@ use Rattle.smv_language.specs.Lexemes.{Lexeme, lexemes_of}
 use Rattle.smv_language.specs.SpellsProgram.{SpellsExpr}
 use Rattle.smv_language.specs.Nesting.{nesting_of}
 use Rattle.smv_language.specs.Bytes.{BytesSpellExpr, HasDepths}
-use Rattle.smv_language.specs.Limits.{deepest}
 use Rattle.smv_expression_reader.specs.Recogniser.{run, is_stuck, is_whole, start}
 use Rattle.smv_expression_reader.specs.TreeBuilder.{built}
 use Rattle.smv_expression_reader.specs.Extents.{reach_of, is_deep}
@@ -92,13 +92,13 @@ expression_deep bytes tokens split whole deep =
       deep = λ depths.
           let low = depths.1 tokens split made.1 in
           let same = deep_nesting made.1 in
-          let high : nat_lt deepest (nesting_of made.1) ≡ true = sym same ∙ deep in
+          let high : nat_lt MOST_NESTED (nesting_of made.1) ≡ true = sym same ∙ deep in
           absurd (grind (arith, nat_tests, low, high));
     }
 
 -- the answer where each tree that is made is too high
 pub expression_high : (bytes : List ℕ) (tokens : List Token) → HasTokens bytes tokens → is_whole (run start (lexemes_of bytes tokens)) ≡ true →
-    ((t : Formula) → built (lexemes_of bytes tokens) ≡ Some t → deepest < height_of t) → IsTooDeep bytes
+    ((t : Formula) → built (lexemes_of bytes tokens) ≡ Some t → MOST_HEIGHT < height_of t) → IsTooDeep bytes
 expression_high bytes tokens split whole high =
     let made = accepted_spelled (lexemes_of bytes tokens) whole in
     record {
@@ -130,13 +130,13 @@ expression_only bytes tokens t only e u spelled =
 
 -- within the depths
 pub expression_depths : (bytes : List ℕ) (tokens : List Token) (t : Formula) → ((others : List Token) → HasTokens bytes others → others ≡ tokens) →
-    is_deep start (lexemes_of bytes tokens) ≡ false → height_of t ≤ deepest → HasDepths bytes t
+    is_deep start (lexemes_of bytes tokens) ≡ false → height_of t ≤ MOST_HEIGHT → HasDepths bytes t
 expression_depths bytes tokens t only low height = (height, λ others split spelled. go others (only others split) spelled)
   where
-    go : (others : List Token) → others ≡ tokens → (spelled : SpellsExpr (lexemes_of bytes others) t) → nesting_of spelled ≤ deepest
+    go : (others : List Token) → others ≡ tokens → (spelled : SpellsExpr (lexemes_of bytes others) t) → nesting_of spelled ≤ MOST_NESTED
     go others same spelled =
         let here : is_deep start (lexemes_of bytes others) ≡ false = ap (λ z. is_deep start (lexemes_of bytes z)) same ∙ low in
-        let within : nat_lt deepest (nesting_of spelled) ≡ false = sym (deep_nesting spelled) ∙ here in
+        let within : nat_lt MOST_NESTED (nesting_of spelled) ≡ false = sym (deep_nesting spelled) ∙ here in
         grind (arith, nat_tests, within)
 
 -- the same, as the code finds it

@@ -3,12 +3,12 @@ use Rattle.std.proofs.Common.{◌≡◌, ℕ, ◌+◌, ◌<◌, ◌≤◌, Bool,
 use Rattle.std.specs.Prelude.{◌||◌, nat_lt, max, if◌then◌else◌}
 use Rattle.std.proofs.lemmas.List.{drop_more}
 use Rattle.std.proofs.lemmas.Bool.Decides.{nat_tests}
+use Rattle.base_values.specs.declared.limits.TheConstants.{MOST_NESTED}
 use Rattle.smv_language.specs.Lexemes.{Lexeme}
 use Rattle.smv_language.specs.Tree.{Tree}
 use Rattle.smv_language.specs.ProgramTree.{Path}
 use Rattle.smv_language.specs.Spells.{at_expr, Spells}
 use Rattle.smv_language.specs.Nesting.{nesting_of}
-use Rattle.smv_language.specs.Limits.{deepest}
 use Rattle.smv_expression_reader.specs.Recogniser.{Role, State, stuck, step, run, role_of, is_stuck, is_whole, start}
 use Rattle.smv_expression_reader.specs.Depth.{depth, peak}
 use Rattle.smv_expression_reader.specs.Extents.{reach_of, is_deep, ends_whole}
@@ -20,7 +20,7 @@ pub reach_more : (st : State) (ts : List Lexeme) (i : ℕ) (d : Lexeme) → i < 
 reach_more st ts i d h = ap (reach_of st) (drop_more ts i d h)
 
 pub deep_more : (st : State) (ts : List Lexeme) (i : ℕ) (d : Lexeme) → i < length ts →
-    is_deep st (drop i ts) ≡ (if is_stuck (step st (role_of (get_or ts i d))) then false else (nat_lt deepest (depth (step st (role_of (get_or ts i d)))) || is_deep (step st (role_of (get_or ts i d))) (drop (i + 1) ts)))
+    is_deep st (drop i ts) ≡ (if is_stuck (step st (role_of (get_or ts i d))) then false else (nat_lt MOST_NESTED (depth (step st (role_of (get_or ts i d)))) || is_deep (step st (role_of (get_or ts i d))) (drop (i + 1) ts)))
 deep_more st ts i d h = ap (is_deep st) (drop_more ts i d h)
 
 pub whole_more : (st : State) (ts : List Lexeme) (i : ℕ) (d : Lexeme) → i < length ts →
@@ -117,29 +117,29 @@ deep_before st [] (t ∷ r) on halts = rw halts refl
 deep_before st (x ∷ xs) r on halts = go (is_stuck (step st (role_of x))) refl (deep_before (step st (role_of x)) xs r on halts)
   where
     go : (b : Bool) → is_stuck (step st (role_of x)) ≡ b → is_deep (step st (role_of x)) (xs ++ r) ≡ is_deep (step st (role_of x)) xs →
-        (if b then false else (nat_lt deepest (depth (step st (role_of x))) || is_deep (step st (role_of x)) (xs ++ r))) ≡ (if b then false else (nat_lt deepest (depth (step st (role_of x))) || is_deep (step st (role_of x)) xs))
+        (if b then false else (nat_lt MOST_NESTED (depth (step st (role_of x))) || is_deep (step st (role_of x)) (xs ++ r))) ≡ (if b then false else (nat_lt MOST_NESTED (depth (step st (role_of x))) || is_deep (step st (role_of x)) xs))
     go true e rest = refl
-    go false e rest = ap (λ b. nat_lt deepest (depth (step st (role_of x))) || b) rest
+    go false e rest = ap (λ b. nat_lt MOST_NESTED (depth (step st (role_of x))) || b) rest
 
 peak_least : (s : State) (us : List Lexeme) → depth s ≤ peak s us
 peak_least s [] = omega arith
 peak_least s (u ∷ us) = omega arith
 
 -- the groups that are open at once, counted as long as a list goes on
-pub deep_peak : (st : State) (ts : List Lexeme) → is_stuck (run st ts) ≡ false → depth st ≤ deepest → is_deep st ts ≡ nat_lt deepest (peak st ts)
+pub deep_peak : (st : State) (ts : List Lexeme) → is_stuck (run st ts) ≡ false → depth st ≤ MOST_NESTED → is_deep st ts ≡ nat_lt MOST_NESTED (peak st ts)
 deep_peak st [] h low = grind (arith, nat_tests)
-deep_peak st (t ∷ ts) h low = go (is_stuck (step st (role_of t))) refl (nat_lt deepest (depth (step st (role_of t)))) refl (deep_peak (step st (role_of t)) ts h)
+deep_peak st (t ∷ ts) h low = go (is_stuck (step st (role_of t))) refl (nat_lt MOST_NESTED (depth (step st (role_of t)))) refl (deep_peak (step st (role_of t)) ts h)
   where
-    go : (b : Bool) → is_stuck (step st (role_of t)) ≡ b → (n : Bool) → nat_lt deepest (depth (step st (role_of t))) ≡ n →
-        (depth (step st (role_of t)) ≤ deepest → is_deep (step st (role_of t)) ts ≡ nat_lt deepest (peak (step st (role_of t)) ts)) →
-        (if b then false else (n || is_deep (step st (role_of t)) ts)) ≡ nat_lt deepest (max (depth st) (peak (step st (role_of t)) ts))
+    go : (b : Bool) → is_stuck (step st (role_of t)) ≡ b → (n : Bool) → nat_lt MOST_NESTED (depth (step st (role_of t))) ≡ n →
+        (depth (step st (role_of t)) ≤ MOST_NESTED → is_deep (step st (role_of t)) ts ≡ nat_lt MOST_NESTED (peak (step st (role_of t)) ts)) →
+        (if b then false else (n || is_deep (step st (role_of t)) ts)) ≡ nat_lt MOST_NESTED (max (depth st) (peak (step st (role_of t)) ts))
     go true e n f rest = let clash : true ≡ false = sym (stuck_run (step st (role_of t)) ts e) ∙ h in cc
     go false e true f rest = let high = peak_least (step st (role_of t)) ts in grind (arith, nat_tests, f, high)
-    go false e false f rest = let small : depth (step st (role_of t)) ≤ deepest = grind (arith, nat_tests, f) in rest small ∙ grind (arith, nat_tests, low)
+    go false e false f rest = let small : depth (step st (role_of t)) ≤ MOST_NESTED = grind (arith, nat_tests, f) in rest small ∙ grind (arith, nat_tests, low)
 
--- an expression is too deep exactly where its parentheses are nested deeper than `deepest`
-pub deep_nesting : {ts : List Lexeme} {t : Tree Path} (p : Spells at_expr ts t) → is_deep start ts ≡ nat_lt deepest (nesting_of p)
-deep_nesting {ts} {t} p = deep_peak start ts (whole_runs (run start ts) (spelled_accepted p)) (omega arith) ∙ ap (nat_lt deepest) (peak_nesting p)
+-- an expression is too deep exactly where its parentheses are nested deeper than `MOST_NESTED`
+pub deep_nesting : {ts : List Lexeme} {t : Tree Path} (p : Spells at_expr ts t) → is_deep start ts ≡ nat_lt MOST_NESTED (nesting_of p)
+deep_nesting {ts} {t} p = deep_peak start ts (whole_runs (run start ts) (spelled_accepted p)) (omega arith) ∙ ap (nat_lt MOST_NESTED) (peak_nesting p)
   where
     whole_runs : (st : State) → is_whole st ≡ true → is_stuck st ≡ false
     whole_runs stuck e = cc
@@ -150,7 +150,7 @@ pub stops_deep : (st new : State) (ts : List Lexeme) (i : ℕ) (x : Lexeme) (r :
     is_deep start ts ≡ (deep || is_deep st (drop i ts)) → deep ≡ is_deep start ts
 stops_deep st new ts i x r deep h is role path halts same =
     let here : is_stuck (step st (role_of (get_or ts i x))) ≡ true = ap (λ z. is_stuck (step st (role_of z))) (sym is) ∙ ap (λ z. is_stuck (step st z)) (sym role) ∙ ap is_stuck (sym path) ∙ halts in
-    let none : is_deep st (drop i ts) ≡ false = deep_more st ts i x h ∙ ap (λ b. if b then false else (nat_lt deepest (depth (step st (role_of (get_or ts i x)))) || is_deep (step st (role_of (get_or ts i x))) (drop (i + 1) ts))) here in
+    let none : is_deep st (drop i ts) ≡ false = deep_more st ts i x h ∙ ap (λ b. if b then false else (nat_lt MOST_NESTED (depth (step st (role_of (get_or ts i x)))) || is_deep (step st (role_of (get_or ts i x))) (drop (i + 1) ts))) here in
     sym (same ∙ ap (λ b. deep || b) none ∙ or_false deep)
   where
     or_false : (b : Bool) → (b || false) ≡ b

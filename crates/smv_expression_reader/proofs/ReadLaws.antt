@@ -4,12 +4,12 @@ use Rattle.std.specs.Prelude.{nat_lt, ◌||◌, if◌then◌else◌}
 use Rattle.std.proofs.Math.Seq.{take-append_seam}
 use Rattle.std.proofs.lemmas.List.{map-append}
 use Rattle.std.proofs.lemmas.Bool.Decides.{nat_tests}
+use Rattle.base_values.specs.declared.limits.TheConstants.{MOST_HEIGHT, MOST_NESTED}
 use Rattle.smv_language.specs.Tree.{height_of}
 use Rattle.smv_language.specs.ProgramTree.{Formula}
 use Rattle.smv_language.specs.Lexemes.{Lexeme}
 use Rattle.smv_language.specs.Nesting.{nesting_of}
 use Rattle.smv_language.specs.SpellsProgram.{SpellsExpr}
-use Rattle.smv_language.specs.Limits.{deepest}
 use Rattle.smv_expression_reader.specs.Recogniser.{Role, Ended, by_number, by_name, by_other, State, had, stuck, run, role_of, is_stuck, is_whole, start}
 use Rattle.smv_expression_reader.specs.Recogniser as machine
 use Rattle.smv_expression_reader.specs.TreeBuilder.{built}
@@ -96,10 +96,10 @@ pub rest_drop : (i : ℕ) (ts : List Lexeme) → rest_of (drop i ts) ≡ drop (i
 rest_drop i ts = rw add-one (rest_behind i ts)
 
 -- what the reading of an expression comes to
-pub expr_got : (ts r : List Lexeme) (n : ℕ) (t : Formula) → n ≡ reach_of start ts → ends_whole start ts ≡ true → is_deep start ts ≡ false → built (take n ts) ≡ Some t → height_of t ≤ deepest →
+pub expr_got : (ts r : List Lexeme) (n : ℕ) (t : Formula) → n ≡ reach_of start ts → ends_whole start ts ≡ true → is_deep start ts ≡ false → built (take n ts) ≡ Some t → height_of t ≤ MOST_HEIGHT →
     r ≡ drop n ts → expr_at ts ≡ got t r
 expr_got ts r n t len whole flat made low left =
-    let small : nat_lt deepest (height_of t) ≡ false = grind (arith, nat_tests, low) in
+    let small : nat_lt MOST_HEIGHT (height_of t) ≡ false = grind (arith, nat_tests, low) in
     ap (λ b. front_read b (is_deep start ts) (built (take (reach_of start ts) ts)) (drop (reach_of start ts) ts)) whole
     ∙ ap (λ b. front_read true b (built (take (reach_of start ts) ts)) (drop (reach_of start ts) ts)) flat
     ∙ ap (λ m. front_read true false (built (take m ts)) (drop m ts)) (sym len)
@@ -113,7 +113,7 @@ expr_nested ts whole nested =
 pub expr_partial : (ts : List Lexeme) → ends_whole start ts ≡ false → expr_at ts ≡ none
 expr_partial ts part = ap (λ b. front_read b (is_deep start ts) (built (take (reach_of start ts) ts)) (drop (reach_of start ts) ts)) part
 
-pub expr_high : (ts : List Lexeme) (n : ℕ) → n ≡ reach_of start ts → ends_whole start ts ≡ true → ((t : Formula) → built (take n ts) ≡ Some t → deepest < height_of t) → expr_at ts ≡ deep
+pub expr_high : (ts : List Lexeme) (n : ℕ) → n ≡ reach_of start ts → ends_whole start ts ≡ true → ((t : Formula) → built (take n ts) ≡ Some t → MOST_HEIGHT < height_of t) → expr_at ts ≡ deep
 expr_high ts n len whole high =
     ap (λ b. front_read b (is_deep start ts) (built (take (reach_of start ts) ts)) (drop (reach_of start ts) ts)) whole ∙ go (is_deep start ts) (built (take (reach_of start ts) ts)) refl
   where
@@ -122,7 +122,7 @@ expr_high ts n len whole high =
     go false None e = absurd (reached_made ts whole e)
     go false (Some t) e =
         let over = high t (ap (λ m. built (take m ts)) len ∙ e) in
-        let large : nat_lt deepest (height_of t) ≡ true = grind (arith, nat_tests, over) in
+        let large : nat_lt MOST_HEIGHT (height_of t) ≡ true = grind (arith, nat_tests, over) in
         ap (λ b. answer b t (drop (reach_of start ts) ts)) large
 
 pub expr_unmade : (ts : List Lexeme) (n : ℕ) → n ≡ reach_of start ts → ends_whole start ts ≡ true → built (take n ts) ≡ None → expr_at ts ≡ none
@@ -193,28 +193,28 @@ read_expr {xs} {e} p r ends =
     let h = halts (run start xs) r w ends in
     let n : reach_of start (xs ++ r) ≡ length xs = reach_before start xs r on h in
     let whole : ends_whole start (xs ++ r) ≡ true = whole_before start xs r on h ∙ w in
-    let low : is_deep start (xs ++ r) ≡ nat_lt deepest (nesting_of p) = deep_before start xs r on h ∙ deep_nesting p in
+    let low : is_deep start (xs ++ r) ≡ nat_lt MOST_NESTED (nesting_of p) = deep_before start xs r on h ∙ deep_nesting p in
     let tree : built (take (reach_of start (xs ++ r)) (xs ++ r)) ≡ Some e = ap built (ap (λ m. take m (xs ++ r)) n ∙ take-append_seam xs r) ∙ built_spelled p in
     let left : drop (reach_of start (xs ++ r)) (xs ++ r) ≡ r = ap (λ m. drop m (xs ++ r)) n ∙ drop_seam xs r in
     ap (λ b. front_read b (is_deep start (xs ++ r)) (built (take (reach_of start (xs ++ r)) (xs ++ r))) (drop (reach_of start (xs ++ r)) (xs ++ r))) whole
     ∙ ap (λ b. front_read true b (built (take (reach_of start (xs ++ r)) (xs ++ r))) (drop (reach_of start (xs ++ r)) (xs ++ r))) low
-    ∙ ap (λ o. front_read true (nat_lt deepest (nesting_of p)) o (drop (reach_of start (xs ++ r)) (xs ++ r))) tree
-    ∙ ap (λ z. front_read true (nat_lt deepest (nesting_of p)) (Some e) z) left
-    ∙ either (nat_lt deepest (nesting_of p)) (nat_lt deepest (height_of e)) e r
+    ∙ ap (λ o. front_read true (nat_lt MOST_NESTED (nesting_of p)) o (drop (reach_of start (xs ++ r)) (xs ++ r))) tree
+    ∙ ap (λ z. front_read true (nat_lt MOST_NESTED (nesting_of p)) (Some e) z) left
+    ∙ either (nat_lt MOST_NESTED (nesting_of p)) (nat_lt MOST_HEIGHT (height_of e)) e r
 
 -- the test says what it tests
 within_one : (s : Spelling) → is_too_deep s ≡ false → IsWithin s
-within_one s e = go (nat_lt deepest (nesting_of s.spelled)) refl e
+within_one s e = go (nat_lt MOST_NESTED (nesting_of s.spelled)) refl e
   where
-    go : (b : Bool) → nat_lt deepest (nesting_of s.spelled) ≡ b → (b || nat_lt deepest (height_of s.tree)) ≡ false → IsWithin s
+    go : (b : Bool) → nat_lt MOST_NESTED (nesting_of s.spelled) ≡ b → (b || nat_lt MOST_HEIGHT (height_of s.tree)) ≡ false → IsWithin s
     go true f e = cc
     go false f e = record { low = grind (arith, nat_tests, e); flat = grind (arith, nat_tests, f) }
 
 one_within : (s : Spelling) → IsWithin s → is_too_deep s ≡ false
 one_within s w =
     let low = w.low in let flat = w.flat in
-    let a : nat_lt deepest (nesting_of s.spelled) ≡ false = grind (arith, nat_tests, flat) in
-    let b : nat_lt deepest (height_of s.tree) ≡ false = grind (arith, nat_tests, low) in
+    let a : nat_lt MOST_NESTED (nesting_of s.spelled) ≡ false = grind (arith, nat_tests, flat) in
+    let b : nat_lt MOST_HEIGHT (height_of s.tree) ≡ false = grind (arith, nat_tests, low) in
     rw (a, b) refl
 
 pub are_within : (ss : List Spelling) → are_too_deep ss ≡ false → AreWithin ss

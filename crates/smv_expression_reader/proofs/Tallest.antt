@@ -1,13 +1,13 @@
 -- No tree that the machine holds is higher than the one that it ends with.
-use Rattle.std.proofs.Common.{◌≡◌, ◌+◌, length, drop, get_or, ℕ, ◌≤◌, ◌<◌, Bool, true, false, List, [], ◌∷◌, Some, refl, sym, ◌∙◌, ap, subst, arith}
+use Rattle.std.proofs.Common.{◌≡◌, ◌+◌, length, drop, get_or, ℕ, suc, ◌≤◌, ◌<◌, Bool, true, false, List, [], ◌∷◌, Some, refl, sym, ◌∙◌, ap, subst, arith}
 use Rattle.std.proofs.lemmas.List.{drop_more}
 use Rattle.std.specs.Prelude.{pos, max, if◌then◌else◌}
+use Rattle.base_values.specs.declared.limits.TheConstants.{MOST_HEIGHT}
 use Rattle.smv_language.specs.declared.expr.Op.{Op}
 use Rattle.smv_language.specs.Tree.{Tree, truth, number, leaf, not_of, negate, next_of, binary, choice, case_of, set_of, span, height_of, branches_height, branches_from}
 use Rattle.smv_language.specs.Lexemes.{Lexeme}
 use Rattle.smv_language.specs.ProgramTree.{Path}
 use Rattle.smv_language.specs.Spells.{at_expr, at_or, at_sum, line_of}
-use Rattle.smv_language.specs.Limits.{deepest}
 use Rattle.smv_expression_reader.specs.Recogniser.{Role, a_truth, a_name, a_number, a_next, a_case, an_esac, a_minus, a_bang, joins, asks, a_colon, a_semicolon, a_comma, a_dot, dots, opens, closes, opens_set, closes_set, role_of}
 use Rattle.smv_expression_reader.specs.TreeBuilder.{Part, minus_part, bang_part, left_part, answered, asked, group_part, next_part, set_part, condition_part, outcome_part, Hand, number_hand, name_hand, other_hand, Build, ready, name_on, high_on, minus_high_on, next_on, branch_on, holds, broken, value, takes_operand, joined, Held, reduce, shut, level, left_held, asked_held, shut_held, go_on, span_from, after_hand, open_operand, build_step, build, finished, finish, built}
 use Rattle.smv_expression_reader.specs.Heights.{part_height, parts_height, tallest, held_height, highest, is_whole, TooHigh}
@@ -146,36 +146,36 @@ build_tallest st (x ∷ ts) t e =
         omega (arith, some, grown, top, a)
 
 -- an operand that was made too high by what waits for it
-pub reduced_high : (l : ℕ) (p : Part) (t : Tree Path) (ps : List Part) → deepest < height_of (joined p t) → deepest < held_height (reduce l (joined p t) ps)
+pub reduced_high : (l : ℕ) (p : Part) (t : Tree Path) (ps : List Part) → MOST_HEIGHT < height_of (joined p t) → MOST_HEIGHT < held_height (reduce l (joined p t) ps)
 reduced_high l p t ps h = let grows = reduce_grows l (joined p t) ps in omega (arith, h, grows)
 
-pub left_high : (o : Op) (h : Held) → deepest < held_height h → TooHigh (left_held o h)
+pub left_high : (o : Op) (h : Held) → MOST_HEIGHT < held_height h → TooHigh (left_held o h)
 left_high o h high = λ e. omega (arith, high)
 
-pub asked_high : (h : Held) → deepest < held_height h → TooHigh (asked_held h)
+pub asked_high : (h : Held) → MOST_HEIGHT < held_height h → TooHigh (asked_held h)
 asked_high h high = λ e. omega (arith, high)
 
-pub shut_high : (h : Held) (c : Role) → deepest < held_height h → TooHigh (shut_held h c)
+pub shut_high : (h : Held) (c : Role) → MOST_HEIGHT < held_height h → TooHigh (shut_held h c)
 unfolding Grows
-shut_high h c high = λ e. let grows = shut_grows h.tree h.parts c 1001 (omega (arith, high)) e in omega (arith, grows)
+shut_high h c high = λ e. let grows = shut_grows h.tree h.parts c (suc MOST_HEIGHT) (omega (arith, high)) e in omega (arith, grows)
 
 -- a list that makes too high a tree spells none within the limit
-pub step_high : (st : Build) (x : Lexeme) (ts : List Lexeme) (t : Tree Path) → TooHigh (build_step st x (role_of x)) → finish (build st (x ∷ ts)) ≡ Some t → deepest < height_of t
+pub step_high : (st : Build) (x : Lexeme) (ts : List Lexeme) (t : Tree Path) → TooHigh (build_step st x (role_of x)) → finish (build st (x ∷ ts)) ≡ Some t → MOST_HEIGHT < height_of t
 step_high st x ts t high e = go (build_step st x (role_of x)) refl high (build_tallest (build_step st x (role_of x)) ts t e)
   where
-    go : (new : Build) → build_step st x (role_of x) ≡ new → TooHigh (build_step st x (role_of x)) → highest (build_step st x (role_of x)) ≤ height_of t → deepest < height_of t
+    go : (new : Build) → build_step st x (role_of x) ≡ new → TooHigh (build_step st x (role_of x)) → highest (build_step st x (role_of x)) ≤ height_of t → MOST_HEIGHT < height_of t
     go broken f high top = let stops : finish (build broken ts) ≡ Some t = subst (λ z. finish (build z ts) ≡ Some t) f e in absurd (finish_broken ts t stops)
     go new f high top =
         let here = high (ap is_whole f) in
         let bound = tallest_highest (build_step st x (role_of x)) in
         omega (arith, here, bound, top)
 
-pub finish_high : (h : Hand) (ps : List Part) (t : Tree Path) → deepest < held_height (reduce at_expr (value h) ps) → finish (holds h ps) ≡ Some t → deepest < height_of t
+pub finish_high : (h : Hand) (ps : List Part) (t : Tree Path) → MOST_HEIGHT < held_height (reduce at_expr (value h) ps) → finish (holds h ps) ≡ Some t → MOST_HEIGHT < height_of t
 finish_high h ps t high e = let top = finished_tallest (reduce at_expr (value h) ps) t e in omega (arith, high, top)
 
 -- the same at a lexeme in the midst of a list
 pub tree_high : (st : Build) (ts : List Lexeme) (i : ℕ) (x : Lexeme) (r : Role) (t : Tree Path) → i < length ts → x ≡ get_or ts i x → r ≡ role_of x →
-    build st (drop i ts) ≡ build (ready []) ts → TooHigh (build_step st x r) → built ts ≡ Some t → deepest < height_of t
+    build st (drop i ts) ≡ build (ready []) ts → TooHigh (build_step st x r) → built ts ≡ Some t → MOST_HEIGHT < height_of t
 tree_high st ts i x r t h is role path high e =
     let here : TooHigh (build_step st x (role_of x)) = subst (λ z. TooHigh (build_step st x z)) role high in
     let split : drop i ts ≡ x ∷ drop (i + 1) ts = drop_more ts i x h ∙ ap (λ z. z ∷ drop (i + 1) ts) (sym is) in

@@ -1,5 +1,6 @@
 -- The expressions in a text, as it is spelled, and whether they are too deep.
 use Rattle.std.specs.Prelude.{ℕ, ◌≤◌, Bool, false, List, [], ◌∷◌, ◌++◌, nat_lt, ◌||◌}
+use Rattle.base_values.specs.declared.limits.TheConstants.{MOST_HEIGHT, MOST_NESTED}
 use Rattle.smv_lexer.specs.declared.token.Token.{Token}
 use Rattle.smv_lexer.specs.Tokens.{HasTokens}
 use Rattle.smv_language.specs.Tree.{height_of}
@@ -8,7 +9,6 @@ use Rattle.smv_language.specs.Lexemes.{Lexeme, lexemes_of}
 use Rattle.smv_language.specs.Nesting.{nesting_of}
 use Rattle.smv_language.specs.SpellsProgram.{SpellsMany, no_more, one_more, SpellsExpr, SpellsFormula, open_ended, ended, SpellsExpressions}
 use Rattle.smv_language.specs.SpellsProgram.{last_expression, more_expressions}
-use Rattle.smv_language.specs.Limits.{deepest}
 use Rattle.smv_expression_reader.specs.Lists.{BytesSpellExpressions}
 
 -- an expression, and how it is spelled
@@ -17,10 +17,10 @@ pub record Spelling : Type 0 where
   pub tree : Formula
   pub spelled : SpellsExpr lexemes tree
 
--- the tree is at most `deepest` high, and its parentheses are nested at most `deepest` deep
+-- the tree is at most `MOST_HEIGHT` high, and its parentheses are nested at most `MOST_NESTED` deep
 pub record IsWithin (s : Spelling) : Type 0 where
-  pub low : height_of s.tree ≤ deepest
-  pub flat : nesting_of s.spelled ≤ deepest
+  pub low : height_of s.tree ≤ MOST_HEIGHT
+  pub flat : nesting_of s.spelled ≤ MOST_NESTED
 
 -- each of them is
 abbrev pub AreWithin : List Spelling → Type 0
@@ -29,7 +29,7 @@ AreWithin (s ∷ ss) = IsWithin s × AreWithin ss
 
 -- the same, as a test
 abbrev pub is_too_deep : Spelling → Bool
-is_too_deep s = nat_lt deepest (nesting_of s.spelled) || nat_lt deepest (height_of s.tree)
+is_too_deep s = nat_lt MOST_NESTED (nesting_of s.spelled) || nat_lt MOST_HEIGHT (height_of s.tree)
 
 -- some of them is
 abbrev pub are_too_deep : List Spelling → Bool

@@ -1,7 +1,7 @@
 -- How high the trees are that the machine holds.
 use Rattle.std.specs.Prelude.{◌≡◌, ℕ, ◌<◌, max, Bool, true, false, List, [], ◌∷◌}
+use Rattle.base_values.specs.declared.limits.TheConstants.{MOST_HEIGHT}
 use Rattle.smv_language.specs.Tree.{height_of, trees_height, branches_height, trees_from, branches_from}
-use Rattle.smv_language.specs.Limits.{deepest}
 use Rattle.smv_expression_reader.specs.TreeBuilder.{Part, left_part, answered, asked, set_part, condition_part, outcome_part, other_hand}
 use Rattle.smv_expression_reader.specs.TreeBuilder.{Build, ready, name_on, high_on, minus_high_on, next_on, branch_on, holds, broken, value}
 use Rattle.smv_expression_reader.specs.TreeBuilder.{Held}
@@ -47,6 +47,6 @@ abbrev pub is_whole : Build → Bool
 is_whole broken = false
 is_whole _ = true
 
--- a tree that is higher than `deepest` stands at hand, unless nothing goes on
+-- a tree that is higher than `MOST_HEIGHT` stands at hand, unless nothing goes on
 abbrev pub TooHigh : Build → Type 0
-TooHigh st = is_whole st ≡ true → deepest < tallest st
+TooHigh st = is_whole st ≡ true → MOST_HEIGHT < tallest st

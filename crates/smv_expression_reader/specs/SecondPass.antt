@@ -1,11 +1,11 @@
 -- What the second pass reads of a list of lexemes, part by part, and what it leaves.
 use Rattle.std.specs.Prelude.{ℕ, zero, suc, ℤ, pos, Bool, true, false, List, [], ◌∷◌, ◌++◌, Option, Some, None, take, drop, length, nat_lt}
 use Rattle.std.specs.Prelude.{◌&&◌, if◌then◌else◌}
+use Rattle.base_values.specs.declared.limits.TheConstants.{MOST_HEIGHT}
 use Rattle.smv_language.specs.Tree.{height_of}
 use Rattle.smv_language.specs.ProgramTree.{Text, Formula}
 use Rattle.smv_language.specs.Lexemes.{Lexeme}
 use Rattle.smv_language.specs.Spells.{minus}
-use Rattle.smv_language.specs.Limits.{deepest}
 use Rattle.smv_expression_reader.specs.Places.{is_word, text_in}
 use Rattle.smv_expression_reader.specs.Recogniser.{start}
 use Rattle.smv_expression_reader.specs.TreeBuilder.{built, name_in, number_in}
@@ -39,7 +39,7 @@ with_front xs none = none
 -- the tree, where one was made, unless it is too high
 abbrev pub made_of : Option Formula → List Lexeme → Read Formula
 made_of None r = none
-made_of (Some t) r = answer (nat_lt deepest (height_of t)) t r
+made_of (Some t) r = answer (nat_lt MOST_HEIGHT (height_of t)) t r
 
 -- the tree of what stands in front, where it is whole and not nested too deep
 abbrev pub front_read : Bool → Bool → Option Formula → List Lexeme → Read Formula

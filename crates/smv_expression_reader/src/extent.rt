@@ -7,21 +7,18 @@ ghost use Rattle.smv_expression_reader.specs.Recogniser as machine;
 ghost use Rattle.smv_expression_reader.specs.Extents.{reach_of, is_deep, ends_whole};
 
 use crate::frames::OpenFrames;
-use crate::grown::DEEPEST;
 use crate::machine::{Mode, is_stuck, is_whole, step};
 use crate::token::TokenText;
 use base_values::OutOfMemory;
+use base_values::limits::MOST_NESTED;
 use std::alloc::Global;
-
-/// How many groups may be open at once.
-const MOST_GROUPS: usize = DEEPEST as usize;
 
 /// How far an expression reaches.
 #[derive(Clone, Copy, Debug, PartialEq, Eq)]
 pub struct Extent {
     /// The number of its tokens.
     pub len: usize,
-    /// Whether parentheses are nested deeper than [`DEEPEST`].
+    /// Whether parentheses are nested deeper than [`MOST_NESTED`].
     pub deep: bool,
     /// Whether these tokens together are an expression.
     pub whole: bool,
@@ -44,7 +41,7 @@ pub fn reach(alloc: Global, tokens: &[TokenText]) -> Result<Extent, OutOfMemory>
         if is_stuck(mode) {
             return Ok(Extent { len, deep, whole });
         }
-        deep = deep || frames.groups() > MOST_GROUPS;
+        deep = deep || frames.groups() > MOST_NESTED;
     }
     Ok(Extent {
         len: tokens.len(),

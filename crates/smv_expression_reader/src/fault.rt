@@ -19,7 +19,7 @@ pub enum ParseFault {
     Unexpected(u32),
     /// The text ends before it spells a tree. The place is the number of bytes.
     End(u32),
-    /// The text spells a tree, but one that is higher than [`DEEPEST`](crate::DEEPEST), or its
+    /// The text spells a tree, but one that is higher than [`MOST_HEIGHT`](base_values::limits::MOST_HEIGHT), or its
     /// parentheses are nested deeper.
     TooDeep,
     /// No text goes on with the word at this place, which stands for a part of the language that is
@@ -40,7 +40,7 @@ impl From<OutOfMemory> for ParseFault {
 /// Why a tree was not made.
 #[derive(Clone, Copy, Debug, PartialEq, Eq)]
 pub enum GrowFault {
-    /// It would be higher than [`DEEPEST`](crate::DEEPEST).
+    /// It would be higher than [`MOST_HEIGHT`](base_values::limits::MOST_HEIGHT).
     TooDeep,
     /// There was no memory.
     OutOfMemory,
@@ -57,7 +57,7 @@ impl From<OutOfMemory> for GrowFault {
 /// Why no tree was made of a list of tokens.
 #[derive(Clone, Copy, Debug, PartialEq, Eq)]
 pub enum BuildFault {
-    /// The tree is higher than [`DEEPEST`](crate::DEEPEST), or its parentheses are nested deeper.
+    /// The tree is higher than [`MOST_HEIGHT`](base_values::limits::MOST_HEIGHT), or its parentheses are nested deeper.
     TooDeep,
     /// The tokens spell no tree.
     NoTree,

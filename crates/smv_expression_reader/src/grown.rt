@@ -1,46 +1,44 @@
-//! Trees that are at most `DEEPEST` high, with their heights: `Grown`.
+//! Trees that are at most `MOST_HEIGHT` high, with their heights: `Grown`.
 //!
 //! That the height is exact and within the limit is part of the type, and a function that joins operands refuses a tree that
 //! would be higher. So no tree above the limit is ever made or dropped.
 ghost use Rattle.std.specs.Prelude.{◌≡◌, ◌<◌, ◌≤◌, ◌+◌, ◌++◌, ◌∷◌, [], Err, IfOk, map};
+ghost use Rattle.base_values.specs.declared.limits.TheConstants.{MOST_HEIGHT};
 ghost use Rattle.smv_language.specs.Tree.{truth, number, leaf, not_of, negate, next_of, binary, choice, case_of, set_of, span, trees_from};
 ghost use Rattle.smv_language.specs.Tree.{branches_from, height_of, trees_height, branches_height};
 ghost use Rattle.smv_language.specs.ExpressionTree.{tree_of, branch_trees};
-ghost use Rattle.smv_language.specs.Limits.{deepest};
 
 use crate::fault::GrowFault;
+use base_values::limits::MOST_HEIGHT;
 use base_values::{Dotted, Items, OutOfMemory};
 use smv_language::{BranchList, Expr, ExprList, Op};
 use std::alloc::Global;
 
-/// How high a tree may be, and how deep its parentheses may be nested.
-pub const DEEPEST: u32 = 1000;
-
-/// A tree that is at most [`DEEPEST`] high.
+/// A tree that is at most [`MOST_HEIGHT`] high.
 #[derive(Drop)]
 pub struct Grown {
     pub tree: Expr<Dotted>,
     pub height: u32,
     ghost exact: { height ≡ height_of (tree_of tree) },
-    ghost within: { height ≤ deepest },
+    ghost within: { height ≤ MOST_HEIGHT },
 }
 
-/// Trees that are at most [`DEEPEST`] high.
+/// Trees that are at most [`MOST_HEIGHT`] high.
 #[derive(Drop)]
 pub struct GrownList {
     pub trees: ExprList<Dotted>,
     pub height: u32,
     ghost exact: { height ≡ trees_height (trees_from (map tree_of trees)) },
-    ghost within: { height ≤ deepest },
+    ghost within: { height ≤ MOST_HEIGHT },
 }
 
-/// Branches whose trees are at most [`DEEPEST`] high.
+/// Branches whose trees are at most [`MOST_HEIGHT`] high.
 #[derive(Drop)]
 pub struct GrownBranches {
     pub branches: BranchList<Dotted>,
     pub height: u32,
     ghost exact: { height ≡ branches_height (branches_from (map branch_trees branches)) },
-    ghost within: { height ≤ deepest },
+    ghost within: { height ≤ MOST_HEIGHT },
 }
 
 /// The tree in a box.
@@ -55,11 +53,11 @@ fn boxed(alloc: Global, tree: Expr<Dotted>) -> Result<Box<Expr<Dotted>>, OutOfMe
 
 /// The height of a node over children of this height.
 fn height_over(below: u32) -> Result<u32, GrowFault>
-    requires { below ≤ deepest }
-    ensures ok { IfOk result (λ height. (height ≡ below + 1) × (height ≤ deepest)) }
-    ensures deep { result ≡ Err GrowFault.TooDeep → deepest < below + 1 }
+    requires { below ≤ MOST_HEIGHT }
+    ensures ok { IfOk result (λ height. (height ≡ below + 1) × (height ≤ MOST_HEIGHT)) }
+    ensures deep { result ≡ Err GrowFault.TooDeep → MOST_HEIGHT < below + 1 }
 {
-    if below < DEEPEST {
+    if below < MOST_HEIGHT {
         Ok(below + 1)
     } else {
         Err(GrowFault::TooDeep)
@@ -110,7 +108,7 @@ impl Grown {
     /// The negation of a truth value; `TooDeep` where it would be too high.
     pub fn not(alloc: Global, operand: Grown) -> Result<Grown, GrowFault>
         ensures ok { IfOk result (λ made. tree_of made.tree ≡ not_of (tree_of operand.tree)) }
-        ensures deep { result ≡ Err GrowFault.TooDeep → deepest < height_of (not_of (tree_of operand.tree)) }
+        ensures deep { result ≡ Err GrowFault.TooDeep → MOST_HEIGHT < height_of (not_of (tree_of operand.tree)) }
     {
         let height = height_over(operand.height)?;
         Ok(Grown {
@@ -122,7 +120,7 @@ impl Grown {
     /// The negation of a number; `TooDeep` where it would be too high.
     pub fn negate(alloc: Global, operand: Grown) -> Result<Grown, GrowFault>
         ensures ok { IfOk result (λ made. tree_of made.tree ≡ negate (tree_of operand.tree)) }
-        ensures deep { result ≡ Err GrowFault.TooDeep → deepest < height_of (negate (tree_of operand.tree)) }
+        ensures deep { result ≡ Err GrowFault.TooDeep → MOST_HEIGHT < height_of (negate (tree_of operand.tree)) }
     {
         let height = height_over(operand.height)?;
         Ok(Grown {
@@ -134,7 +132,7 @@ impl Grown {
     /// The operand at the next moment; `TooDeep` where it would be too high.
     pub fn next(alloc: Global, operand: Grown) -> Result<Grown, GrowFault>
         ensures ok { IfOk result (λ made. tree_of made.tree ≡ next_of (tree_of operand.tree)) }
-        ensures deep { result ≡ Err GrowFault.TooDeep → deepest < height_of (next_of (tree_of operand.tree)) }
+        ensures deep { result ≡ Err GrowFault.TooDeep → MOST_HEIGHT < height_of (next_of (tree_of operand.tree)) }
     {
         let height = height_over(operand.height)?;
         Ok(Grown {
@@ -146,7 +144,7 @@ impl Grown {
     /// An operator between two operands; `TooDeep` where it would be too high.
     pub fn binary(alloc: Global, op: Op, left: Grown, right: Grown) -> Result<Grown, GrowFault>
         ensures ok { IfOk result (λ made. tree_of made.tree ≡ binary op (tree_of left.tree) (tree_of right.tree)) }
-        ensures deep { result ≡ Err GrowFault.TooDeep → deepest < height_of (binary op (tree_of left.tree) (tree_of right.tree)) }
+        ensures deep { result ≡ Err GrowFault.TooDeep → MOST_HEIGHT < height_of (binary op (tree_of left.tree) (tree_of right.tree)) }
     {
         let height = height_over(left.height.max(right.height))?;
         let left = boxed(alloc, left.tree)?;
@@ -161,7 +159,7 @@ impl Grown {
     pub fn choice(alloc: Global, test: Grown, first: Grown, last: Grown) -> Result<Grown, GrowFault>
         ensures ok { IfOk result (λ made. tree_of made.tree ≡ choice (tree_of test.tree) (tree_of first.tree) (tree_of last.tree)) }
         ensures deep { result ≡ Err GrowFault.TooDeep →
-            deepest < height_of (choice (tree_of test.tree) (tree_of first.tree) (tree_of last.tree)) }
+            MOST_HEIGHT < height_of (choice (tree_of test.tree) (tree_of first.tree) (tree_of last.tree)) }
     {
         let height = height_over(test.height.max(first.height.max(last.height)))?;
         let test = boxed(alloc, test.tree)?;
@@ -177,7 +175,7 @@ impl Grown {
     #[tactic(auto, using(smv_language::proofs::WrittenLaws::tree_of_set))]
     pub fn set(members: GrownList) -> Result<Grown, GrowFault>
         ensures ok { IfOk result (λ made. tree_of made.tree ≡ set_of (trees_from (map tree_of members.trees))) }
-        ensures deep { result ≡ Err GrowFault.TooDeep → deepest < height_of (set_of (trees_from (map tree_of members.trees))) }
+        ensures deep { result ≡ Err GrowFault.TooDeep → MOST_HEIGHT < height_of (set_of (trees_from (map tree_of members.trees))) }
     {
         let height = height_over(members.height)?;
         Ok(Grown {
@@ -190,7 +188,8 @@ impl Grown {
     #[tactic(auto, using(smv_language::proofs::WrittenLaws::tree_of_case))]
     pub fn case(branches: GrownBranches) -> Result<Grown, GrowFault>
         ensures ok { IfOk result (λ made. tree_of made.tree ≡ case_of (branches_from (map branch_trees branches.branches))) }
-        ensures deep { result ≡ Err GrowFault.TooDeep → deepest < height_of (case_of (branches_from (map branch_trees branches.branches))) }
+        ensures deep { result ≡ Err GrowFault.TooDeep →
+            MOST_HEIGHT < height_of (case_of (branches_from (map branch_trees branches.branches))) }
     {
         let height = height_over(branches.height)?;
         Ok(Grown {
@@ -199,10 +198,10 @@ impl Grown {
         })
     }
 
-    /// The tree, which is at most [`DEEPEST`] high.
+    /// The tree, which is at most [`MOST_HEIGHT`] high.
     pub fn into_tree(self) -> Expr<Dotted>
         ensures same { tree_of result ≡ tree_of self.tree }
-        ensures within { height_of (tree_of result) ≤ deepest }
+        ensures within { height_of (tree_of result) ≤ MOST_HEIGHT }
     {
         self.tree
     }

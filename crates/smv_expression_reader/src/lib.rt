@@ -8,7 +8,7 @@
 //! A text is read twice. The first pass makes no tree: it takes one token after another with a stack of what is
 //! still open (`machine`), and finds where reading stops (`list`), for texts of any size and nesting. Only where the
 //! whole text spells a tree the second pass makes it (`tree`), with a stack of what waits for an operand (`parts`),
-//! and gives up as soon as a tree would be higher than [`DEEPEST`]. So `TooDeep` never hides another refusal, no tree
+//! and gives up as soon as a tree would be higher than [`MOST_HEIGHT`]. So `TooDeep` never hides another refusal, no tree
 //! above the limit is ever made or dropped, and both passes take time in proportion to the tokens.
 //!
 //! The layers above use the two calls and `ParseFault`. The readers of programs, of instructions and of causes
@@ -45,5 +45,4 @@ mod tree;
 mod words;
 
 pub use fault::ParseFault;
-pub use grown::DEEPEST;
 pub use reader::{expression, expressions};

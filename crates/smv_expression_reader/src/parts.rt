@@ -3,12 +3,12 @@
 //! `reduce` gives an operand to all that take it before the operator which follows, and so makes the order of operators:
 //! the tighter one takes its operand first, and of two in one line the left one.
 ghost use Rattle.std.specs.Prelude.{◌≡◌, ◌<◌, ◌∷◌, [], None, Err, IfOk, IfSome, length};
+ghost use Rattle.base_values.specs.declared.limits.TheConstants.{MOST_HEIGHT};
 ghost use Rattle.smv_language.specs.Spells.{line_of};
 ghost use Rattle.smv_language.specs.Tree.{height_of};
 ghost use Rattle.smv_expression_reader.specs.TreeBuilder as machine;
 ghost use Rattle.smv_expression_reader.specs.PartViews.{part_view, parts_of, held};
 ghost use Rattle.smv_language.specs.ExpressionTree.{tree_of};
-ghost use Rattle.smv_language.specs.Limits.{deepest};
 ghost use Rattle.smv_expression_reader.specs.Heights.{held_height};
 
 use crate::fault::GrowFault;
@@ -64,7 +64,7 @@ pub fn pop(parts: &mut Vec<Pending>) -> Option<Pending>
 /// The part, with its operand.
 fn join(alloc: Global, part: Pending, operand: Grown) -> Result<Grown, GrowFault>
     ensures ok { IfOk result (λ made. tree_of made.tree ≡ machine.joined (part_view part) (tree_of operand.tree)) }
-    ensures deep { result ≡ Err GrowFault.TooDeep → deepest < height_of (machine.joined (part_view part) (tree_of operand.tree)) }
+    ensures deep { result ≡ Err GrowFault.TooDeep → MOST_HEIGHT < height_of (machine.joined (part_view part) (tree_of operand.tree)) }
 {
     match part {
         Pending::Minus => Grown::negate(alloc, operand),
@@ -126,7 +126,7 @@ pub fn reduce(
     ensures ok { IfOk result (λ made. held (tree_of made.tree) (parts_of parts.new.items)
         ≡ machine.reduce level (tree_of operand.tree) (parts_of parts.old.items)) }
     ensures deep { result ≡ Err GrowFault.TooDeep →
-        deepest < held_height (machine.reduce level (tree_of operand.tree) (parts_of parts.old.items)) }
+        MOST_HEIGHT < held_height (machine.reduce level (tree_of operand.tree) (parts_of parts.old.items)) }
 {
     let mut made = operand;
     while let Some(part) = pop(parts) {

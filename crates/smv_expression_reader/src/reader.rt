@@ -1,5 +1,6 @@
 //! The two calls, and what each reader begins with: tokens, then how far they can be read, then the tree.
 ghost use Rattle.std.specs.Prelude.{◌≡◌, ◌<◌, ◌≤◌, ◌^◌, List, Some, true, false, All, IfOk, IfErr, length, map, slice_get};
+ghost use Rattle.base_values.specs.declared.limits.TheConstants.{MOST_HEIGHT};
 ghost use Rattle.smv_lexer.specs.declared.token.Token.{Token};
 ghost use Rattle.smv_lexer.specs.Tokens.{HasTokens, StandsIn};
 ghost use Rattle.smv_language.specs.Tree.{height_of};
@@ -7,7 +8,6 @@ ghost use Rattle.smv_language.specs.ProgramTree.{Formula};
 ghost use Rattle.smv_language.specs.ExpressionTree.{tree_of};
 ghost use Rattle.smv_language.specs.Lexemes.{Lexeme, lexemes_of};
 ghost use Rattle.smv_language.specs.Bytes.{BytesSpellExpr, HasDepths};
-ghost use Rattle.smv_language.specs.Limits.{deepest};
 ghost use Rattle.smv_expression_reader.specs.Recogniser as machine;
 ghost use Rattle.smv_expression_reader.specs.TreeBuilder.{built as machine_built};
 ghost use Rattle.smv_expression_reader.specs.Extents.{is_deep};
@@ -95,7 +95,7 @@ fn make_expression(
     requires same { texts.now ≡ lexemes_of bytes.now tokens.now }
     requires whole { machine.is_whole (machine.run machine.start texts.now) ≡ true }
     ensures made { IfOk result (λ e. machine_built texts.now ≡ Some (tree_of e)) }
-    ensures within { IfOk result (λ e. height_of (tree_of e) ≤ deepest) }
+    ensures within { IfOk result (λ e. height_of (tree_of e) ≤ MOST_HEIGHT) }
     ensures fault { IfErr result (λ fault. FaultMeans IsExpression (IsTooDeep bytes.now) bytes.now fault) }
 {
     match tree(alloc, texts) {

@@ -3,10 +3,10 @@
 //! One token after another is taken (`step`), in the state `Build`: what has just been read, and beside it the stack of what
 //! waits for an operand (`parts`). No function calls itself, so the depth of an expression takes no stack of calls.
 ghost use Rattle.std.specs.Prelude.{◌≡◌, ◌<◌, ◌≤◌, ◌∷◌, List, None, Some, Err, IfOk};
+ghost use Rattle.base_values.specs.declared.limits.TheConstants.{MOST_HEIGHT};
 ghost use Rattle.smv_language.specs.Tree.{height_of};
 ghost use Rattle.smv_language.specs.ExpressionTree.{tree_of};
 ghost use Rattle.smv_language.specs.ProgramTree.{Formula};
-ghost use Rattle.smv_language.specs.Limits.{deepest};
 ghost use Rattle.smv_expression_reader.specs.TreeBuilder as machine;
 ghost use Rattle.smv_expression_reader.specs.Views.{role_view};
 ghost use Rattle.smv_expression_reader.specs.PartViews.{part_view, parts_of};
@@ -400,9 +400,9 @@ fn step(
 #[tactic(auto, using(crate::proofs::Tallest::finish_high, crate::proofs::PartStacks::finished_rules))]
 fn finish(alloc: Global, build: Build, parts: Vec<Pending>) -> Result<Expr<Dotted>, BuildFault>
     ensures ok { IfOk result (λ made. machine.finish (build_view build (parts_of parts.items)) ≡ Some (tree_of made)) }
-    ensures within { IfOk result (λ made. height_of (tree_of made) ≤ deepest) }
+    ensures within { IfOk result (λ made. height_of (tree_of made) ≤ MOST_HEIGHT) }
     ensures deep { (t : Formula) → result ≡ Err BuildFault.TooDeep →
-        machine.finish (build_view build (parts_of parts.items)) ≡ Some t → deepest < height_of t }
+        machine.finish (build_view build (parts_of parts.items)) ≡ Some t → MOST_HEIGHT < height_of t }
     ensures none { result ≡ Err BuildFault.NoTree → machine.finish (build_view build (parts_of parts.items)) ≡ None }
 {
     match build {
@@ -422,8 +422,8 @@ fn finish(alloc: Global, build: Build, parts: Vec<Pending>) -> Result<Expr<Dotte
 #[tactic(auto, using(crate::proofs::PartStacks::no_parts))]
 pub fn tree(alloc: Global, tokens: &[TokenText]) -> Result<Expr<Dotted>, BuildFault>
     ensures ok { IfOk result (λ made. machine.built tokens.now ≡ Some (tree_of made)) }
-    ensures within { IfOk result (λ made. height_of (tree_of made) ≤ deepest) }
-    ensures deep { (t : Formula) → result ≡ Err BuildFault.TooDeep → machine.built tokens.now ≡ Some t → deepest < height_of t }
+    ensures within { IfOk result (λ made. height_of (tree_of made) ≤ MOST_HEIGHT) }
+    ensures deep { (t : Formula) → result ≡ Err BuildFault.TooDeep → machine.built tokens.now ≡ Some t → MOST_HEIGHT < height_of t }
     ensures none { result ≡ Err BuildFault.NoTree → machine.built tokens.now ≡ None }
 {
     let mut parts = Vec::new(alloc);

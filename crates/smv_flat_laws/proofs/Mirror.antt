@@ -19,6 +19,7 @@ use Rattle.smv_flat_laws.specs.Rules.{no_main, main_has_parameters, double_modul
 use Rattle.smv_flat_laws.proofs.Resolving.{same_meaning}
 use Rattle.smv_flat_laws.proofs.EndLaws.{goes_on}
 use Rattle.std.proofs.lemmas.Option.{none-some as never_some}
+use Rattle.base_values.specs.declared.limits.TheConstants.{MOST_INSTANCES, MOST_VARIABLES}
 
 -- an instance of the module, given the x of another
 abbrev given : Text → Text → DeclTree
@@ -208,7 +209,7 @@ visit_b = visit_of 6 (codes "b") (codes "a")
 abbrev visit_x : Place → Visit
 visit_x at = record { place = at; on_path = codes "M" ∷ codes "main" ∷ []; number = 2; role = state; decl = record { name = codes "x"; what = boolean } }
 
-instance_visit : (before : List Visit) (n : ℕ) (own other : Text) → (1000 ≤ instances_before before → ⊥) → IsKept mirror (a_visit before (visit_of n own other))
+instance_visit : (before : List Visit) (n : ℕ) (own other : Text) → (MOST_INSTANCES ≤ instances_before before → ⊥) → IsKept mirror (a_visit before (visit_of n own other))
 instance_visit before n own other few no_such_module b = cc
 instance_visit before n own other few wrong_count b = cc
 instance_visit before n own other few module_loop b = cc
@@ -221,7 +222,7 @@ a_visit_kept = instance_visit [] 5 (codes "a") (codes "b") (λ b. omega (arith, 
 b_visit_kept : IsKept mirror (a_visit (visit_a ∷ visit_x at_a ∷ []) visit_b)
 b_visit_kept = instance_visit (visit_a ∷ visit_x at_a ∷ []) 6 (codes "b") (codes "a") (λ b. omega (arith, b))
 
-x_visit : (before : List Visit) (at : Place) → (2000 ≤ variables_before before → ⊥) → IsKept mirror (a_visit before (visit_x at))
+x_visit : (before : List Visit) (at : Place) → (MOST_VARIABLES ≤ variables_before before → ⊥) → IsKept mirror (a_visit before (visit_x at))
 x_visit before at few no_such_module b = cc
 x_visit before at few wrong_count b = cc
 x_visit before at few module_loop b = cc

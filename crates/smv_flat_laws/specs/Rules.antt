@@ -1,6 +1,7 @@
 -- The rules of flattening, and which is the first that a program breaks.
 use Rattle.std.specs.Prelude.{◌≡◌, ℕ, zero, suc, ◌<◌, ◌≤◌, nat_eq, Bool, true, false, ◌||◌, ◌&&◌, ◌⊎◌, IsTrue, List, [], ◌∷◌, ◌++◌, Option}
 use Rattle.std.specs.Prelude.{Some, None, codes, length, map, flat_map, slice_get}
+use Rattle.base_values.specs.declared.limits.TheConstants.{MOST_INSTANCES, MOST_VARIABLES}
 use Rattle.smv_language.specs.declared.program.Moment.{Moment}
 use Rattle.smv_language.specs.declared.program.Moment.TheVariants.{Always, First, After}
 use Rattle.smv_language.specs.Tree.{Tree, Trees, Branches, truth, number, leaf, not_of, negate, next_of, binary, choice, case_of, set_of}
@@ -147,10 +148,10 @@ instances_before vs = suc (length (flat_map (λ v. instance_declared v.place v.d
 abbrev pub variables_before : List Visit → ℕ
 variables_before vs = length (flat_map (λ v. variable_declared v v.decl.what) vs)
 
--- an instance after 1,000 with `main`, a variable after 2,000
+-- an instance after `MOST_INSTANCES` with `main`, a variable after `MOST_VARIABLES`
 abbrev pub PassesLimit : List Visit → DeclaredTree → Type 0
-PassesLimit before (instance m actuals) = 1000 ≤ instances_before before
-PassesLimit before _ = 2000 ≤ variables_before before
+PassesLimit before (instance m actuals) = MOST_INSTANCES ≤ instances_before before
+PassesLimit before _ = MOST_VARIABLES ≤ variables_before before
 
 -- Rule 8: a name in a value means nothing or an instance, a plain actual means nothing.
 pub data HasNoValue (p : ProgramTree) (at : Place) (name : Path) : Type 0 where

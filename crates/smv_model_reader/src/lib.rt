@@ -8,7 +8,7 @@
 //! A text is read twice, as expressions are. The first pass makes no tree: it takes one token after another with a
 //! stack of what is still expected (`expected`, `choices`, `symbols`), beside the recogniser of expressions. Only
 //! where the whole text spells a program the second pass makes it (`sections`), and gives up at the first expression
-//! that is higher than `DEEPEST` or nested deeper. So `TooDeep` never hides another refusal, and both passes take time in
+//! that is higher than `MOST_HEIGHT` or nested deeper. So `TooDeep` never hides another refusal, and both passes take time in
 //! proportion to the tokens.
 //!
 //! The layers above use the call alone. `specs/ProgramGrammar.antt` has the grammar as one in which a token decides what

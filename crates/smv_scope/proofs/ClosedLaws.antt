@@ -15,6 +15,7 @@ use Rattle.smv_language.specs.declared.model.Variable.{Variable}
 use Rattle.smv_scope.specs.declared.bounds.Bounds.{Bounds}
 use Rattle.smv_scope.specs.ClosedModels.{is_within, tree_all, trees_all, branches_all, is_closed, is_branch_closed, are_closed, are_earlier, AreVariables, is_variable, is_instance}
 use Rattle.std.proofs.lemmas.Bool.{and_from as both_true}
+use Rattle.base_values.specs.declared.limits.TheConstants.{MOST_VARIABLES}
 use Rattle.smv_language.proofs.BoolLaws.{left_true, right_true}
 
 and_more : (a b c : Bool) → ((a && b) && c) ≡ (a && (b && c))
@@ -64,10 +65,10 @@ earlier_push b ds d before next one =
 pub formulas_push : (b : Bounds) (fs : List Formula) (f : Formula) → are_closed b fs ≡ true → is_closed b f.value ≡ true → are_closed b (fs ++ f ∷ []) ≡ true
 formulas_push b fs f all one = all_push (λ g. is_closed b g.value) fs f all one
 
-pub variables_push : (vs : List Variable) (v : Variable) → AreVariables vs → length vs < 2000 → is_instance v.declared ≡ false → AreVariables (vs ++ v ∷ [])
+pub variables_push : (vs : List Variable) (v : Variable) → AreVariables vs → length vs < MOST_VARIABLES → is_instance v.declared ≡ false → AreVariables (vs ++ v ∷ [])
 variables_push vs v known few plain =
     let longer : length (vs ++ v ∷ []) ≡ length vs + length (v ∷ []) = length-append vs (v ∷ []) in
-    record { few = subst (λ n. n ≤ 2000) (sym longer) (omega arith); each = all_push is_variable vs v known.each (ap not plain) }
+    record { few = subst (λ n. n ≤ MOST_VARIABLES) (sym longer) (omega arith); each = all_push is_variable vs v known.each (ap not plain) }
 
 pub closed_within : (b : Bounds) (made value : Expr Flat) (target : Tree Flat) → tree_of made ≡ binary op.Within target (tree_of value) →
     tree_all (is_within b) target ≡ true → is_closed b value ≡ true → is_closed b made ≡ true

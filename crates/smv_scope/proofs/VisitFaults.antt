@@ -1,8 +1,9 @@
 -- What is told of visits is the first broken rule.
-use Rattle.std.proofs.Common.{◌≡◌, ℕ, ◌+◌, ◌<◌, ◌≤◌, arith, nat_lt, Bool, true, false, List, [], ◌∷◌, ◌++◌, length, Option, Some, None, refl, ap, ◌∙◌, sym, subst}
+use Rattle.std.proofs.Common.{◌≡◌, ℕ, ◌+◌, ◌<◌, ◌≤◌, arith, nat_le, Bool, true, false, List, [], ◌∷◌, ◌++◌, length, Option, Some, None, refl, ap, ◌∙◌, sym, subst}
 use Rattle.std.specs.Prelude.{IfSome, flat_map}
-use Rattle.std.proofs.lemmas.Bool.{ltb-true, lt-ltb}
+use Rattle.std.proofs.lemmas.Bool.{leb-true, le-leb}
 use Rattle.std.proofs.lemmas.List.{length-append}
+use Rattle.base_values.specs.declared.limits.TheConstants.{MOST_INSTANCES, MOST_VARIABLES}
 use Rattle.smv_language.specs.ProgramTree.{DeclaredTree, boolean, range, members, instance, ProgramTree}
 use Rattle.smv_language.specs.Scope.{Place}
 use Rattle.smv_flat_laws.specs.Items.{Visit, visits, instance_declared, variable_declared}
@@ -19,19 +20,19 @@ use Rattle.smv_language.proofs.ListLaws.{flat_end}
 use Rattle.smv_language.proofs.BoolLaws.{never}
 
 limit_passed : (before : List Visit) (what : DeclaredTree) → passes_limit (instances_before before) (variables_before before) what ≡ true → PassesLimit before what
-limit_passed before boolean e = omega (arith, ltb-true 1999 (variables_before before) e)
-limit_passed before (range lo hi) e = omega (arith, ltb-true 1999 (variables_before before) e)
-limit_passed before (members ms) e = omega (arith, ltb-true 1999 (variables_before before) e)
-limit_passed before (instance m actuals) e = omega (arith, ltb-true 999 (instances_before before) e)
+limit_passed before boolean e = leb-true MOST_VARIABLES (variables_before before) e
+limit_passed before (range lo hi) e = leb-true MOST_VARIABLES (variables_before before) e
+limit_passed before (members ms) e = leb-true MOST_VARIABLES (variables_before before) e
+limit_passed before (instance m actuals) e = leb-true MOST_INSTANCES (instances_before before) e
 
-below : (a b : ℕ) → nat_lt a b ≡ false → a < b → ⊥
-below a b e less = let yes : nat_lt a b ≡ true = lt-ltb a b less in let bad : true ≡ false = sym yes ∙ e in cc
+below : (a b : ℕ) → nat_le a b ≡ false → a ≤ b → ⊥
+below a b e most = let yes : nat_le a b ≡ true = le-leb a b most in let bad : true ≡ false = sym yes ∙ e in cc
 
 limit_kept : (before : List Visit) (what : DeclaredTree) → passes_limit (instances_before before) (variables_before before) what ≡ false → PassesLimit before what → ⊥
-limit_kept before boolean e h = below 1999 (variables_before before) e (omega (arith, h))
-limit_kept before (range lo hi) e h = below 1999 (variables_before before) e (omega (arith, h))
-limit_kept before (members ms) e h = below 1999 (variables_before before) e (omega (arith, h))
-limit_kept before (instance m actuals) e h = below 999 (instances_before before) e (omega (arith, h))
+limit_kept before boolean e h = below MOST_VARIABLES (variables_before before) e h
+limit_kept before (range lo hi) e h = below MOST_VARIABLES (variables_before before) e h
+limit_kept before (members ms) e h = below MOST_VARIABLES (variables_before before) e h
+limit_kept before (instance m actuals) e h = below MOST_INSTANCES (instances_before before) e h
 
 module _ (p : ProgramTree) (before : List Visit) (v : Visit) where
   abbrev Missing : Bool

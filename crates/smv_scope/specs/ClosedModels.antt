@@ -1,6 +1,7 @@
 -- Flat models whose names are their own.
 use Rattle.std.specs.Prelude.{◌≡◌, ℕ, suc, ◌≤◌, nat_lt, Bool, true, false, not, ◌&&◌, List, [], ◌∷◌, length}
 use Rattle.std.specs.List.{list_all}
+use Rattle.base_values.specs.declared.limits.TheConstants.{MOST_VARIABLES}
 use Rattle.smv_language.specs.Tree.{Tree, Trees, Branches, truth, number, leaf, not_of, negate, next_of, binary, choice, case_of, set_of}
 use Rattle.smv_language.specs.Tree.{span, no_tree, tree_then, no_branch, branch_then}
 use Rattle.smv_language.specs.ExpressionTree.{tree_of}
@@ -74,7 +75,7 @@ is_variable v = not (is_instance v.declared)
 
 -- variables of a model: no more than the limit, and none of the type of an instance
 pub record AreVariables (vs : List Variable) : Type 0 where
-  pub few : length vs ≤ 2000
+  pub few : length vs ≤ MOST_VARIABLES
   pub each : list_all is_variable vs ≡ true
 
 -- how many variables, symbols and definitions a model has

@@ -1,7 +1,8 @@
 -- The walk step by step: what it has met where it stands, and what is told of the visits that come.
-use Rattle.std.specs.Prelude.{◌≡◌, ℕ, zero, suc, Vec, ◌+◌, ◌-◌, ◌<◌, nat_lt, Bool, false, List, [], ◌∷◌, ◌++◌, length, map, flat_map}
+use Rattle.std.specs.Prelude.{◌≡◌, ℕ, zero, suc, Vec, ◌+◌, ◌-◌, ◌<◌, nat_le, Bool, false, List, [], ◌∷◌, ◌++◌, length, map, flat_map}
 use Rattle.std.specs.Prelude.{reverse, Option, Some, None, slice_get}
 use Rattle.std.specs.declared.alloc.Global.{Global}
+use Rattle.base_values.specs.declared.limits.TheConstants.{MOST_INSTANCES, MOST_VARIABLES}
 use Rattle.smv_language.specs.ProgramTree.{Text, Formula, DeclaredTree, instance, ProgramTree, program_tree, decl_tree, declared_tree}
 use Rattle.smv_language.specs.Scope.{Place, Role, find_module}
 use Rattle.smv_language.specs.Texts.{is_among}
@@ -44,10 +45,10 @@ calls_in vs = flat_map (λ v. calls_declared (v.decl.name ∷ v.place) v.decl.wh
 abbrev pub variables_in : List Visit → List Visit
 variables_in vs = flat_map (λ v. variable_declared v v.decl.what) vs
 
--- an instance after 1,000 of them, a variable after 2,000
+-- an instance after `MOST_INSTANCES`, a variable after `MOST_VARIABLES`
 abbrev pub passes_limit : ℕ → ℕ → DeclaredTree → Bool
-passes_limit instances variables (instance m actuals) = nat_lt 999 instances
-passes_limit instances variables _ = nat_lt 1999 variables
+passes_limit instances variables (instance m actuals) = nat_le MOST_INSTANCES instances
+passes_limit instances variables _ = nat_le MOST_VARIABLES variables
 
 -- the first rule that a visit breaks, after so many instances and variables
 abbrev pub visit_told : ProgramTree → ℕ → ℕ → Visit → Told
@@ -71,7 +72,7 @@ instance_told p on instances item m actuals =
     told_first (told_if (is_missing (find_module p m)) no_such_module item)
     (told_first (told_if (is_other_count (find_module p m) actuals) wrong_count item)
     (told_first (told_if (is_among on m) module_loop item)
-    (told_if (nat_lt 999 instances) too_many item)))
+    (told_if (nat_le MOST_INSTANCES instances) too_many item)))
 
 -- the visits inside an instance, where these modules are on the path to it
 abbrev pub walk_from : ProgramTree → List Text → Place → Text → List Visit

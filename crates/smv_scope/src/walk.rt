@@ -20,16 +20,11 @@ ghost use Rattle.smv_scope.specs.InstanceWalk.{with_own, declared_item, IsVariab
 use crate::fault::{FlatFault, FlatRule};
 use crate::items::{Item, Numbered, number_of};
 use crate::modules::Modules;
+use base_values::limits::{MOST_INSTANCES, MOST_VARIABLES};
 use base_values::{Dotted, Items, Name, OutOfMemory};
 use smv_language::model::{Role, Variable, VariableList};
 use smv_language::{Decl, Declared, Expr, ExprList};
 use std::alloc::Global;
-
-/// The most instances, with `main`.
-const INSTANCE_LIMIT: usize = 1000;
-
-/// The most variables.
-const VARIABLE_LIMIT: usize = 2000;
 
 /// What a name means. A variable, an instance, a definition and a symbol have their numbers; `Loop` is a
 /// name whose look-up meets a formal that leads back to itself.
@@ -305,7 +300,7 @@ impl<'a> Walk<'a> {
                     FlatRule::WrongCount
                 } else if self.is_inside(name) {
                     FlatRule::ModuleLoop
-                } else if self.spots.len() >= INSTANCE_LIMIT {
+                } else if self.spots.len() >= MOST_INSTANCES {
                     FlatRule::TooMany
                 } else {
                     return Ok(module);
@@ -347,7 +342,7 @@ impl<'a> Walk<'a> {
             (visits_at modules.now self.old declaring.entry.spot (declared_item declaring.entry)))) }
     {
         let place = self.variables.len();
-        if place >= VARIABLE_LIMIT {
+        if place >= MOST_VARIABLES {
             return Err(FlatFault {
                 rule: FlatRule::TooMany,
                 item: declaring.item,

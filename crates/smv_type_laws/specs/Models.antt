@@ -1,6 +1,7 @@
 -- The kinds of a model's variables and definitions, and the first rule that it breaks.
 use Rattle.std.specs.Prelude.{◌≡◌, ◌⊎◌, ℕ, ◌<◌, ◌≤◌, nat_lt, Bool, true, false, ◌||◌, Option, Some, None, List, [], ◌∷◌, ◌++◌, map}
 use Rattle.std.specs.Prelude.{flat_map, slice_get, if◌then◌else◌}
+use Rattle.base_values.specs.declared.limits.TheConstants.{MOST_BITS, MOST_COST, MOST_TOP_COST}
 use Rattle.smv_language.specs.Tree.{Tree}
 use Rattle.smv_language.specs.Trace.{Each, AtSome}
 use Rattle.smv_language.specs.Flat.{FlatLeaf, flat_variable, flat_symbol, flat_definition, FlatVariable, FlatFormula, FlatModel}
@@ -85,9 +86,9 @@ pub record IsFirstBreach (all : List Breach) (first : Breach) : Type 0 where
   pub among : AtSome (λ b. b ≡ first) all
   pub earliest : Each (IsNoLater first) all
 
--- a cost above 50,000, or more than 4,096 state bits
+-- a cost above `MOST_COST`, or more state bits than `MOST_BITS`
 abbrev pub is_too_large : FlatModel → Bool
-is_too_large m = nat_lt 50000 (model_cost m) || nat_lt 4096 (state_bits m)
+is_too_large m = nat_lt MOST_COST (model_cost m) || nat_lt MOST_BITS (state_bits m)
 
 -- The first rule that a model breaks, with its item; last of all comes its size, with item 0.
 pub data IsFault (m : FlatModel) (rule : KindRule) (item : ℕ) : Type 0 where
@@ -124,4 +125,5 @@ size_fault false = None
 
 -- the rule for which a condition apart from the model is refused; its size comes last
 abbrev pub top_fault : FlatModel → Tree FlatLeaf → Option KindRule
-top_fault m e = elim (least (broken_condition (judged_in m false e))) [ Some r ↦ Some r | None ↦ size_fault (nat_lt 50000 (cost_of e)) ]
+top_fault m e =
+    elim (least (broken_condition (judged_in m false e))) [ Some r ↦ Some r | None ↦ size_fault (nat_lt MOST_TOP_COST (cost_of e)) ]

@@ -1,6 +1,7 @@
 -- What is told of values and conditions.
-use Rattle.std.proofs.Common.{◌≡◌, ℕ, Bool, true, false, List, [], ◌∷◌, Option, Some, None, refl, sym, ap, ◌∙◌, subst, OnOk, min, arith}
+use Rattle.std.proofs.Common.{◌+◌, ◌≡◌, ℕ, Bool, true, false, List, [], ◌∷◌, Option, Some, None, refl, sym, ap, ◌∙◌, subst, OnOk, min, arith}
 use Rattle.std.specs.Prelude.{Result, Ok, Err, nat_lt}
+use Rattle.base_values.specs.declared.limits.TheConstants.{MOST_COST, MOST_TOP_COST}
 use Rattle.smv_language.specs.Tree.{Tree}
 use Rattle.smv_language.specs.Flat.{FlatLeaf, FlatModel}
 use Rattle.smv_type_laws.specs.ExpressionKinds as found
@@ -36,8 +37,8 @@ pub value_answered : (r : Result Kind TypeFault) (judged : AJudged) (j : Judged)
 value_answered r judged j is e = e ∙ ap (λ (x : AJudged). value_by x.broken x.sort) is ∙ told_value j
 
 -- and a condition by its own, and then by its size
-pub told_top : (m : FlatModel) (e : Tree FlatLeaf) → top_by (told_rules (broken_condition (judged_in m false e))) (nat_lt 50000 (cost_of e)) ≡ top_answer (top_fault m e)
-told_top m e = by (least (broken_condition (judged_in m false e))) (nat_lt 50000 (cost_of e))
+pub told_top : (m : FlatModel) (e : Tree FlatLeaf) → top_by (told_rules (broken_condition (judged_in m false e))) (nat_lt MOST_TOP_COST (cost_of e)) ≡ top_answer (top_fault m e)
+told_top m e = by (least (broken_condition (judged_in m false e))) (nat_lt MOST_TOP_COST (cost_of e))
   where
     by : (o : Option KindRule) (large : Bool) → top_by (told_first o) large ≡ top_answer (elim o [ Some r ↦ Some r | None ↦ size_fault large ])
     by (Some r) large = refl
@@ -45,10 +46,10 @@ told_top m e = by (least (broken_condition (judged_in m false e))) (nat_lt 50000
     by None false = refl
 
 pub top_answered : (r : Result (Unit {0}) TypeFault) (m : FlatModel) (e : Tree FlatLeaf) (judged : AJudged) (broken : Option TypeRule) (cost : ℕ) → judged ≡ told (judged_in m false e) →
-    broken ≡ lower (class_rule Truth NotBoolean judged.sort) judged.broken → cost ≡ min (cost_of e) 50001 → r ≡ top_by broken (nat_lt 50000 cost) → r ≡ top_answer (top_fault m e)
+    broken ≡ lower (class_rule Truth NotBoolean judged.sort) judged.broken → cost ≡ min (cost_of e) (MOST_COST + 1) → r ≡ top_by broken (nat_lt MOST_TOP_COST cost) → r ≡ top_answer (top_fault m e)
 top_answered r m e judged broken cost is is_broken is_cost is_answer =
-    is_answer ∙ ap (λ b. top_by b (nat_lt 50000 cost)) (is_broken ∙ ap (λ (j : AJudged). lower (class_rule Truth NotBoolean j.sort) j.broken) is ∙ told_condition (judged_in m false e))
-    ∙ ap (top_by (told_rules (broken_condition (judged_in m false e)))) (ap (nat_lt 50000) is_cost ∙ below_cap 50000 (cost_of e) (omega arith)) ∙ told_top m e
+    is_answer ∙ ap (λ b. top_by b (nat_lt MOST_TOP_COST cost)) (is_broken ∙ ap (λ (j : AJudged). lower (class_rule Truth NotBoolean j.sort) j.broken) is ∙ told_condition (judged_in m false e))
+    ∙ ap (top_by (told_rules (broken_condition (judged_in m false e)))) (ap (nat_lt MOST_TOP_COST) is_cost ∙ below_cap MOST_TOP_COST (cost_of e) (omega arith)) ∙ told_top m e
 
 -- what is not refused breaks no rule
 value_right : (rs : List KindRule) (k : found.Kind) → OnOk (value_answer (least rs) k) (rs ≡ [])
@@ -72,7 +73,7 @@ top_right (r ∷ rs) large = by (least rs)
     by (Some q) = tt
 
 pub top_kept : (r : Result (Unit {0}) TypeFault) (m : FlatModel) (e : Tree FlatLeaf) → r ≡ top_answer (top_fault m e) → OnOk r (broken_condition (judged_in m false e) ≡ [])
-top_kept r m e is = subst (λ x. OnOk x (broken_condition (judged_in m false e) ≡ [])) (sym is) (top_right (broken_condition (judged_in m false e)) (nat_lt 50000 (cost_of e)))
+top_kept r m e is = subst (λ x. OnOk x (broken_condition (judged_in m false e) ≡ [])) (sym is) (top_right (broken_condition (judged_in m false e)) (nat_lt MOST_TOP_COST (cost_of e)))
 
 -- so at values of the domains its values lie in its kind
 lies : (m : FlatModel) (e : Tree FlatLeaf) → IsTyped m → (judged_in m false e).broken ≡ [] → LiesInKind m e

@@ -1,6 +1,7 @@
 -- A model is typed, or what is told is its fault.
-use Rattle.std.proofs.Common.{◌≡◌, ℕ, min, ◌||◌, Option, Some, None, refl, sym, ap, ◌∙◌, subst, nat_lt, arith}
+use Rattle.std.proofs.Common.{◌+◌, ◌≡◌, ℕ, min, ◌||◌, Option, Some, None, refl, sym, ap, ◌∙◌, subst, nat_lt, arith}
 use Rattle.std.proofs.lemmas.Bool.{ltb-false, or_parts as neither}
+use Rattle.base_values.specs.declared.limits.TheConstants.{MOST_BITS, MOST_COST}
 use Rattle.smv_language.specs.Flat.{FlatModel}
 use Rattle.smv_type_laws.specs.ExpressionKinds.{KindRule}
 use Rattle.smv_type_laws.specs.Costs.{model_cost, state_bits}
@@ -15,12 +16,12 @@ use Rattle.smv_types.specs.Sites.{told_first_site, fault_by}
 use Rattle.smv_types.proofs.SiteLaws.{fault_told}
 use Rattle.smv_types.proofs.SizeLaws.{below_cap}
 
-pub fault_answered : (m : FlatModel) (first : Option Site) (cost bits : ℕ) → first ≡ told_first_site (first_of (breaches m)) → cost ≡ min (model_cost m) 50001 → bits ≡ min (state_bits m) 50001 →
-    fault_by first (nat_lt 50000 cost || nat_lt 4096 bits) ≡ told_fault (first_fault m)
+pub fault_answered : (m : FlatModel) (first : Option Site) (cost bits : ℕ) → first ≡ told_first_site (first_of (breaches m)) → cost ≡ min (model_cost m) (MOST_COST + 1) → bits ≡ min (state_bits m) (MOST_COST + 1) →
+    fault_by first (nat_lt MOST_COST cost || nat_lt MOST_BITS bits) ≡ told_fault (first_fault m)
 fault_answered m first cost bits is_first is_cost is_bits =
-    ap (λ s. fault_by s (nat_lt 50000 cost || nat_lt 4096 bits)) is_first
-    ∙ ap (λ b. fault_by (told_first_site (first_of (breaches m))) (b || nat_lt 4096 bits)) (ap (nat_lt 50000) is_cost ∙ below_cap 50000 (model_cost m) (omega arith))
-    ∙ ap (λ b. fault_by (told_first_site (first_of (breaches m))) (nat_lt 50000 (model_cost m) || b)) (ap (nat_lt 4096) is_bits ∙ below_cap 4096 (state_bits m) (omega arith))
+    ap (λ s. fault_by s (nat_lt MOST_COST cost || nat_lt MOST_BITS bits)) is_first
+    ∙ ap (λ b. fault_by (told_first_site (first_of (breaches m))) (b || nat_lt MOST_BITS bits)) (ap (nat_lt MOST_COST) is_cost ∙ below_cap MOST_COST (model_cost m) (omega arith))
+    ∙ ap (λ b. fault_by (told_first_site (first_of (breaches m))) (nat_lt MOST_COST (model_cost m) || b)) (ap (nat_lt MOST_BITS) is_bits ∙ below_cap MOST_BITS (state_bits m) (omega arith))
     ∙ fault_told m
 
 pub fault_is : (m : FlatModel) (f : TypeFault) → told_fault (first_fault m) ≡ Some f → IsFaultOf m f
@@ -40,8 +41,8 @@ typed_is m e = by (first_fault m) refl e
     by (Some p) g h = cc
 
 -- the sizes of a typed model are within the limits
-pub small_cost : (m : FlatModel) (cost : ℕ) → IsTyped m → cost ≡ min (model_cost m) 50001 → cost ≡ model_cost m
-small_cost m cost typed e = omega (arith, e, ltb-false _ _ (neither (nat_lt 50000 (model_cost m)) (nat_lt 4096 (state_bits m)) typed.small).0)
+pub small_cost : (m : FlatModel) (cost : ℕ) → IsTyped m → cost ≡ min (model_cost m) (MOST_COST + 1) → cost ≡ model_cost m
+small_cost m cost typed e = omega (arith, e, ltb-false _ _ (neither (nat_lt MOST_COST (model_cost m)) (nat_lt MOST_BITS (state_bits m)) typed.small).0)
 
-pub small_bits : (m : FlatModel) (bits : ℕ) → IsTyped m → bits ≡ min (state_bits m) 50001 → bits ≡ state_bits m
-small_bits m bits typed e = omega (arith, e, ltb-false _ _ (neither (nat_lt 50000 (model_cost m)) (nat_lt 4096 (state_bits m)) typed.small).1)
+pub small_bits : (m : FlatModel) (bits : ℕ) → IsTyped m → bits ≡ min (state_bits m) (MOST_COST + 1) → bits ≡ state_bits m
+small_bits m bits typed e = omega (arith, e, ltb-false _ _ (neither (nat_lt MOST_COST (model_cost m)) (nat_lt MOST_BITS (state_bits m)) typed.small).1)

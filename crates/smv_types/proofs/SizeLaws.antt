@@ -4,6 +4,7 @@ use Rattle.std.proofs.lemmas.Bool.{ltb-true, ltb-false}
 use Rattle.std.specs.Prelude.{map, sum_by}
 use Rattle.std.proofs.lemmas.List.{drop_more}
 use Rattle.std.proofs.lemmas.List.Sums.{sum_by-cons}
+use Rattle.base_values.specs.declared.limits.TheConstants.{MOST_COST}
 use Rattle.smv_language.specs.ProgramTree.{Text}
 use Rattle.smv_language.specs.ExpressionTree.{tree_of}
 use Rattle.smv_language.specs.Flat.{FlatFormula, FlatVariable}
@@ -43,10 +44,10 @@ whole_cost m =
     omega (arith, variables_same m.variables, formulas_same m.definitions, formulas_same m.init, formulas_same m.invar, formulas_same m.trans)
 
 -- a number above the limit of costs counts as one more than it
-pub below_cap : (limit n : ℕ) → limit ≤ 50000 → nat_lt limit (min n 50001) ≡ nat_lt limit n
-below_cap limit n h = by (nat_lt limit (min n 50001)) (nat_lt limit n) refl refl
+pub below_cap : (limit n : ℕ) → limit ≤ MOST_COST → nat_lt limit (min n (MOST_COST + 1)) ≡ nat_lt limit n
+below_cap limit n h = by (nat_lt limit (min n (MOST_COST + 1))) (nat_lt limit n) refl refl
   where
-    by : (a b : Bool) → nat_lt limit (min n 50001) ≡ a → nat_lt limit n ≡ b → a ≡ b
+    by : (a b : Bool) → nat_lt limit (min n (MOST_COST + 1)) ≡ a → nat_lt limit n ≡ b → a ≡ b
     by true true e f = refl
     by false false e f = refl
     by true false e f = absurd (omega (arith, ltb-true _ _ e, ltb-false _ _ f))

@@ -1,5 +1,6 @@
 -- What is answered for an expression of a typed model.
-use Rattle.std.specs.Prelude.{pos, neg_ℤ, Bool, true, false, Option, Some, None, Result, Ok, Err, List}
+use Rattle.std.specs.Prelude.{Bool, true, false, Option, Some, None, Result, Ok, Err, List}
+use Rattle.base_values.specs.declared.limits.TheConstants.{LEAST_NUMBER, GREATEST_NUMBER}
 use Rattle.smv_language.specs.Tree.{Tree}
 use Rattle.smv_language.specs.Values.{Value}
 use Rattle.smv_language.specs.Flat.{FlatLeaf, FlatModel}
@@ -22,7 +23,7 @@ abbrev pub sort_kind : Sort → Kind
 sort_kind s =
     elim s.class [
       | Truth ↦ ABool
-      | Number ↦ elim s.interval [ Some i ↦ Num i.lo i.hi | None ↦ Num (neg_ℤ (pos 2147483648)) (pos 2147483647) ]
+      | Number ↦ elim s.interval [ Some i ↦ Num i.lo i.hi | None ↦ Num LEAST_NUMBER GREATEST_NUMBER ]
       | Symbol ↦ Sym
     ]
 

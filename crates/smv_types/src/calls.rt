@@ -6,11 +6,12 @@ ghost use Rattle.smv_type_laws.specs.Models.{judged_in, broken_condition, value_
 ghost use Rattle.smv_types.specs.Answers.{told};
 ghost use Rattle.smv_types.specs.Calls.{sort_kind, shown, value_answer, top_answer, value_by, top_by, LiesInKind};
 
-use crate::cost::{COST_LIMIT, cost};
+use crate::cost::cost;
 use crate::fault::{TypeFault, TypeRule};
 use crate::judge::judge;
 use crate::sort::{Class, JudgedExpr, Sort, broken_condition};
 use crate::typed::Typed;
+use base_values::limits::{GREATEST_NUMBER, LEAST_NUMBER, MOST_TOP_COST};
 use smv_language::Expr;
 use smv_language::model::Flat;
 
@@ -47,7 +48,7 @@ pub fn check_value(t: &Typed, e: &Expr<Flat>) -> Result<Kind, TypeFault>
 }
 
 /// Whether an expression may be a top event; else the first rule that it breaks, with item 0. It must be a
-/// truth value, and its cost at most 50,000, which is tried last. Takes no memory.
+/// truth value, and its cost at most `MOST_TOP_COST`, which is tried last. Takes no memory.
 ///
 /// An expression that is not refused is a condition that breaks no rule.
 pub fn check_top(t: &Typed, e: &Expr<Flat>) -> Result<(), TypeFault>
@@ -56,7 +57,7 @@ pub fn check_top(t: &Typed, e: &Expr<Flat>) -> Result<(), TypeFault>
     ensures lies { OnOk result (LiesInKind (model_tree t.now.model) (flat_tree e.now)) }
 {
     let judged = judge_in(t, false, e);
-    top_told(broken_condition(judged), cost(e) > COST_LIMIT)
+    top_told(broken_condition(judged), cost(e) > MOST_TOP_COST)
 }
 
 /// An expression over a typed model.
@@ -98,6 +99,6 @@ fn known_kind(sort: Sort) -> Kind
         (Class::Truth, _) => Kind::Bool,
         (Class::Symbol, _) => Kind::Sym,
         (Class::Number, Some(found)) => Kind::Num(found.lo(), found.hi()),
-        (Class::Number, None) => Kind::Num(i32::MIN as i64, i32::MAX as i64),
+        (Class::Number, None) => Kind::Num(LEAST_NUMBER, GREATEST_NUMBER),
     }
 }

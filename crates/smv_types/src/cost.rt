@@ -7,18 +7,16 @@ ghost use Rattle.smv_language.specs.ModelTree.{model_tree};
 ghost use Rattle.smv_type_laws.specs.Costs.{op_cost, cost_of, trees_cost, branches_cost, declared_cost, model_cost};
 ghost use Rattle.smv_types.specs.Sizes.{formulas_cost, variables_cost};
 
+use base_values::limits::MOST_COST;
 use smv_language::model::{Flat, FlatModel, Formula, Variable};
 use smv_language::{Declared, Expr, Op};
 
-/// The greatest cost of a model, and of a top event.
-pub(crate) const COST_LIMIT: u64 = 50_000;
-
 /// One more than the limit stands for every greater cost.
-const PAST_LIMIT: u64 = COST_LIMIT + 1;
+const PAST_LIMIT: u64 = MOST_COST + 1;
 
 /// Both costs together.
 pub(crate) fn both(a: u64, b: u64) -> u64
-    ensures { result ≡ min (a + b) 50001 }
+    ensures { result ≡ min (a + b) (MOST_COST + 1) }
 {
     (a.min(PAST_LIMIT) + b.min(PAST_LIMIT)).min(PAST_LIMIT)
 }
@@ -28,7 +26,7 @@ pub(crate) fn both(a: u64, b: u64) -> u64
 #[cycle(cost)]
 #[tactic(auto, using(smv_language::proofs::WrittenLaws::tree_of_case, smv_language::proofs::WrittenLaws::tree_of_set))]
 pub(crate) fn cost(e: &Expr<Flat>) -> u64
-    ensures { result ≡ min (cost_of (tree_of e.now)) 50001 }
+    ensures { result ≡ min (cost_of (tree_of e.now)) (MOST_COST + 1) }
 {
     match e {
         Expr::Truth(_) | Expr::Number(_) | Expr::Leaf(_) | Expr::Span(_, _) => 1,
@@ -44,7 +42,7 @@ pub(crate) fn cost(e: &Expr<Flat>) -> u64
 #[cycle(cost)]
 #[tactic(auto, using(crate::proofs::TreeLaws::trees_cost_more))]
 fn members_cost(members: &[Expr<Flat>]) -> u64
-    ensures { result ≡ min (trees_cost (trees_of members.now)) 50001 }
+    ensures { result ≡ min (trees_cost (trees_of members.now)) (MOST_COST + 1) }
 {
     let mut total = 0;
     for member in members {
@@ -57,7 +55,7 @@ fn members_cost(members: &[Expr<Flat>]) -> u64
 #[cycle(cost)]
 #[tactic(auto, using(crate::proofs::TreeLaws::branches_cost_more))]
 fn parts_cost(branches: &[(Expr<Flat>, Expr<Flat>)]) -> u64
-    ensures { result ≡ min (branches_cost (branches_of branches.now)) 50001 }
+    ensures { result ≡ min (branches_cost (branches_of branches.now)) (MOST_COST + 1) }
 {
     let mut total = 0;
     for (condition, value) in branches {
@@ -80,7 +78,7 @@ fn weight(op: Op) -> u64
 /// stands for every greater one.
 #[tactic(auto, using(crate::proofs::SizeLaws::whole_cost))]
 pub(crate) fn model_cost(m: &FlatModel) -> u64
-    ensures { result ≡ min (model_cost (model_tree m.now)) 50001 }
+    ensures { result ≡ min (model_cost (model_tree m.now)) (MOST_COST + 1) }
 {
     let conditions = both(
         formulas_cost(m.init.as_slice()),
@@ -98,7 +96,7 @@ pub(crate) fn model_cost(m: &FlatModel) -> u64
 /// The cost of some formulas.
 #[tactic(auto, using(crate::proofs::SizeLaws::formulas_cost_more))]
 fn formulas_cost(formulas: &[Formula]) -> u64
-    ensures { result ≡ min (formulas_cost formulas.now) 50001 }
+    ensures { result ≡ min (formulas_cost formulas.now) (MOST_COST + 1) }
 {
     let mut total = 0;
     for formula in formulas {
@@ -110,7 +108,7 @@ fn formulas_cost(formulas: &[Formula]) -> u64
 /// The cost of the declared types of variables.
 #[tactic(auto, using(crate::proofs::SizeLaws::variables_cost_more))]
 fn variables_cost(variables: &[Variable]) -> u64
-    ensures { result ≡ min (variables_cost variables.now) 50001 }
+    ensures { result ≡ min (variables_cost variables.now) (MOST_COST + 1) }
 {
     let mut total = 0;
     for variable in variables {

@@ -7,13 +7,8 @@ ghost use Rattle.smv_type_laws.specs.Intervals.{just, hull, sum_of, difference_o
 ghost use Rattle.smv_type_laws.specs.Intervals.{most_left, has_zero, fits_number};
 ghost use Rattle.smv_types.specs.NumberAnswers.{fitting, IsSmall};
 
+use base_values::limits::{GREATEST_NUMBER, LEAST_NUMBER};
 use std::marker::Model;
-
-/// The least number within 32 bits.
-const LEAST: i64 = -2147483648;
-
-/// The greatest number within 32 bits.
-const GREATEST: i64 = 2147483647;
 
 /// The numbers from `lo` to `hi`, both included, which stand in this order and within 32 bits.
 #[derive(Clone, Copy)]
@@ -23,14 +18,15 @@ pub struct Interval {
 }
 
 impl Model for Interval {
-    ghost use Rattle.std.specs.Prelude.{◌≤ℤ◌, pos, neg_ℤ};
+    ghost use Rattle.std.specs.Prelude.{◌≤ℤ◌};
+    ghost use Rattle.base_values.specs.declared.limits.TheConstants.{LEAST_NUMBER, GREATEST_NUMBER};
     ghost use Rattle.smv_type_laws.specs.Intervals.{Interval as AnInterval};
 
     ghost Value = { AnInterval };
 
     ghost view = { λ i. record { lo = i.lo; hi = i.hi } };
 
-    ghost invariant = { λ i. (neg_ℤ (pos 2147483648) ≤ℤ i.lo) × (i.lo ≤ℤ i.hi) × (i.hi ≤ℤ pos 2147483647) };
+    ghost invariant = { λ i. (LEAST_NUMBER ≤ℤ i.lo) × (i.lo ≤ℤ i.hi) × (i.hi ≤ℤ GREATEST_NUMBER) };
 
     ghost inverse = { λ i. record { lo = i.lo; hi = i.hi } };
 }
@@ -39,7 +35,7 @@ impl Model for Interval {
 pub(crate) fn is_small(n: i64) -> bool
     ensures { result ≡ fits_number n }
 {
-    LEAST <= n && n <= GREATEST
+    LEAST_NUMBER <= n && n <= GREATEST_NUMBER
 }
 
 /// The interval of two ends, or None where one of them passes 32 bits.
@@ -98,7 +94,7 @@ fn quotient(a: i64, b: i64) -> i64
 
 /// The least remainder of numbers from `lo` on, where no remainder is of a greater size than `most`.
 fn remainder_lo(lo: i64, most: i64) -> i64
-    requires { (pos 0 ≤ℤ most) × (most ≤ℤ pos 2147483647) }
+    requires { (pos 0 ≤ℤ most) × (most ≤ℤ GREATEST_NUMBER) }
     ensures value { result ≡ (if int_lt lo (pos 0) then int_max lo (neg_ℤ most) else pos 0) }
     ensures bound { result ≤ℤ pos 0 }
 {
@@ -209,7 +205,7 @@ impl Interval {
         requires { has_zero self ≡ false }
         ensures value { result ≡ most_left self }
         ensures least { pos 0 ≤ℤ result }
-        ensures most { result ≤ℤ pos 2147483647 }
+        ensures most { result ≤ℤ GREATEST_NUMBER }
     {
         self.lo.abs().max(self.hi.abs()) - 1
     }

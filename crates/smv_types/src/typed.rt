@@ -1,6 +1,7 @@
 //! Models that break no rule. [`check_model`] is the main function: a [`Typed`] model, or the first rule that is broken.
 //! The fields of a typed model are private and their ghost fields say what holds of it, so whoever has one knows that.
 ghost use Rattle.std.specs.Prelude.{◌≡◌, ◌<◌, ◌≤◌, map, length, slice_get, Some, IfOk, IfErr};
+ghost use Rattle.base_values.specs.declared.limits.TheConstants.{MOST_BITS, MOST_COST};
 ghost use Rattle.smv_language.specs.ModelTree.{model_tree, leaf_of};
 ghost use Rattle.smv_type_laws.specs.Costs.{model_cost, state_bits};
 ghost use Rattle.smv_type_laws.specs.Models.{IsTyped, kind_of_leaf};
@@ -89,13 +90,13 @@ impl Typed {
 /// The model with the domains of its variables and its sizes, or the first rule that it breaks.
 ///
 /// Rules are told by instances, then items, then numbers; last and with item 0 that the model passes a
-/// limit: 50,000 of cost, or 4,096 state bits.
+/// limit: `MOST_COST`, or `MOST_BITS`.
 pub fn check_model(alloc: Global, m: FlatModel) -> Result<Typed, TypeFault>
     ensures model { IfOk result (λ t. t.model ≡ m) }
     ensures typed { IfOk result (λ t. IsTyped (model_tree m)) }
     ensures cost { IfOk result (λ t. t.cost ≡ model_cost (model_tree m)) }
     ensures bits { IfOk result (λ t. t.bits ≡ state_bits (model_tree m)) }
-    ensures limits { IfOk result (λ t. (t.cost ≤ 50000) × (t.bits ≤ 4096)) }
+    ensures limits { IfOk result (λ t. (t.cost ≤ MOST_COST) × (t.bits ≤ MOST_BITS)) }
     ensures fault { IfErr result (λ fault. IsToldOf (model_tree m) fault) }
 {
     let found = find_all(alloc, &m)?;

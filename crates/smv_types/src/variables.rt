@@ -1,6 +1,7 @@
 //! The variables of a model: their domains, what is known of their values, their state bits, and the first rule that a
 //! declaration breaks ([`declare_all`]).
 ghost use Rattle.std.specs.Prelude.{◌≡◌, ◌+◌, [], ◌∷◌, ◌++◌, min, map, IfOk};
+ghost use Rattle.base_values.specs.declared.limits.TheConstants.{MOST_COST};
 ghost use Rattle.smv_language.specs.ProgramTree.{declared_tree};
 ghost use Rattle.smv_language.specs.ModelTree.{model_tree, variable_tree};
 ghost use Rattle.smv_type_laws.specs.DeclaredKinds.{judged_declared};
@@ -37,7 +38,7 @@ pub(crate) fn declare_all(alloc: Global, m: &FlatModel) -> Result<Declarations, 
     ensures domains { IfOk result (λ d. d.domains.items ≡ map (variable_domain m.now.symbols) m.now.variables) }
     ensures kinds { IfOk result (λ d. d.sorts.items ≡ kept_sorts (judged_variables (model_tree m.now).variables)) }
     ensures first { IfOk result (λ d. d.first ≡ told_first_site (first_of (variable_breaches (model_tree m.now).variables))) }
-    ensures bits { IfOk result (λ d. d.bits ≡ min (variables_bits m.now.symbols m.now.variables) 50001) }
+    ensures bits { IfOk result (λ d. d.bits ≡ min (variables_bits m.now.symbols m.now.variables) (MOST_COST + 1)) }
 {
     let numbers = TextNumbers::of(alloc, m.symbols.as_slice())?;
     declare_each(alloc, &numbers, m.variables.as_slice())
@@ -52,7 +53,7 @@ fn declare_each(
     ensures domains { IfOk result (λ d. d.domains.items ≡ map (variable_domain numbers.now.texts.now) variables.now) }
     ensures kinds { IfOk result (λ d. d.sorts.items ≡ kept_sorts (judged_variables (map variable_tree variables.now))) }
     ensures first { IfOk result (λ d. d.first ≡ told_first_site (first_of (variable_breaches (map variable_tree variables.now)))) }
-    ensures bits { IfOk result (λ d. d.bits ≡ min (variables_bits numbers.now.texts.now variables.now) 50001) }
+    ensures bits { IfOk result (λ d. d.bits ≡ min (variables_bits numbers.now.texts.now variables.now) (MOST_COST + 1)) }
 {
     let mut all = Declarations {
         domains: Vec::new(alloc),
@@ -78,7 +79,7 @@ fn add_variable(
         ≡ before.sorts.items ++ kept_sort (judged_declared (declared_tree variable.now.declared)) ∷ []) }
     ensures first { IfOk result (λ d. d.first ≡ earlier_site before.first
         (site_at variable.now.«instance» variable.now.item (told_rules (judged_declared (declared_tree variable.now.declared)).broken))) }
-    ensures bits { IfOk result (λ d. d.bits ≡ min (before.bits + variable_bits numbers.now.texts.now variable.now) 50001) }
+    ensures bits { IfOk result (λ d. d.bits ≡ min (before.bits + variable_bits numbers.now.texts.now variable.now) (MOST_COST + 1)) }
 {
     let Declarations {
         mut domains,

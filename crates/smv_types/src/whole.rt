@@ -1,6 +1,6 @@
 //! All that is known of a model ([`find_all`]), and the first rule that it breaks ([`fault_of`]): the earliest of its
 //! variables, definitions and formulas, and the limits of size last.
-ghost use Rattle.std.specs.Prelude.{◌≡◌, ◌||◌, min, nat_lt, map, IfOk};
+ghost use Rattle.std.specs.Prelude.{◌≡◌, ◌+◌, ◌||◌, min, nat_lt, map, IfOk};
 ghost use Rattle.smv_language.specs.ModelTree.{model_tree};
 ghost use Rattle.smv_type_laws.specs.Costs.{state_bits};
 ghost use Rattle.smv_type_laws.specs.FirstBreach.{first_of};
@@ -10,18 +10,15 @@ ghost use Rattle.smv_types.specs.Sites.{told_first_site, fault_by};
 ghost use Rattle.smv_types.specs.Types.{variable_domain};
 
 use crate::conditions::judge_conditions;
-use crate::cost::COST_LIMIT;
 use crate::definitions::{JudgedDefinitions, judge_definitions};
 use crate::fault::{TypeFault, TypeRule};
 use crate::judge::Sorts;
 use crate::site::{Site, earlier};
 use crate::variables::{Declarations, declare_all};
+use base_values::limits::{MOST_BITS, MOST_COST};
 use base_values::{Domain, OutOfMemory};
 use smv_language::model::FlatModel;
 use std::alloc::Global;
-
-/// The most state bits of a model.
-const BITS_LIMIT: u64 = 4096;
 
 /// The domains of a model's variables, what is known of the values of variables and definitions, the first
 /// rule that an item breaks, and the state bits, where one more than the limit of costs stands for every
@@ -39,7 +36,7 @@ pub(crate) fn find_all(alloc: Global, m: &FlatModel) -> Result<ModelFindings, Ou
     ensures domains { IfOk result (λ f. f.domains.items ≡ map (variable_domain m.now.symbols) m.now.variables) }
     ensures kinds { IfOk result (λ f. AreKindsOf (model_tree m.now) f.sorts) }
     ensures first { IfOk result (λ f. f.first ≡ told_first_site (first_of (breaches (model_tree m.now)))) }
-    ensures bits { IfOk result (λ f. f.bits ≡ min (state_bits (model_tree m.now)) 50001) }
+    ensures bits { IfOk result (λ f. f.bits ≡ min (state_bits (model_tree m.now)) (MOST_COST + 1)) }
 {
     let Declarations {
         domains,
@@ -78,14 +75,14 @@ fn first_in_all(
 
 /// The fault of a model with this first breach and these sizes.
 pub(crate) fn fault_of(first: Option<Site>, cost: u64, bits: u64) -> Option<TypeFault>
-    ensures { result ≡ fault_by first (nat_lt 50000 cost || nat_lt 4096 bits) }
+    ensures { result ≡ fault_by first (nat_lt MOST_COST cost || nat_lt MOST_BITS bits) }
 {
     match first {
         Some(site) => Some(TypeFault {
             rule: site.rule,
             item: site.item,
         }),
-        None if cost > COST_LIMIT || bits > BITS_LIMIT => Some(TypeFault {
+        None if cost > MOST_COST || bits > MOST_BITS => Some(TypeFault {
             rule: TypeRule::TooLarge,
             item: 0,
         }),

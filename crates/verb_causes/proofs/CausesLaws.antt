@@ -1,6 +1,7 @@
 -- From the parts of the work on common causes to what it comes to.
 use Rattle.std.proofs.Common.{◌≡◌, inr, ℕ, List, Option, Some, None, Result, OnOk, OnErr, IfSome, length, ◌++◌, refl, sym, subst, ap, ◌∙◌}
 use Rattle.std.specs.Prelude.{codes}
+use Rattle.base_values.specs.declared.limits.TheConstants.{MOST_FILE_BYTES}
 use Rattle.base_files.specs.declared.files.NamedFile.{NamedFile}
 use Rattle.base_files.specs.Desk.{said_more, SaysPrefix}
 use Rattle.smv_language.specs.Tree.{Tree}
@@ -105,13 +106,13 @@ module _ (faults : List Fault) (w : ProgramTree) (m : FlatModel) (fs : List Mode
   file_refused None name r bad = tt
   file_refused (Some files) name r bad = causes_file bad.0 bad.1 bad.2
 
-  pub bytes_refused : (told : Option (List NamedFile)) (name : Text) (bytes : List ℕ) (r : Refusal) → IfSome told (λ files. HasAtMost 1048576 files name bytes) → RefusesBytes faults w m fs bytes r →
+  pub bytes_refused : (told : Option (List NamedFile)) (name : Text) (bytes : List ℕ) (r : Refusal) → IfSome told (λ files. HasAtMost MOST_FILE_BYTES files name bytes) → RefusesBytes faults w m fs bytes r →
       IfSome told (λ files. RefusesCauses files name faults w m fs r)
   bytes_refused None name bytes r has bad = tt
   bytes_refused (Some files) name bytes r has bad = causes_bytes bytes has bad
 
 -- the file holds causes that were read
-pub holds_causes : (told : Option (List NamedFile)) (name : Text) (case : LoadedCase) (causes : List CommonCause) (bytes : List ℕ) → IfSome told (λ files. HasAtMost 1048576 files name bytes) →
+pub holds_causes : (told : Option (List NamedFile)) (name : Text) (case : LoadedCase) (causes : List CommonCause) (bytes : List ℕ) → IfSome told (λ files. HasAtMost MOST_FILE_BYTES files name bytes) →
     AreCausesOf case bytes causes → IfSome told (λ files. HoldsCauses files name (faults_in case) (extension_in case) causes)
 holds_causes None name case causes bytes has are = tt
 holds_causes (Some files) name case causes bytes has are = record { bytes = bytes; has = has; are = are }

@@ -1,5 +1,6 @@
 -- What is refused of causes is refused for one reason, and nothing is where they were searched or judged.
 use Rattle.std.proofs.Common.{◌≡◌, inl, inr, ℕ, List, refl, sym, ap, subst, ◌∙◌}
+use Rattle.base_values.specs.declared.limits.TheConstants.{MOST_FILE_BYTES}
 use Rattle.base_files.specs.declared.files.NamedFile.{NamedFile}
 use Rattle.smv_language.specs.Tree.{Tree}
 use Rattle.smv_language.specs.ProgramTree.{Text, Formula, ProgramTree}
@@ -92,7 +93,7 @@ module _ (faults : List Fault) (w : ProgramTree) (m : FlatModel) (fs : List Mode
 
 module _ (files : List NamedFile) (name : Text) where
   -- it is refused as other files are
-  as_above : (told : InputFault) → IsRefusedCausesFile files name told → (fault : InputFault) × (told ≡ fault) × IsRefusedAbove 1048576 files name fault
+  as_above : (told : InputFault) → IsRefusedCausesFile files name told → (fault : InputFault) × (told ≡ fault) × IsRefusedAbove MOST_FILE_BYTES files name fault
   as_above told (inl h) = (_, h.0, inl (refl, h.1))
   as_above told (inr h) = (_, h.0, inr (refl, h.1))
 
@@ -100,10 +101,10 @@ module _ (files : List NamedFile) (name : Text) where
   one_file_fault a b h g =
       let x = as_above a h in
       let y = as_above b g in
-      x.1 ∙ (one_fault_above 1048576 files name x.0 y.0 x.2 y.2) ∙ sym y.1
+      x.1 ∙ (one_fault_above MOST_FILE_BYTES files name x.0 y.0 x.2 y.2) ∙ sym y.1
 
-  refused_has_none : (a : InputFault) (bytes : List ℕ) → IsRefusedCausesFile files name a → HasAtMost 1048576 files name bytes → ⊥
-  refused_has_none a bytes h has = let x = as_above a h in no_bytes_within 1048576 files name x.0 bytes x.2 has
+  refused_has_none : (a : InputFault) (bytes : List ℕ) → IsRefusedCausesFile files name a → HasAtMost MOST_FILE_BYTES files name bytes → ⊥
+  refused_has_none a bytes h has = let x = as_above a h in no_bytes_within MOST_FILE_BYTES files name x.0 bytes x.2 has
 
   module _ (faults : List Fault) (w : ProgramTree) (m : FlatModel) (fs : List Mode) where
     one_refused_causes : (r s : Refusal) → RefusesCauses files name faults w m fs r → RefusesCauses files name faults w m fs s → r ≡ s
@@ -111,18 +112,18 @@ module _ (files : List NamedFile) (name : Text) where
     one_refused_causes r s (causes_file a is bad) (causes_bytes bytes has wrong) = absurd (refused_has_none a bytes bad has)
     one_refused_causes r s (causes_bytes bytes has wrong) (causes_file b was bad) = absurd (refused_has_none b bytes bad has)
     one_refused_causes r s (causes_bytes bytes has wrong) (causes_bytes others holds also) =
-        let there : RefusesBytes faults w m fs bytes s = subst (λ t. RefusesBytes faults w m fs t s) (same_bytes_within 1048576 files name others bytes holds has) also in
+        let there : RefusesBytes faults w m fs bytes s = subst (λ t. RefusesBytes faults w m fs t s) (same_bytes_within MOST_FILE_BYTES files name others bytes holds has) also in
         wrong.1 ∙ ap (λ f. refusal.Causes f) (one_wrong faults w m fs bytes wrong.0 there.0 wrong.2 there.2) ∙ sym there.1
 
     held_causes_not_refused : (cs : List CommonCause) (r : Refusal) → HoldsCauses files name faults w cs → KeepsLimits m fs cs → RefusesCauses files name faults w m fs r → ⊥
     held_causes_not_refused cs r h kept (causes_file a is bad) = refused_has_none a h.bytes bad h.has
     held_causes_not_refused cs r h kept (causes_bytes bytes has wrong) =
-        let there : RefusesBytes faults w m fs h.bytes r = subst (λ t. RefusesBytes faults w m fs t r) (same_bytes_within 1048576 files name bytes h.bytes has h.has) wrong in
+        let there : RefusesBytes faults w m fs h.bytes r = subst (λ t. RefusesBytes faults w m fs t r) (same_bytes_within MOST_FILE_BYTES files name bytes h.bytes has h.has) wrong in
         read_not_wrong faults w m fs h.bytes cs there.0 h.are kept there.2
 
   one_held_causes : (faults : List Fault) (w : ProgramTree) (cs ds : List CommonCause) → HoldsCauses files name faults w cs → HoldsCauses files name faults w ds → ds ≡ cs
   one_held_causes faults w cs ds h g =
-      one_reading faults w h.bytes ds cs (subst (λ t. AreRead faults w t ds) (same_bytes_within 1048576 files name g.bytes h.bytes g.has h.has) g.are) h.are
+      one_reading faults w h.bytes ds cs (subst (λ t. AreRead faults w t ds) (same_bytes_within MOST_FILE_BYTES files name g.bytes h.bytes g.has h.has) g.are) h.are
 
 -- ---- the model, the instructions, the causes and the top event
 

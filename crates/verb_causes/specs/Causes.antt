@@ -1,5 +1,6 @@
 -- What common causes come to: a case with causes in memory, and what its search and its certificates are about.
 use Rattle.std.specs.Prelude.{◌≡◌, ◌⊎◌, ◌++◌, ℕ, List, [], ◌∷◌, IfSome, codes, map, length}
+use Rattle.base_values.specs.declared.limits.TheConstants.{MOST_FILE_BYTES}
 use Rattle.base_files.specs.declared.files.NamedFile.{NamedFile}
 use Rattle.base_files.specs.Desk.{said_more, SaysPrefix}
 use Rattle.smv_language.specs.Tree.{Tree}
@@ -89,7 +90,7 @@ AreCausesOf case bytes causes = AreRead (faults_in case) (extension_in case) byt
 pub record HoldsCauses (files : List NamedFile) (name : Text) (faults : List Fault) (w : ProgramTree) (causes : List CommonCause) : Type 0
   where
     pub bytes : List ℕ
-    pub has : HasAtMost 1048576 files name bytes
+    pub has : HasAtMost MOST_FILE_BYTES files name bytes
     pub are : AreRead faults w bytes causes
 
 -- the file has causes of the case

@@ -1,5 +1,6 @@
 -- What is refused where causes are searched or checked, in the order of the work.
 use Rattle.std.specs.Prelude.{◌≡◌, ◌⊎◌, ◌<◌, ℕ, List, None, length}
+use Rattle.base_values.specs.declared.limits.TheConstants.{MOST_FILE_BYTES}
 use Rattle.base_files.specs.declared.files.NamedFile.{NamedFile}
 use Rattle.base_files.specs.Files.{file_of, content_of}
 use Rattle.smv_language.specs.Tree.{Tree}
@@ -63,10 +64,10 @@ stop_of_causes (cause_fault.Parse fault) = stop_at_causes (parse_wrong fault)
 stop_of_causes (cause_fault.Broken rule number) = stop.Refused (refusal.Causes (broken_cause (rule_of rule) number))
 stop_of_causes cause_fault.OutOfMemory = stop.Memory
 
--- the file of causes is not there, or has more than 1,048,576 bytes
+-- the file of causes is not there, or has more bytes than `MOST_FILE_BYTES`
 abbrev pub IsRefusedCausesFile : List NamedFile → Text → InputFault → Type 0
 IsRefusedCausesFile files name told =
-    ((told ≡ absent) × (file_of files name ≡ None)) ⊎ ((told ≡ too_long) × (1048576 < length (content_of files name)))
+    ((told ≡ absent) × (file_of files name ≡ None)) ⊎ ((told ≡ too_long) × (MOST_FILE_BYTES < length (content_of files name)))
 
 -- the staged model passes no limit, with the history of its events and without
 pub record KeepsLimits (m : FlatModel) (fs : List Mode) (cs : List CommonCause) : Type 0 where
@@ -102,7 +103,7 @@ pub data RefusesCauses (files : List NamedFile) (name : Text) (faults : List Fau
     (r : Refusal) : Type 0 where
   causes_file : (told : InputFault) → r ≡ refusal.Causes told → IsRefusedCausesFile files name told →
       RefusesCauses files name faults w m fs r
-  causes_bytes : (bytes : List ℕ) → HasAtMost 1048576 files name bytes → RefusesBytes faults w m fs bytes r →
+  causes_bytes : (bytes : List ℕ) → HasAtMost MOST_FILE_BYTES files name bytes → RefusesBytes faults w m fs bytes r →
       RefusesCauses files name faults w m fs r
 
 -- The model is refused; or it holds, and the instructions are; or these hold too, and the causes are; or the causes hold and their

@@ -2,6 +2,7 @@
 //!
 //! The main functions are [`find_causes`] and [`check_causes`], one for each verb. What both load stands in `staged`.
 ghost use Rattle.std.specs.Prelude.{◌≡◌, ◌<◌, ◌≤◌, ◌^◌, length, IfOk, IsOk, OnOk, IfSome, IsErrOf};
+ghost use Rattle.base_values.specs.declared.limits.TheConstants.{GREATEST_DEPTH};
 ghost use Rattle.base_files.specs.Desk.{OnlyReads, OnlySays, IsLater, Rose};
 ghost use Rattle.smv_language.specs.ModelTree.{flat_tree};
 ghost use Rattle.cert_text.specs.CertificateView.{seen};
@@ -17,6 +18,7 @@ ghost use Rattle.verb_causes.specs.Refusals.{RefusesStaged, BreaksLine, RefusesJ
 
 use crate::staged::{StagedEvent, discard, load_staged};
 use base_files::{Desk, say_whole};
+use base_values::limits::MOST_SYMBOLS;
 use base_values::{ByteList, OutOfMemory};
 use cert_check::{Judged, check};
 use cert_file::certificate::{accepted_report, line_stop, load_certificate};
@@ -30,9 +32,6 @@ use verb_command_line::{CheckCauses, FindCauses};
 use verb_loading::input::Stop;
 use verb_loading::status::{Status, ended_as};
 
-/// A search gives each symbol a number below this. That a model of three files within their limits has fewer is not proved.
-const MOST_SYMBOLS: usize = 2_147_483_648;
-
 /// Searches for the minimal cut sets of faults and common causes, writes a certificate of a complete answer, and says the
 /// report.
 pub fn find_causes<D: Desk>(
@@ -41,7 +40,7 @@ pub fn find_causes<D: Desk>(
     asked: &FindCauses,
     panel: &mut Panel,
 ) -> Result<Status, Stop>
-    requires { asked.now.depth ≤ 1000000000 }
+    requires { asked.now.depth ≤ GREATEST_DEPTH }
     ensures ok { IfOk result (λ s. IfSome (D.told desk.old).files (λ files.
         HasFoundCauses files asked.now.model.now asked.now.faults.now asked.now.causes.now asked.now.top.now
         asked.now.cert.now asked.now.depth s

@@ -23,6 +23,7 @@ ghost use Rattle.verb_causes.specs.Refusals.{cause_number, stop_of_causes, IsRef
 ghost use Rattle.verb_causes.specs.Refusals.{RefusesStaged};
 
 use base_files::{Desk, DeskFault, read_whole};
+use base_values::limits::MOST_FILE_BYTES;
 use fault_causes_reader::{CauseFault, CauseRule, read_causes};
 use fault_staging::{CauseList, with_causes};
 use smv_flat::with_history;
@@ -37,9 +38,6 @@ use verb_loading::model::{LoadedModel, load_model};
 use verb_loading::status::{InputFault, Part, Refusal};
 use verb_loading::top::load_top;
 use verb_loading::wrong::Wrong;
-
-/// The limit of a causes file, in bytes.
-const LIMIT: u64 = 1_048_576;
 
 /// An extension with common causes, and a top event over it.
 #[derive(Drop)]
@@ -176,18 +174,18 @@ fn load_causes<D: Desk>(
 
 /// The bytes of a causes file.
 fn read_causes_file<D: Desk>(alloc: Global, desk: &mut D, name: &str) -> Result<Vec<u8>, Stop>
-    ensures bytes { IfOk result (λ bytes. IfSome (D.told desk.old).files (λ files. HasAtMost 1048576 files name.now bytes.items)) }
-    ensures short { IfOk result (λ bytes. length bytes.items ≤ 1048576) }
+    ensures bytes { IfOk result (λ bytes. IfSome (D.told desk.old).files (λ files. HasAtMost MOST_FILE_BYTES files name.now bytes.items)) }
+    ensures short { IfOk result (λ bytes. length bytes.items ≤ MOST_FILE_BYTES) }
     ensures refused { (r : Refusal) → IsErrOf result (stop.Refused r) →
         (told : InputFault) × (r ≡ refusal.Causes told)
         × IfSome (D.told desk.old).files (λ files. IsRefusedCausesFile files name.now told) }
     ensures failed { IsErrOf result stop.Desk → Rose (D.told desk.old).faults (D.told desk.new).faults }
     ensures stays { OnlyReads (D.told desk.old) (D.told desk.new) }
 {
-    match read_whole(alloc, desk, name, LIMIT) {
+    match read_whole(alloc, desk, name, MOST_FILE_BYTES) {
         Ok(bytes) => Ok(bytes),
         Err(DeskFault::Absent) => Err(refused(Part::Absent, 1, 0)),
-        Err(DeskFault::TooLong) => Err(refused(Part::Length, 1, LIMIT)),
+        Err(DeskFault::TooLong) => Err(refused(Part::Length, 1, MOST_FILE_BYTES)),
         Err(DeskFault::Failed) => Err(Stop::Desk),
         Err(DeskFault::OutOfMemory) => Err(Stop::Memory),
     }
@@ -196,7 +194,7 @@ fn read_causes_file<D: Desk>(alloc: Global, desk: &mut D, name: &str) -> Result<
 /// The causes that the bytes spell for the extension.
 fn causes_of(alloc: Global, bytes: &[u8], case: &LoadedCase) -> Result<CauseList, Stop>
     requires case { IsSomeCase case.now }
-    requires short { length bytes.now ≤ 1048576 }
+    requires short { length bytes.now ≤ MOST_FILE_BYTES }
     ensures read { IfOk result (λ causes. AreCausesOf case.now bytes.now (map cause_of causes)) }
     ensures refused { (r : Refusal) → IsErrOf result (stop.Refused r) →
         RefusesBytes (faults_in case.now) (extension_in case.now) (flat_in case.now) (modes_in case.now) bytes.now r }

@@ -4,6 +4,7 @@ use Rattle.std.specs.Prelude.{nat_eq}
 use Rattle.std.proofs.lemmas.Bool.Decides.{nat_tests}
 use Rattle.std.proofs.lemmas.List.{append-nil}
 use Rattle.std.proofs.lemmas.Bool.{false≢true, and_parts, and_from, or_cases, or_left, or_right}
+use Rattle.base_values.specs.declared.limits.TheConstants.{MOST_FAULTS}
 use Rattle.verb_command_line.specs.declared.choice.OptionKind.TheVariants as kind
 use Rattle.verb_command_line.specs.declared.fault.WordFault.{WordFault}
 use Rattle.verb_command_line.specs.declared.fault.WordFault.TheVariants as fault
@@ -132,8 +133,8 @@ module _ (set first : Text) (ns : Each IsNumeral (words_of set)) (n : IsNumeral 
 -- The verbs of orders alone have a set and its two faults.
 record HasPair (options : List Choice) (ps : List Given) : Type 0 where
   pub set : kind_in options (codes "--set") ≡ Some kind.Set
-  pub first : kind_in options (codes "--first") ≡ Some (kind.Number 1 256)
-  pub second : kind_in options (codes "--second") ≡ Some (kind.Number 1 256)
+  pub first : kind_in options (codes "--first") ≡ Some (kind.Number 1 MOST_FAULTS)
+  pub second : kind_in options (codes "--second") ≡ Some (kind.Number 1 MOST_FAULTS)
   pub there : IsGiven ps (codes "--first")
 
 has_pair : (v : Verb) (ps : List Given) → AreThere (options_of v) ps → (kind_in (options_of v) (codes "--set") ≡ None) ⊎ HasPair (options_of v) ps
@@ -155,7 +156,7 @@ unknown options [] option value law g none = absurd g
 unknown options (p ∷ ps) option value law (inl here) none = let clash : Some law.0.kind ≡ None = sym law.0.known ∙ ap (λ o. kind_in options o) here.0 ∙ none in cc
 unknown options (p ∷ ps) option value law (inr more) none = unknown options ps option value law.1 more none
 
-numeral_of : (w : Text) → IsWithin 1 256 w → IsNumeral w
+numeral_of : (w : Text) → IsWithin 1 MOST_FAULTS w → IsNumeral w
 numeral_of w h = h.numeral
 
 module _ (options : List Choice) (ps : List Given) (law : AreLawful options ps) (pair : HasPair options ps) where
@@ -163,10 +164,10 @@ module _ (options : List Choice) (ps : List Given) (law : AreLawful options ps) 
   each_numbered [] h = tt
   each_numbered (q ∷ qs) h = (by_option, each_numbered qs h.1)
     where
-      fitting : (option : Text) → q.option ≡ option → kind_in options option ≡ Some (kind.Number 1 256) → IsNumeral q.value
+      fitting : (option : Text) → q.option ≡ option → kind_in options option ≡ Some (kind.Number 1 MOST_FAULTS) → IsNumeral q.value
       fitting option e known =
-          let same : Some h.0.kind ≡ Some (kind.Number 1 256) = sym h.0.known ∙ ap (λ o. kind_in options o) e ∙ known in
-          let is : h.0.kind ≡ kind.Number 1 256 = cc in
+          let same : Some h.0.kind ≡ Some (kind.Number 1 MOST_FAULTS) = sym h.0.known ∙ ap (λ o. kind_in options o) e ∙ known in
+          let is : h.0.kind ≡ kind.Number 1 MOST_FAULTS = cc in
           numeral_of q.value (subst (λ k. Fits k q.value) is h.0.fits)
 
       by_option : IsNumbered q
@@ -183,7 +184,7 @@ module _ (options : List Choice) (ps : List Given) (law : AreLawful options ps) 
   first_given = text_given options ps law (codes "--first") pair.there
 
   first_numeral : IsNumeral first_text
-  first_numeral = numeral_of first_text (fits_given options ps (codes "--first") first_text (kind.Number 1 256) law.each first_given pair.first)
+  first_numeral = numeral_of first_text (fits_given options ps (codes "--first") first_text (kind.Number 1 MOST_FAULTS) law.each first_given pair.first)
 
 -- what is found of the two faults
 pub record IsFoundOutside (ps : List Given) (f : WordFault) : Type 0 where

@@ -9,6 +9,7 @@ use Rattle.std.proofs.lemmas.List.Sums.{fails_before_first}
 use Rattle.std.proofs.lemmas.List.Splits.{slice_split_first, slice_split_none, length-slice_split}
 use Rattle.std.proofs.lemmas.Str.Pattern.{IsSplitOnceResult, split_once_first}
 use Rattle.std.specs.Option.{option_map}
+use Rattle.base_values.specs.declared.limits.TheConstants.{MOST_FAULTS}
 use Rattle.verb_command_line.specs.Commands.{Text}
 use Rattle.verb_command_line.specs.Sets.{Each, number_of, IsNumeral, words_of, numbers_of, AreRising, IsSet}
 use Rattle.verb_command_line.specs.Table.{IsClaim}
@@ -16,9 +17,9 @@ use Rattle.verb_command_line.specs.WordReading.{is_numeral, number_in, if_small,
 use Rattle.verb_command_line.proofs.ListLemmas.{bytes_same, same_bytes}
 use Rattle.verb_command_line.proofs.NumberLemmas.{is_numeral-true, true-is_numeral, numbered}
 
-rises_sound : (last : ℕ) (w : Text) (t : Bool) → is_numeral w ≡ t → rises_by last (if t then Some (number_of w) else None) ≡ true → IsNumeral w × (last < number_of w) × (number_of w ≤ 256)
+rises_sound : (last : ℕ) (w : Text) (t : Bool) → is_numeral w ≡ t → rises_by last (if t then Some (number_of w) else None) ≡ true → IsNumeral w × (last < number_of w) × (number_of w ≤ MOST_FAULTS)
 rises_sound last w true is e =
-    let parts = and_parts (nat_lt last (number_of w)) (nat_le (number_of w) 256) e in (is_numeral-true w is, ltb-true _ _ parts.0, leb-true _ _ parts.1)
+    let parts = and_parts (nat_lt last (number_of w)) (nat_le (number_of w) MOST_FAULTS) e in (is_numeral-true w is, ltb-true _ _ parts.0, leb-true _ _ parts.1)
 rises_sound last w false is e = absurd (false≢true e)
 
 rising_sound : (last : ℕ) (ws : List Text) → is_rising last ws ≡ true → Each IsNumeral ws × AreRising last (map number_of ws)
@@ -91,7 +92,7 @@ two_words ws front (Some t) b e is =
     is ∙ sym (ap (λ w. nat_lt 1 (length w)) e ∙ lt-ltb 1 (length (front ∷ words_of t.now)) (let some = some_words t.now in omega (arith, some)))
 
 -- The numbers of a set have 32 bits.
-small_if : (n : ℕ) → n ≤ 256 → if_small (Some n) ≡ Some n
+small_if : (n : ℕ) → n ≤ MOST_FAULTS → if_small (Some n) ≡ Some n
 small_if n h = ap (λ t. if t then Some n else None) (lt-ltb n (2 ^ 32) (omega (arith, h)))
 
 smalls_rising : (last : ℕ) (ws : List Text) → Each IsNumeral ws → AreRising last (map number_of ws) → smalls ws ≡ map number_of ws

@@ -1,6 +1,7 @@
 -- The values that lawful pairs give options: texts, and numbers within limits.
 use Rattle.std.proofs.Common.{◌≡◌, inl, inr, ℕ, ◌^◌, ◌<◌, List, [], ◌∷◌, Option, Some, None, unwrap_or, option_and_then, if◌then◌else◌, sym, subst, ap, ◌∙◌, refl, arith}
 use Rattle.std.proofs.lemmas.Bool.{lt-ltb}
+use Rattle.base_values.specs.declared.limits.TheConstants.{MOST_FAULTS, GREATEST_DEPTH, GREATEST_CASE}
 use Rattle.verb_command_line.specs.declared.choice.OptionKind.{OptionKind}
 use Rattle.verb_command_line.specs.declared.choice.OptionKind.TheVariants as kind
 use Rattle.verb_command_line.specs.Commands.{Text, Given}
@@ -61,8 +62,11 @@ module _ (options : List Choice) (ps : List Given) (law : AreLawful options ps) 
   may_is option (Some number) least most known few g = small_is option g.value least most known few g.given ∙ ap (λ n. Some n) g.is
 
 -- the limits have 32 bits
-pub deep : 1000000000 < 2 ^ 32
+pub deep : GREATEST_DEPTH < 2 ^ 32
 deep = omega arith
 
-pub sized : 256 < 2 ^ 32
+pub numbered_case : GREATEST_CASE < 2 ^ 32
+numbered_case = omega arith
+
+pub sized : MOST_FAULTS < 2 ^ 32
 sized = omega arith

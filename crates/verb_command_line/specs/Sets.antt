@@ -2,6 +2,7 @@
 use Rattle.std.specs.Prelude.{◌≡◌, ℕ, ◌+◌, ◌*◌, ◌-◌, ◌^◌, ◌≤◌, ◌<◌, ◌==◌, true, List, [], ◌∷◌, length, map}
 use Rattle.std.specs.Char.{is_ascii_digit}
 use Rattle.std.specs.List.{list_all, slice_split}
+use Rattle.base_values.specs.declared.limits.TheConstants.{MOST_FAULTS}
 use Rattle.verb_command_line.specs.Commands.{Text}
 
 abbrev pub Each : {A : Type 0} → (A → Type 0) → List A → Type 0
@@ -27,12 +28,12 @@ words_of text = slice_split (λ b. b == 32) text
 abbrev pub numbers_of : Text → List ℕ
 numbers_of set = map number_of (words_of set)
 
--- each number is greater than the one before it, the first greater than this one, and none above 256
+-- each number is greater than the one before it, the first greater than this one, and none above `MOST_FAULTS`
 abbrev pub AreRising : ℕ → List ℕ → Type 0
 AreRising last [] = Unit {0}
-AreRising last (n ∷ ns) = (last < n) × (n ≤ 256) × AreRising n ns
+AreRising last (n ∷ ns) = (last < n) × (n ≤ MOST_FAULTS) × AreRising n ns
 
--- the word is at least two rising numbers from 1 to 256 with one space between
+-- the word is at least two rising numbers from 1 to `MOST_FAULTS` with one space between
 pub record IsSet (word : Text) : Type 0 where
   pub numerals : Each IsNumeral (words_of word)
   pub rising : AreRising 0 (numbers_of word)

@@ -1,6 +1,7 @@
 -- The verbs, their options, and what the values of options are.
 use Rattle.std.specs.Prelude.{◌≡◌, ◌⊎◌, ℕ, ◌≤◌, Bool, true, false, List, [], ◌∷◌, Option, Some, None, codes, if◌then◌else◌}
 use Rattle.std.specs.Str.{bytes_eq}
+use Rattle.base_values.specs.declared.limits.TheConstants.{MOST_FAULTS, GREATEST_DEPTH, GREATEST_CASE, MOST_STAGES}
 use Rattle.verb_command_line.specs.declared.choice.OptionKind.{OptionKind}
 use Rattle.verb_command_line.specs.declared.choice.OptionKind.TheVariants as kind
 use Rattle.verb_command_line.specs.declared.verb.Verb.{Verb}
@@ -40,22 +41,22 @@ options_of verb.Replay =
     ∷ needed (codes "--top") kind.Event ∷ []
 options_of verb.Analyse =
     needed (codes "--model") kind.File ∷ needed (codes "--faults") kind.File ∷ needed (codes "--top") kind.Event
-    ∷ needed (codes "--depth") (kind.Number 0 1000000000) ∷ needed (codes "--extended") kind.File ∷ needed (codes "--cert") kind.File
-    ∷ record { name = codes "--size"; kind = kind.Number 0 256; required = false } ∷ []
+    ∷ needed (codes "--depth") (kind.Number 0 GREATEST_DEPTH) ∷ needed (codes "--extended") kind.File ∷ needed (codes "--cert") kind.File
+    ∷ record { name = codes "--size"; kind = kind.Number 0 MOST_FAULTS; required = false } ∷ []
 options_of verb.Check =
     needed (codes "--model") kind.File ∷ needed (codes "--faults") kind.File ∷ needed (codes "--top") kind.Event
     ∷ needed (codes "--cert") kind.File ∷ []
 options_of verb.Fmea =
     needed (codes "--model") kind.File ∷ needed (codes "--faults") kind.File ∷ needed (codes "--tops") kind.File
-    ∷ needed (codes "--size") (kind.Number 0 2) ∷ needed (codes "--depth") (kind.Number 0 1000000000) ∷ []
+    ∷ needed (codes "--size") (kind.Number 0 2) ∷ needed (codes "--depth") (kind.Number 0 GREATEST_DEPTH) ∷ []
 options_of verb.Make =
-    needed (codes "--number") (kind.Number 0 1000000000) ∷ needed (codes "--stages") (kind.Number 1 64)
-    ∷ needed (codes "--depth") (kind.Number 0 1000000000)
+    needed (codes "--number") (kind.Number 0 GREATEST_CASE) ∷ needed (codes "--stages") (kind.Number 1 MOST_STAGES)
+    ∷ needed (codes "--depth") (kind.Number 0 GREATEST_DEPTH)
     ∷ needed (codes "--model") kind.File ∷ needed (codes "--faults") kind.File ∷ []
 options_of verb.Causes =
     needed (codes "--model") kind.File ∷ needed (codes "--faults") kind.File ∷ needed (codes "--causes") kind.File
     ∷ needed (codes "--top") kind.Event
-    ∷ needed (codes "--depth") (kind.Number 0 1000000000) ∷ needed (codes "--cert") kind.File ∷ []
+    ∷ needed (codes "--depth") (kind.Number 0 GREATEST_DEPTH) ∷ needed (codes "--cert") kind.File ∷ []
 options_of verb.CheckCauses =
     needed (codes "--model") kind.File ∷ needed (codes "--faults") kind.File ∷ needed (codes "--causes") kind.File
     ∷ needed (codes "--top") kind.Event
@@ -63,17 +64,18 @@ options_of verb.CheckCauses =
 options_of verb.Orders =
     needed (codes "--model") kind.File ∷ needed (codes "--faults") kind.File ∷ needed (codes "--top") kind.Event
     ∷ needed (codes "--set") kind.Set
-    ∷ needed (codes "--first") (kind.Number 1 256) ∷ needed (codes "--second") (kind.Number 1 256)
-    ∷ needed (codes "--depth") (kind.Number 0 1000000000)
+    ∷ needed (codes "--first") (kind.Number 1 MOST_FAULTS) ∷ needed (codes "--second") (kind.Number 1 MOST_FAULTS)
+    ∷ needed (codes "--depth") (kind.Number 0 GREATEST_DEPTH)
     ∷ needed (codes "--cert") kind.File ∷ []
 options_of verb.CheckOrders =
     needed (codes "--model") kind.File ∷ needed (codes "--faults") kind.File ∷ needed (codes "--top") kind.Event
     ∷ needed (codes "--set") kind.Set
-    ∷ needed (codes "--first") (kind.Number 1 256) ∷ needed (codes "--second") (kind.Number 1 256) ∷ needed (codes "--claim") kind.Claim
+    ∷ needed (codes "--first") (kind.Number 1 MOST_FAULTS) ∷ needed (codes "--second") (kind.Number 1 MOST_FAULTS)
+    ∷ needed (codes "--claim") kind.Claim
     ∷ needed (codes "--cert") kind.File ∷ []
 options_of verb.Odds =
     needed (codes "--model") kind.File ∷ needed (codes "--faults") kind.File ∷ needed (codes "--top") kind.Event
-    ∷ needed (codes "--depth") (kind.Number 0 1000000000) ∷ []
+    ∷ needed (codes "--depth") (kind.Number 0 GREATEST_DEPTH) ∷ []
 
 -- what the value of an option is, where the options have one of this name
 abbrev pub kind_in : List Choice → Text → Option OptionKind

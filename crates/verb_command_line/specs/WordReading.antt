@@ -4,6 +4,7 @@ use Rattle.std.specs.Prelude.{Option, Some, None, Result, Ok, Err, length, codes
 use Rattle.std.specs.Str.{bytes_eq}
 use Rattle.std.specs.Char.{is_ascii_digit}
 use Rattle.std.specs.List.{list_all}
+use Rattle.base_values.specs.declared.limits.TheConstants.{MOST_FAULTS}
 use Rattle.verb_command_line.specs.declared.choice.OptionKind.{OptionKind}
 use Rattle.verb_command_line.specs.declared.choice.OptionKind.TheVariants as kind
 use Rattle.verb_command_line.specs.declared.verb.Verb.{Verb}
@@ -53,7 +54,7 @@ is_within least most (Some n) = nat_le least n && nat_le n most
 
 -- Sets.
 abbrev pub rises : ℕ → ℕ → Bool
-rises last n = nat_lt last n && nat_le n 256
+rises last n = nat_lt last n && nat_le n MOST_FAULTS
 
 abbrev pub rises_by : ℕ → Option ℕ → Bool
 rises_by last None = false

@@ -14,7 +14,7 @@ pub enum OptionKind {
     Event,
     /// A number of 1 to 10 digits within these limits.
     Number { least: u32, most: u32 },
-    /// At least two rising numbers from 1 to 256 with one space between.
+    /// At least two rising numbers from 1 to `MOST_FAULTS` with one space between.
     Set,
     /// What is claimed of two faults: `before`, `after`, `together` or `none`.
     Claim,

@@ -7,12 +7,10 @@ ghost use Rattle.verb_command_line.specs.WordReading.{has_number as has_number_i
 
 use crate::number::{read_number, small_number};
 use base_values::OutOfMemory;
+use base_values::limits::MOST_FAULTS;
 use std::alloc::Global;
 
-/// The largest number of a set.
-const MOST: u64 = 256;
-
-/// Whether the word is at least two rising numbers from 1 to 256 with one space between.
+/// Whether the word is at least two rising numbers from 1 to `MOST_FAULTS` with one space between.
 pub(crate) fn is_set(word: &str) -> bool
     ensures { result ≡ is_set_text word.now }
 {
@@ -27,7 +25,7 @@ fn has_two(text: &str) -> bool
     after.is_some()
 }
 
-/// Whether the words are rising numbers from 1 to 256.
+/// Whether the words are rising numbers from 1 to `MOST_FAULTS`.
 fn are_rising(text: &str) -> bool
     ensures { result ≡ is_rising 0 (words_of text.now) }
 {
@@ -44,11 +42,11 @@ fn are_rising(text: &str) -> bool
     true
 }
 
-/// Whether the number is greater than the last one, and at most 256.
+/// Whether the number is greater than the last one, and at most `MOST_FAULTS`.
 fn rises(last: u64, next: u64) -> bool
     ensures { result ≡ rises_to last next }
 {
-    last < next && next <= MOST
+    last < next && next <= MOST_FAULTS as u64
 }
 
 /// Whether one of the words spells the number.

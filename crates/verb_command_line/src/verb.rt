@@ -5,6 +5,7 @@ ghost use Rattle.verb_command_line.specs.WordReading.{verb_in};
 ghost use Rattle.verb_command_line.specs.CommandView.{viewed};
 
 use crate::choice::{Choice, OptionKind};
+use base_values::limits::{GREATEST_CASE, GREATEST_DEPTH, MOST_FAULTS, MOST_STAGES};
 
 /// What is to be done.
 #[derive(Clone, Copy, Debug, PartialEq, Eq)]
@@ -68,7 +69,7 @@ const DEPTH: Choice = Choice {
     name: "--depth",
     kind: OptionKind::Number {
         least: 0,
-        most: 1_000_000_000,
+        most: GREATEST_DEPTH,
     },
     required: true,
 };
@@ -77,14 +78,17 @@ const NUMBER: Choice = Choice {
     name: "--number",
     kind: OptionKind::Number {
         least: 0,
-        most: 1_000_000_000,
+        most: GREATEST_CASE,
     },
     required: true,
 };
 
 const STAGES: Choice = Choice {
     name: "--stages",
-    kind: OptionKind::Number { least: 1, most: 64 },
+    kind: OptionKind::Number {
+        least: 1,
+        most: MOST_STAGES,
+    },
     required: true,
 };
 
@@ -98,7 +102,7 @@ const SIZE: Choice = Choice {
     name: "--size",
     kind: OptionKind::Number {
         least: 0,
-        most: 256,
+        most: MOST_FAULTS as u32,
     },
     required: false,
 };
@@ -119,7 +123,7 @@ const FIRST: Choice = Choice {
     name: "--first",
     kind: OptionKind::Number {
         least: 1,
-        most: 256,
+        most: MOST_FAULTS as u32,
     },
     required: true,
 };
@@ -128,7 +132,7 @@ const SECOND: Choice = Choice {
     name: "--second",
     kind: OptionKind::Number {
         least: 1,
-        most: 256,
+        most: MOST_FAULTS as u32,
     },
     required: true,
 };

@@ -1,5 +1,6 @@
 -- What a name has among the files is one: no file within the limit, or its bytes.
 use Rattle.std.proofs.Common.{arith, ◌≡◌, inl, inr, ◌<◌, ℕ, List, [], length, Option, Some, None, unwrap_or, sym, ap, subst, ◌∙◌}
+use Rattle.base_values.specs.declared.limits.TheConstants.{MOST_FILE_BYTES}
 use Rattle.base_files.specs.declared.files.NamedFile.{NamedFile}
 use Rattle.base_files.specs.Files.{file_of, content_of}
 use Rattle.smv_language.specs.ProgramTree.{Text}
@@ -11,11 +12,11 @@ pub no_bytes : (files : List NamedFile) (name : Text) (fault : InputFault) (byte
 no_bytes files name fault bytes (inl missing) has = let e : Path (Option (List ℕ)) None (Some bytes) = sym missing.1 ∙ has.held in cc
 no_bytes files name fault bytes (inr long) has =
     let content : content_of files name ≡ bytes = ap (λ file. unwrap_or file []) has.held in
-    omega (arith, subst (λ b. 1048576 < length b) content long.1, has.short)
+    omega (arith, subst (λ b. MOST_FILE_BYTES < length b) content long.1, has.short)
 
-no_content : (files : List NamedFile) (name : Text) → file_of files name ≡ None → 1048576 < length (content_of files name) → ⊥
+no_content : (files : List NamedFile) (name : Text) → file_of files name ≡ None → MOST_FILE_BYTES < length (content_of files name) → ⊥
 no_content files name missing long =
-    let content : content_of files name ≡ [] = ap (λ file. unwrap_or file []) missing in omega (arith, subst (λ b. 1048576 < length b) content long)
+    let content : content_of files name ≡ [] = ap (λ file. unwrap_or file []) missing in omega (arith, subst (λ b. MOST_FILE_BYTES < length b) content long)
 
 pub one_file_fault : (files : List NamedFile) (name : Text) (a b : InputFault) → IsRefusedFile files name a → IsRefusedFile files name b → a ≡ b
 one_file_fault files name a b (inl x) (inl y) = x.0 ∙ sym y.0

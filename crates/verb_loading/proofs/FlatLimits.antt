@@ -3,6 +3,7 @@ use Rattle.std.proofs.Common.{arith, ◌≡◌, ◌≤◌, ℕ, false, List, ◌
 use Rattle.std.specs.Prelude.{nat_lt, ◌||◌, sum_by, length}
 use Rattle.std.proofs.lemmas.List.Sums.{sum_by-append}
 use Rattle.std.proofs.lemmas.Bool.{ltb-false, le-ltb, or_parts as neither}
+use Rattle.base_values.specs.declared.limits.TheConstants.{MOST_BITS, MOST_COST}
 use Rattle.smv_language.specs.ProgramTree.{ProgramTree}
 use Rattle.fault_instructions.specs.Instructions.{InstructionTree}
 use Rattle.smv_language.specs.Flat.{FlatVariable, FlatFormula, FlatModel}
@@ -43,10 +44,10 @@ module _ (m : FlatModel) (fs : List Mode) where
   -- a model is small where it is with history
   small_without : is_too_large (with_history m fs) ≡ false → is_too_large m ≡ false
   small_without small =
-      let both = neither (nat_lt 50000 (model_cost (with_history m fs))) (nat_lt 4096 (state_bits (with_history m fs))) small in
-      let cost : model_cost m ≤ 50000 = omega (arith, costs_more, not_above 50000 (model_cost (with_history m fs)) both.0) in
-      let bits : state_bits m ≤ 4096 = omega (arith, has_more_bits, not_above 4096 (state_bits (with_history m fs)) both.1) in
-      ap (λ b. b || nat_lt 4096 (state_bits m)) (not_below 50000 (model_cost m) cost) ∙ not_below 4096 (state_bits m) bits
+      let both = neither (nat_lt MOST_COST (model_cost (with_history m fs))) (nat_lt MOST_BITS (state_bits (with_history m fs))) small in
+      let cost : model_cost m ≤ MOST_COST = omega (arith, costs_more, not_above MOST_COST (model_cost (with_history m fs)) both.0) in
+      let bits : state_bits m ≤ MOST_BITS = omega (arith, has_more_bits, not_above MOST_BITS (state_bits (with_history m fs)) both.1) in
+      ap (λ b. b || nat_lt MOST_BITS (state_bits m)) (not_below MOST_COST (model_cost m) cost) ∙ not_below MOST_BITS (state_bits m) bits
 
 module _ (p : ProgramTree) (m : FlatModel) (i : InstructionTree) (faults : List Fault) (lawful : IsLawful p m) (taken : AreTaken p i) (has : HasFaults p i faults) where
   -- the flat model of an extension that passes no limit with all bits breaks no rule of kinds

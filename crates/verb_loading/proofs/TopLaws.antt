@@ -1,6 +1,7 @@
 -- A top event of a model over the flat model of its extension, and the rule for which it is refused, as it is told.
 use Rattle.std.proofs.Common.{◌≡◌, Bool, false, List, [], ◌∷◌, Option, Some, None, IfSome, Result, Ok, Err, refl, ap, ◌∙◌}
 use Rattle.std.specs.Prelude.{slice_get, codes, nat_lt}
+use Rattle.base_values.specs.declared.limits.TheConstants.{MOST_TOP_COST}
 use Rattle.smv_language.specs.Tree.{Tree}
 use Rattle.smv_language.specs.ProgramTree.{Text, Formula, ProgramTree}
 use Rattle.smv_language.specs.Flat.{FlatLeaf, FlatInstance, FlatModel}
@@ -105,5 +106,5 @@ module _ (c : Case) (is : IsCase c) (m : FlatModel) (lawful : IsLawful c.program
         is_word = record { short = text.short; spelled = text.spelled; only = text.only; depths = text.depths; is_top = top };
         is_tree = resolved;
         own = woven_own c.program top.flat c.instructions c.flat (have_models e top) [] e top.tree tree read;
-        kept = unbroken (broken_condition (judged_in c.flat false tree)) (nat_lt 50000 (cost_of tree)) none;
+        kept = unbroken (broken_condition (judged_in c.flat false tree)) (nat_lt MOST_TOP_COST (cost_of tree)) none;
       }

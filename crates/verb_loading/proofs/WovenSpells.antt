@@ -1,6 +1,7 @@
 -- The text of a woven program spells it.
 use Rattle.std.proofs.Common.{◌≢◌, ◌+◌, ℕ, suc, ℤ, pos, negsuc, Bool, true, false, List, [], ◌∷◌, ◌++◌, Option, Some, None, map, flat_map, refl, arith}
-use Rattle.std.specs.Prelude.{nat_eq, if◌then◌else◌}
+use Rattle.std.specs.Prelude.{nat_abs, nat_eq, if◌then◌else◌}
+use Rattle.base_values.specs.declared.limits.TheConstants.{GREATEST_NUMBER}
 use Rattle.smv_language.specs.declared.expr.Op.TheVariants as op
 use Rattle.smv_language.specs.declared.program.Member.{Member}
 use Rattle.smv_language.specs.declared.program.Member.TheVariants as member
@@ -104,13 +105,13 @@ type_is_writable m x h = typed_type (kind_in m x) (after_formals_typed (formal_f
 
 -- the templates
 number_by : (b : Bool) (n : ℕ) → IsSmall (n + 1) →
-    IsWritable (if b then binary op.Minus (negate (is_number (pos 2147483647))) (is_number (pos 1)) else negate (is_number (pos (suc n))))
+    IsWritable (if b then binary op.Minus (negate (is_number GREATEST_NUMBER)) (is_number (pos 1)) else negate (is_number (pos (suc n))))
 number_by true n h = (omega arith, omega arith)
 number_by false n h = omega (arith, h)
 
 number_writable : (n : ℤ) → IsEnd n → IsWritable (number_tree n)
 number_writable (pos n) h = h
-number_writable (negsuc n) h = number_by (nat_eq n 2147483647) n h
+number_writable (negsuc n) h = number_by (nat_eq n (nat_abs GREATEST_NUMBER)) n h
 
 value_writable : (c : Value) → IsWritableConstant c → IsWritable (value_tree c)
 value_writable (a_truth b) h = tt

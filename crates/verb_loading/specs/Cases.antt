@@ -1,5 +1,6 @@
 -- What the files of a command come to: a model with its faults, and top events.
 use Rattle.std.specs.Prelude.{◌≡◌, ℕ, ◌≤◌, ◌<◌, false, List, [], length, Some, None}
+use Rattle.base_values.specs.declared.limits.TheConstants.{MOST_TOP_BYTES, MOST_TOPS}
 use Rattle.base_files.specs.declared.files.NamedFile.{NamedFile}
 use Rattle.smv_language.specs.Tree.{Tree}
 use Rattle.smv_language.specs.ProgramTree.{Text, Formula, ProgramTree}
@@ -80,7 +81,7 @@ pub data IsWrongTop (p : ProgramTree) (e : Formula) (place : ℕ) (fault : Input
 
 -- the word of `--top` spells a top event of the program
 pub record IsTopWord (p : ProgramTree) (bytes : Text) (e : Formula) : Type 0 where
-  pub short : length bytes ≤ 65536
+  pub short : length bytes ≤ MOST_TOP_BYTES
   pub spelled : BytesSpellExpr bytes e
   pub only : (f : Formula) → BytesSpellExpr bytes f → e ≡ f
   pub depths : HasDepths bytes e
@@ -88,18 +89,19 @@ pub record IsTopWord (p : ProgramTree) (bytes : Text) (e : Formula) : Type 0 whe
 
 -- what is wrong with it: its length, what it spells, or the first rule
 pub data IsWrongWord (p : ProgramTree) (bytes : Text) (fault : InputFault) : Type 0 where
-  too_long : 65536 < length bytes → fault ≡ record { part = part.Length; number = 1; place = 65536 } → IsWrongWord p bytes fault
-  not_spelled : (f : ParseFault) → length bytes ≤ 65536 → FaultMeans IsExpression (IsTooDeep bytes) bytes f →
+  too_long : MOST_TOP_BYTES < length bytes →
+      fault ≡ record { part = part.Length; number = 1; place = MOST_TOP_BYTES } → IsWrongWord p bytes fault
+  not_spelled : (f : ParseFault) → length bytes ≤ MOST_TOP_BYTES → FaultMeans IsExpression (IsTooDeep bytes) bytes f →
       wrong.Refused fault ≡ parse_wrong f → IsWrongWord p bytes fault
-  not_kept : (e : Formula) → length bytes ≤ 65536 → BytesSpellExpr bytes e → HasDepths bytes e → IsWrongTop p e 0 fault →
+  not_kept : (e : Formula) → length bytes ≤ MOST_TOP_BYTES → BytesSpellExpr bytes e → HasDepths bytes e → IsWrongTop p e 0 fault →
       IsWrongWord p bytes fault
 
--- the file of `--tops` holds these, at most 64, each a top event of the program
+-- the file of `--tops` holds these, at most `MOST_TOPS`, each a top event of the program
 pub record HoldsTops (files : List NamedFile) (name : Text) (p : ProgramTree) (tops : List Formula) : Type 0 where
   pub bytes : List ℕ
   pub has : HasBytes files name bytes
   pub spelled : BytesSpellExpressions bytes tops
   pub only : (es : List Formula) → BytesSpellExpressions bytes es → tops ≡ es
   pub depths : HaveDepths bytes tops
-  pub few : length tops ≤ 64
+  pub few : length tops ≤ MOST_TOPS
   pub are_tops : Each (IsTop p) tops

@@ -1,5 +1,6 @@
 -- What the two input files come to: what is wrong with a file, and what it holds.
 use Rattle.std.specs.Prelude.{ℕ, ◌≡◌, ◌⊎◌, ◌≤◌, ◌<◌, List, [], ◌∷◌, ◌++◌, length, map, Some, None}
+use Rattle.base_values.specs.declared.limits.TheConstants.{MOST_FILE_BYTES}
 use Rattle.base_files.specs.declared.files.NamedFile.{NamedFile}
 use Rattle.base_files.specs.Files.{file_of, content_of}
 use Rattle.base_files.specs.declared.desk.WriteStop.{WriteStop}
@@ -56,15 +57,15 @@ abbrev pub stop_of_write : WriteStop → Stop
 stop_of_write write_stop.Failed = stop.Desk
 stop_of_write write_stop.OutOfMemory = stop.Memory
 
--- the file is not there, or it has more than 1,048,576 bytes
+-- the file is not there, or it has more bytes than `MOST_FILE_BYTES`
 abbrev pub IsRefusedFile : List NamedFile → Text → InputFault → Type 0
 IsRefusedFile files name fault = ((fault ≡ absent) × (file_of files name ≡ None))
-    ⊎ ((fault ≡ too_long) × (1048576 < length (content_of files name)))
+    ⊎ ((fault ≡ too_long) × (MOST_FILE_BYTES < length (content_of files name)))
 
--- the file has these bytes, at most 1,048,576
+-- the file has these bytes, at most `MOST_FILE_BYTES`
 pub record HasBytes (files : List NamedFile) (name : Text) (bytes : List ℕ) : Type 0 where
   pub held : file_of files name ≡ Some bytes
-  pub short : length bytes ≤ 1048576
+  pub short : length bytes ≤ MOST_FILE_BYTES
 
 -- the model file is refused
 pub data RefusesModel (files : List NamedFile) (name : Text) (r : Refusal) : Type 0 where

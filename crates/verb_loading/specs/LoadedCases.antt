@@ -1,5 +1,6 @@
 -- What the work of a command has in memory: the extension with its flat model, a top event, and a trace.
 use Rattle.std.specs.Prelude.{◌≡◌, ℕ, ◌≤◌, ◌<◌, false, List, [], map, length}
+use Rattle.base_values.specs.declared.limits.TheConstants.{MOST_TOP_BYTES}
 use Rattle.base_files.specs.declared.files.NamedFile.{NamedFile}
 use Rattle.smv_language.specs.Tree.{Tree}
 use Rattle.smv_language.specs.ProgramTree.{Text, Formula, ProgramTree, program_tree}
@@ -87,13 +88,13 @@ pub record IsTopIn (c : Case) (word : Text) (tree : Tree FlatLeaf) : Type 0 wher
 
 -- the bytes spell this expression and no other, within the depths, and are not too many
 pub record IsTopText (bytes : Text) (e : Formula) : Type 0 where
-  pub short : length bytes ≤ 65536
+  pub short : length bytes ≤ MOST_TOP_BYTES
   pub spelled : BytesSpellExpr bytes e
   pub only : (f : Formula) → BytesSpellExpr bytes f → e ≡ f
   pub depths : HasDepths bytes e
 
 -- the bytes are too many, or spell no expression within the depths
 pub data IsWrongTopText (bytes : Text) (fault : InputFault) : Type 0 where
-  too_long_top : 65536 < length bytes → fault ≡ top_too_long → IsWrongTopText bytes fault
-  not_a_top : (f : ParseFault) → length bytes ≤ 65536 → FaultMeans IsExpression (IsTooDeep bytes) bytes f →
+  too_long_top : MOST_TOP_BYTES < length bytes → fault ≡ top_too_long → IsWrongTopText bytes fault
+  not_a_top : (f : ParseFault) → length bytes ≤ MOST_TOP_BYTES → FaultMeans IsExpression (IsTooDeep bytes) bytes f →
       wrong.Refused fault ≡ parse_wrong f → IsWrongTopText bytes fault

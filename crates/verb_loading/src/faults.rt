@@ -1,6 +1,7 @@
 //! An instruction file as the extension of a model: the text that is written, and what is said ([`load_extension`]). Before
 //! anything is written, the whole is flattened and typed once more, for the limits that neither file passes alone.
 ghost use Rattle.std.specs.Prelude.{◌≡◌, ◌≤◌, ◌++◌, codes, length, map, IfOk, OnOk, IfErr, IfSome, IsErrOf};
+ghost use Rattle.base_values.specs.declared.limits.TheConstants.{MOST_FILE_BYTES};
 ghost use Rattle.base_files.specs.Desk.{OnlyReads, Rose};
 ghost use Rattle.smv_language.specs.ProgramTree.{program_tree};
 ghost use Rattle.smv_language.specs.ModelTree.{model_tree, name_of_fault};
@@ -63,7 +64,7 @@ pub fn load_extension<D: Desk>(
 
 /// The extension of the model by the instructions that the bytes spell.
 fn extension_of(alloc: Global, bytes: &[u8], model: &LoadedModel) -> Result<Made, Wrong>
-    requires length { length bytes.now ≤ 1048576 }
+    requires length { length bytes.now ≤ MOST_FILE_BYTES }
     requires lawful { IsLawful (program_tree model.now.program) (model_tree model.now.typed.model) }
     requires in_var { HasInstancesInVar (program_tree model.now.program) }
     ensures ok { IfOk result (IsMade (program_tree model.now.program) bytes.now) }

@@ -11,10 +11,8 @@ use crate::status::{InputFault, Part, Refusal};
 use crate::wrong::Wrong;
 use base_files::{Desk, DeskFault, WriteStop, read_whole};
 use base_values::OutOfMemory;
+use base_values::limits::MOST_FILE_BYTES;
 use std::alloc::Global;
-
-/// The limit of an input file, in bytes.
-const LIMIT: u64 = 1_048_576;
 
 /// Which of the two input files.
 #[derive(Clone, Copy, Debug, PartialEq, Eq)]
@@ -80,13 +78,13 @@ pub(crate) fn read_input<D: Desk>(
     name: &str,
 ) -> Result<Vec<u8>, Stop>
     ensures bytes { IfOk result (λ bytes. IfSome (D.told desk.old).files (λ files. HasBytes files name.now bytes.items)) }
-    ensures short { IfOk result (λ bytes. length bytes.items ≤ 1048576) }
+    ensures short { IfOk result (λ bytes. length bytes.items ≤ MOST_FILE_BYTES) }
     ensures refused { (r : Refusal) → IsErrOf result (stop.Refused r) →
         (fault : InputFault) × (r ≡ refusal_at input fault) × IfSome (D.told desk.old).files (λ files. IsRefusedFile files name.now fault) }
     ensures failed { IsErrOf result stop.Desk → Rose (D.told desk.old).faults (D.told desk.new).faults }
     ensures stays { OnlyReads (D.told desk.old) (D.told desk.new) }
 {
-    match read_whole(alloc, desk, name, LIMIT) {
+    match read_whole(alloc, desk, name, MOST_FILE_BYTES) {
         Ok(bytes) => Ok(bytes),
         Err(DeskFault::Absent) => Err(Stop::Refused(input.refusal(InputFault {
             part: Part::Absent,
@@ -96,7 +94,7 @@ pub(crate) fn read_input<D: Desk>(
         Err(DeskFault::TooLong) => Err(Stop::Refused(input.refusal(InputFault {
             part: Part::Length,
             number: 1,
-            place: LIMIT,
+            place: MOST_FILE_BYTES,
         }))),
         Err(DeskFault::Failed) => Err(Stop::Desk),
         Err(DeskFault::OutOfMemory) => Err(Stop::Memory),

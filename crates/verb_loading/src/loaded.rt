@@ -1,6 +1,7 @@
 //! An instruction file as the extension of a model in memory, with its faults and its flat model ([`load_case`]), for the
 //! work that reads and searches it. The same rules are tried as where an extension is written.
 ghost use Rattle.std.specs.Prelude.{◌≡◌, ◌≤◌, length, map, IfOk, OnOk, IfErr, IfSome, IsErrOf};
+ghost use Rattle.base_values.specs.declared.limits.TheConstants.{MOST_FILE_BYTES};
 ghost use Rattle.base_files.specs.Desk.{OnlyReads, Rose};
 ghost use Rattle.smv_language.specs.ProgramTree.{program_tree};
 ghost use Rattle.smv_language.specs.ModelTree.{model_tree};
@@ -73,7 +74,7 @@ pub fn load_case<D: Desk>(
 
 /// The extension of the model by the instructions that the bytes spell.
 pub fn case_of(alloc: Global, bytes: &[u8], model: &LoadedModel) -> Result<LoadedCase, Wrong>
-    requires length { length bytes.now ≤ 1048576 }
+    requires length { length bytes.now ≤ MOST_FILE_BYTES }
     requires lawful { IsLawful (program_tree model.now.program) (model_tree model.now.typed.model) }
     requires in_var { HasInstancesInVar (program_tree model.now.program) }
     requires spelled { IsSpelled (program_tree model.now.program) }

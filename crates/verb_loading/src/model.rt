@@ -1,6 +1,7 @@
 //! A model file as a program, and that as a flat model with its kinds ([`load_model`]). The first reader or layer that
 //! refuses it is told.
 ghost use Rattle.std.specs.Prelude.{◌≡◌, ◌≤◌, length, IfOk, IfErr, IfSome, IsErrOf};
+ghost use Rattle.base_values.specs.declared.limits.TheConstants.{MOST_FILE_BYTES};
 ghost use Rattle.base_files.specs.Desk.{OnlyReads, Rose};
 ghost use Rattle.smv_language.specs.ProgramTree.{program_tree};
 ghost use Rattle.smv_language.specs.ModelTree.{model_tree};
@@ -47,7 +48,7 @@ pub fn load_model<D: Desk>(alloc: Global, desk: &mut D, name: &str) -> Result<Lo
 
 /// The model that the bytes spell.
 pub fn model_of(alloc: Global, bytes: &[u8]) -> Result<LoadedModel, Wrong>
-    requires { length bytes.now ≤ 1048576 }
+    requires { length bytes.now ≤ MOST_FILE_BYTES }
     ensures ok { IfOk result (λ l. IsModelText bytes.now (program_tree l.program)) }
     ensures lawful { IfOk result (λ l. IsLawful (program_tree l.program) (model_tree l.typed.model)) }
     ensures in_var { IfOk result (λ l. HasInstancesInVar (program_tree l.program)) }

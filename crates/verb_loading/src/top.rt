@@ -24,15 +24,13 @@ use crate::model::LoadedModel;
 use crate::status::{InputFault, Part, Refusal};
 use crate::wrong::Wrong;
 use base_values::Dotted;
+use base_values::limits::MOST_TOP_BYTES;
 use smv_expression_reader::expression;
 use smv_flat::resolve_top;
 use smv_language::model::{Flat, FlatModel};
 use smv_language::{Expr, Program};
 use smv_types::check_top;
 use std::alloc::Global;
-
-/// The limit of the text of a top event, in bytes.
-const TOP_LIMIT: usize = 65_536;
 
 /// The top event that a word spells, over the flat model of the extension.
 pub fn load_top(
@@ -91,11 +89,11 @@ fn written_top(alloc: Global, bytes: &[u8]) -> Result<Expr<Dotted>, Wrong>
     ensures ok { IfOk result (λ e. IsTopText bytes.now (tree_of e)) }
     ensures wrong { IfErr result (IfRefused (IsWrongTopText bytes.now)) }
 {
-    if bytes.len() > TOP_LIMIT {
+    if bytes.len() > MOST_TOP_BYTES {
         return Err(Wrong::Refused(InputFault {
             part: Part::Length,
             number: 1,
-            place: TOP_LIMIT as u64,
+            place: MOST_TOP_BYTES as u64,
         }));
     }
     let written = expression(alloc, bytes)?;

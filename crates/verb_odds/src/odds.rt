@@ -2,6 +2,7 @@
 //!
 //! The main function is [`find_odds`]. All files are read and judged in [`prepare_odds`], which also searches; then the report is said.
 ghost use Rattle.std.specs.Prelude.{◌≡◌, ◌≤◌, ◌<◌, ◌++◌, ◌⊎◌, All, length, map, IfOk, IfSome, IsErrOf};
+ghost use Rattle.base_values.specs.declared.limits.TheConstants.{GREATEST_DEPTH};
 ghost use Rattle.base_files.specs.Desk.{OnlyReads, OnlySays, Rose};
 ghost use Rattle.smv_language.specs.ProgramTree.{ProgramTree};
 ghost use Rattle.smv_language.specs.ModelTree.{model_tree, name_of_fault};
@@ -61,7 +62,7 @@ pub fn find_odds<D: Desk>(
     asked: &FindOdds,
     panel: &mut Panel,
 ) -> Result<Status, Stop>
-    requires { asked.now.depth ≤ 1000000000 }
+    requires { asked.now.depth ≤ GREATEST_DEPTH }
     ensures ok { IfOk result (λ s. IfSome (D.told desk.old).files (λ files.
         HasOdds files asked.now.model.now asked.now.faults.now asked.now.top.now asked.now.depth s (D.told desk.old).said
         (D.told desk.new).said)) }

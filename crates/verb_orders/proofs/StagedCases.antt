@@ -2,6 +2,7 @@
 use Rattle.std.proofs.Common.{◌≡◌, ℕ, ◌+◌, ◌≤◌, List, [], ◌∷◌, length, map, refl, sym, ap, ◌∙◌, subst, arith}
 use Rattle.std.specs.Prelude.{Option}
 use Rattle.std.proofs.lemmas.List.{length-map}
+use Rattle.base_values.specs.declared.limits.TheConstants.{MOST_FAULTS}
 use Rattle.smv_language.specs.Tree.{Tree}
 use Rattle.smv_language.specs.ProgramTree.{program_tree}
 use Rattle.smv_language.specs.ModelTree.{model_tree, flat_tree, variable_tree}
@@ -54,8 +55,8 @@ module _ (s : PairCase) (is : IsStagedCase s) where
     in_modes : (i : ℕ) → IsFaultNumber (length s.loaded.case.limited.faults) i → IsFaultNumber (length modes) i
     in_modes i of = subst (λ n. IsFaultNumber n i) (sym same_count) of
 
-    few_modes : length modes ≤ 256
-    few_modes = subst (λ n. n ≤ 256) (sym same_count) few.faults
+    few_modes : length modes ≤ MOST_FAULTS
+    few_modes = subst (λ n. n ≤ MOST_FAULTS) (sym same_count) few.faults
 
     stage_searchable : (claim : Option Relation) →
         IsSearchable (stage plain modes s.asked.first s.asked.second) [] (against (stage plain modes s.asked.first s.asked.second) (length modes) (flat_tree s.loaded.top) s.set.items claim)

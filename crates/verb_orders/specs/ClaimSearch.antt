@@ -5,6 +5,7 @@ use Rattle.smv_language.specs.Tree.{Tree}
 use Rattle.smv_language.specs.ProgramTree.{Text}
 use Rattle.base_values.specs.declared.value.Value.{Value as Numbered}
 use Rattle.base_values.specs.declared.value.Value.TheVariants.{Bool as ABool, Num, Sym}
+use Rattle.base_values.specs.declared.limits.TheConstants.{MOST_FAULTS}
 use Rattle.smv_language.specs.ModelTree.{model_tree, flat_tree}
 use Rattle.smv_language.specs.Flat.{FlatLeaf, FlatModel}
 use Rattle.smv_flat_laws.specs.FlatTrace.{IsFlatTrace}
@@ -33,7 +34,7 @@ use Rattle.verb_orders.specs.Orders.{Order, claimed, either, CertifiesClaim, Fou
 -- there are as few symbols as a search can number, and no more faults than a weave takes
 pub record HasFew (s : PairCase) : Type 0 where
   pub symbols : length s.loaded.case.limited.typed.model.symbols < 2 ^ 31
-  pub faults : length s.loaded.case.limited.faults ≤ 256
+  pub faults : length s.loaded.case.limited.faults ≤ MOST_FAULTS
 
 -- the expression is what speaks against the claim over the staged model
 abbrev pub SpeaksFor : PairCase → Option Relation → Tree FlatLeaf → Type 0

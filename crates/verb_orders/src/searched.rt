@@ -10,6 +10,7 @@ ghost use Rattle.verb_orders.specs.ClaimSearch.{HasFew, SpeaksFor, IsAnswerAlone
 
 use crate::pair::PairCase;
 use base_values::OutOfMemory;
+use base_values::limits::{MOST_FAULTS, MOST_SYMBOLS};
 use cut_model_search::FaultyModel;
 use cut_search::answer::Analysis;
 use fault_orders::{Relation, against};
@@ -17,12 +18,6 @@ use sat_adviser::Panel;
 use smv_language::Expr;
 use smv_language::model::Flat;
 use std::alloc::Global;
-
-/// A search gives each symbol a number below this. That a model of two files within their limits has fewer is not proved.
-const MOST_SYMBOLS: usize = 2_147_483_648;
-
-/// A weave takes no more faults.
-const MOST_FAULTS: usize = 256;
 
 /// The expression of a claim, and what a search for a trace of it came to.
 #[derive(Drop)]

@@ -1,7 +1,8 @@
--- The size that words ask a table for is at most two, the stages that they ask a case for are at most 64, the depth of a search is at most
--- 1,000,000,000, and two faults are of their set.
+-- The size that words ask a table for is at most two, the stages that they ask a case for are at most `MOST_STAGES`, the depth of a search is at most
+-- `GREATEST_DEPTH`, and two faults are of their set.
 use Rattle.std.proofs.Common.{◌≤◌, ℕ, List, Result, Ok, Err, IfOk, refl, subst}
 use Rattle.std.specs.Prelude.{codes}
+use Rattle.base_values.specs.declared.limits.TheConstants.{GREATEST_DEPTH, MOST_STAGES}
 use Rattle.smv_language.specs.ProgramTree.{Text}
 use Rattle.verb_run.specs.CommandNumbers.{IsAskable}
 use Rattle.verb_command_line.specs.declared.choice.OptionKind.TheVariants as kind
@@ -22,26 +23,26 @@ asked_small words model faults tops size depth asks = by_verb asks.verb asks.mak
     by_verb v (makes_table _ _ _ _ _ m f t s d) lawful =
         subst (λ n. n ≤ 2) s.is (fits_given (options_of verb.Fmea) asks.pairs (codes "--size") s.value (kind.Number 0 2) lawful.each s.given refl).below
 
-pub asked_few : (words : List Text) (number stages depth : ℕ) (model faults : Text) → WordsMean words (make number stages depth model faults) → stages ≤ 64
+pub asked_few : (words : List Text) (number stages depth : ℕ) (model faults : Text) → WordsMean words (make number stages depth model faults) → stages ≤ MOST_STAGES
 asked_few words number stages depth model faults asks = by_verb asks.verb asks.makes asks.lawful
   where
-    by_verb : (v : _) → Makes asks.pairs v (make number stages depth model faults) → AreLawful (options_of v) asks.pairs → stages ≤ 64
+    by_verb : (v : _) → Makes asks.pairs v (make number stages depth model faults) → AreLawful (options_of v) asks.pairs → stages ≤ MOST_STAGES
     by_verb v (generates _ _ _ _ _ n s d m f) lawful =
-        subst (λ n. n ≤ 64) s.is (fits_given (options_of verb.Make) asks.pairs (codes "--stages") s.value (kind.Number 1 64) lawful.each s.given refl).below
+        subst (λ n. n ≤ MOST_STAGES) s.is (fits_given (options_of verb.Make) asks.pairs (codes "--stages") s.value (kind.Number 1 MOST_STAGES) lawful.each s.given refl).below
 
-asked_causes : (words : List Text) (model faults file top : Text) (depth : ℕ) (cert : Text) → WordsMean words (causes model faults file top depth cert) → depth ≤ 1000000000
+asked_causes : (words : List Text) (model faults file top : Text) (depth : ℕ) (cert : Text) → WordsMean words (causes model faults file top depth cert) → depth ≤ GREATEST_DEPTH
 asked_causes words model faults file top depth cert asks = by_verb asks.verb asks.makes asks.lawful
   where
-    by_verb : (v : _) → Makes asks.pairs v (causes model faults file top depth cert) → AreLawful (options_of v) asks.pairs → depth ≤ 1000000000
+    by_verb : (v : _) → Makes asks.pairs v (causes model faults file top depth cert) → AreLawful (options_of v) asks.pairs → depth ≤ GREATEST_DEPTH
     by_verb v (finds_causes _ _ _ _ _ _ m f c t d k) lawful =
-        subst (λ n. n ≤ 1000000000) d.is (fits_given (options_of verb.Causes) asks.pairs (codes "--depth") d.value (kind.Number 0 1000000000) lawful.each d.given refl).below
+        subst (λ n. n ≤ GREATEST_DEPTH) d.is (fits_given (options_of verb.Causes) asks.pairs (codes "--depth") d.value (kind.Number 0 GREATEST_DEPTH) lawful.each d.given refl).below
 
-asked_odds : (words : List Text) (model faults top : Text) (depth : ℕ) → WordsMean words (odds model faults top depth) → depth ≤ 1000000000
+asked_odds : (words : List Text) (model faults top : Text) (depth : ℕ) → WordsMean words (odds model faults top depth) → depth ≤ GREATEST_DEPTH
 asked_odds words model faults top depth asks = by_verb asks.verb asks.makes asks.lawful
   where
-    by_verb : (v : _) → Makes asks.pairs v (odds model faults top depth) → AreLawful (options_of v) asks.pairs → depth ≤ 1000000000
+    by_verb : (v : _) → Makes asks.pairs v (odds model faults top depth) → AreLawful (options_of v) asks.pairs → depth ≤ GREATEST_DEPTH
     by_verb v (finds_odds _ _ _ _ m f t d) lawful =
-        subst (λ n. n ≤ 1000000000) d.is (fits_given (options_of verb.Odds) asks.pairs (codes "--depth") d.value (kind.Number 0 1000000000) lawful.each d.given refl).below
+        subst (λ n. n ≤ GREATEST_DEPTH) d.is (fits_given (options_of verb.Odds) asks.pairs (codes "--depth") d.value (kind.Number 0 GREATEST_DEPTH) lawful.each d.given refl).below
 
 -- so that what is asked for can be done
 askable : (words : List Text) (a : Command) → WordsMean words (seen a) → IsAskable a

@@ -1,6 +1,7 @@
 -- No reading refuses the texts of a generated case.
-use Rattle.std.proofs.Common.{◌≡◌, ℕ, ◌≤◌, arith, true, false, List, [], length, Option, Some, None, refl, sym, ap, subst, ◌∙◌}
+use Rattle.std.proofs.Common.{◌≡◌, ℕ, ◌<◌, ◌≤◌, arith, true, false, List, [], length, Option, Some, None, refl, sym, ap, subst, ◌∙◌}
 use Rattle.std.specs.Prelude.{codes}
+use Rattle.base_values.specs.declared.limits.TheConstants.{MOST_FILE_BYTES, MOST_INSTANCES, MOST_STAGES}
 use Rattle.smv_language.specs.ProgramTree.{Text, Formula, ProgramTree}
 use Rattle.smv_language.specs.Text.{program_text}
 use Rattle.smv_language.specs.Trace.{Each}
@@ -75,11 +76,11 @@ small_has_none : (m : FlatModel) → breaches m ≡ [] → is_too_large m ≡ fa
 small_has_none m none small r item (at_an_item first is rule at) = none_among first (breaches m) none is.among
 small_has_none m none small r item (of_its_size kept large rule at) = let bad : true ≡ false = sym large ∙ small in cc
 
-module _ (number stages : ℕ) (few : stages ≤ 64) where
+module _ (number stages : ℕ) (few : stages ≤ MOST_STAGES) where
   abbrev p : ProgramTree
   p = generated_model number stages
 
-  lawful_size : stages ≤ 999
+  lawful_size : stages < MOST_INSTANCES
   lawful_size = omega (arith, few)
 
   spelled : BytesSpellProgram (program_text p) p
@@ -152,14 +153,14 @@ pub refuses_none : (P : InputFault → Type 0) (w : Wrong) → ((a : InputFault)
 refuses_none P (wrong.Refused a) none h = none a h
 refuses_none P wrong.Memory none h = tt
 
-pub text_length : (bytes : Text) → IsGeneratedText bytes → length bytes ≤ 1048576
+pub text_length : (bytes : Text) → IsGeneratedText bytes → length bytes ≤ MOST_FILE_BYTES
 text_length bytes g =
     omega (arith, generated_text_short g.of.number g.of.stages g.of.few, ap (λ (t : Text). length t) g.is, ap (λ p. length (program_text p)) g.of.is)
 
 pub text_not_wrong : (bytes : Text) → IsGeneratedText bytes → (a : InputFault) → IsWrongModel bytes a → ⊥
 text_not_wrong bytes g a h = model_not_wrong g.of.number g.of.stages g.of.few a (subst (λ b. IsWrongModel b a) (g.is ∙ ap program_text g.of.is) h)
 
-pub instructions_length : (bytes : Text) → bytes ≡ instructions_text generated_instructions → length bytes ≤ 1048576
+pub instructions_length : (bytes : Text) → bytes ≡ instructions_text generated_instructions → length bytes ≤ MOST_FILE_BYTES
 instructions_length bytes e = omega (arith, ap (λ (t : Text). length t) e, instruction_text_short)
 
 pub case_not_wrong : (p : ProgramTree) → IsOfGenerator p → (m : FlatModel) → IsLawful p m → (bytes : Text) → bytes ≡ instructions_text generated_instructions → (a : InputFault) →

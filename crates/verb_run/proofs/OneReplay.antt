@@ -1,5 +1,6 @@
 -- What the files and the top event of a replay come to is one.
 use Rattle.std.proofs.Common.{◌≡◌, List, sym, ap, subst, ◌∙◌}
+use Rattle.base_values.specs.declared.limits.TheConstants.{MOST_TRACE_BYTES}
 use Rattle.base_files.specs.declared.files.NamedFile.{NamedFile}
 use Rattle.smv_language.specs.ProgramTree.{Text}
 use Rattle.smv_language.specs.Tree.{Tree}
@@ -44,22 +45,22 @@ one_reason why.Top why.Top e = cc
 module _ (files : List NamedFile) (name : Text) (m : FlatModel) (printable : IsPrintable m) where
   one_refused_trace : (r s : Refusal) → RefusesTrace files name m r → RefusesTrace files name m s → r ≡ s
   one_refused_trace r s (trace_file a is refused) (trace_file b was also) =
-      is ∙ ap (λ f. refusal.NotAccepted (objection.Trace f)) (one_fault_above 16777216 files name a b refused also) ∙ sym was
-  one_refused_trace r s (trace_file a is refused) (trace_bytes bytes g was has bad) = absurd (no_bytes_within 16777216 files name a bytes refused has)
-  one_refused_trace r s (trace_bytes bytes f is has bad) (trace_file b was refused) = absurd (no_bytes_within 16777216 files name b bytes refused has)
+      is ∙ ap (λ f. refusal.NotAccepted (objection.Trace f)) (one_fault_above MOST_TRACE_BYTES files name a b refused also) ∙ sym was
+  one_refused_trace r s (trace_file a is refused) (trace_bytes bytes g was has bad) = absurd (no_bytes_within MOST_TRACE_BYTES files name a bytes refused has)
+  one_refused_trace r s (trace_bytes bytes f is has bad) (trace_file b was refused) = absurd (no_bytes_within MOST_TRACE_BYTES files name b bytes refused has)
   one_refused_trace r s (trace_bytes bytes f is has bad) (trace_bytes others g was holds also) =
       is
       ∙ ap (λ h. refusal.NotAccepted (objection.Trace (text_fault h)))
-      (one_fault m bytes f g bad (subst (λ t. IsFirstFault m t g) (same_bytes_within 16777216 files name others bytes holds has) also))
+      (one_fault m bytes f g bad (subst (λ t. IsFirstFault m t g) (same_bytes_within MOST_TRACE_BYTES files name others bytes holds has) also))
       ∙ sym was
 
   held_trace_not_refused : (trace : List (List Value)) (r : Refusal) → HoldsTrace files name m trace → RefusesTrace files name m r → ⊥
-  held_trace_not_refused trace r h (trace_file a is refused) = no_bytes_within 16777216 files name a h.bytes refused h.has
+  held_trace_not_refused trace r h (trace_file a is refused) = no_bytes_within MOST_TRACE_BYTES files name a h.bytes refused h.has
   held_trace_not_refused trace r h (trace_bytes bytes f is has bad) =
-      given_has_none m printable h.bytes trace f h.gives (subst (λ t. IsFirstFault m t f) (same_bytes_within 16777216 files name bytes h.bytes has h.has) bad)
+      given_has_none m printable h.bytes trace f h.gives (subst (λ t. IsFirstFault m t f) (same_bytes_within MOST_TRACE_BYTES files name bytes h.bytes has h.has) bad)
 
   one_held_trace : (t u : List (List Value)) → HoldsTrace files name m t → HoldsTrace files name m u → t ≡ u
-  one_held_trace t u h g = (one_trace m printable).1 h.bytes t u h.gives (subst (λ b. BytesGive m b u) (same_bytes_within 16777216 files name g.bytes h.bytes g.has h.has) g.gives)
+  one_held_trace t u h g = (one_trace m printable).1 h.bytes t u h.gives (subst (λ b. BytesGive m b u) (same_bytes_within MOST_TRACE_BYTES files name g.bytes h.bytes g.has h.has) g.gives)
 
 one_refused_moment : (m : FlatModel) (top : Tree FlatLeaf) (trace : List (List Value)) (r s : Refusal) → RefusesMoment m top trace r → RefusesMoment m top trace s → r ≡ s
 one_refused_moment m top trace r s (at_moment i w is stops) (at_moment j u was also) =

@@ -2,6 +2,7 @@
 use Rattle.std.proofs.Common.{arith, ◌≡◌, ⊎_elim, ◌<◌, ◌≤◌, ◌+◌, ℕ, List, Some, length, sym, ap, subst, ◌∙◌}
 use Rattle.std.specs.Prelude.{slice_get}
 use Rattle.std.proofs.lemmas.Bool.{cases_lt}
+use Rattle.base_values.specs.declared.limits.TheConstants.{MOST_TOPS}
 use Rattle.base_files.specs.declared.files.NamedFile.{NamedFile}
 use Rattle.smv_lexer.specs.declared.token.Token.{Token}
 use Rattle.smv_lexer.specs.Tokens.{HasTokens}
@@ -55,7 +56,7 @@ module _ (bytes : List ℕ) where
   list_not_wrong : (es : List Formula) (a : InputFault) → AreTopTexts bytes es → IsWrongList bytes a → ⊥
   list_not_wrong es a texts (no_list f means is) = unread es f a is means texts.text
   list_not_wrong es a texts (long_list fs text more is) =
-      let fits : length fs ≤ 64 = subst (λ (xs : List Formula). length xs ≤ 64) (one_list_text es fs texts.text text) texts.few in omega (arith, more, fits)
+      let fits : length fs ≤ MOST_TOPS = subst (λ (xs : List Formula). length xs ≤ MOST_TOPS) (one_list_text es fs texts.text text) texts.few in omega (arith, more, fits)
 
 module _ (p : ProgramTree) (accepted : IsAccepted p) where
   module _ (es : List Formula) where

@@ -1,5 +1,6 @@
 -- A later run that checks the certificate which an earlier one has written accepts it.
 use Rattle.std.proofs.Common.{◌≡◌, ℕ, ◌≤◌, List, [], ◌∷◌, map, length, Option, Some, None, IsSomeAnd, refl, sym, ap, subst, ◌∙◌}
+use Rattle.base_values.specs.declared.limits.TheConstants.{MOST_CERT_BYTES}
 use Rattle.base_files.specs.declared.files.NamedFile.{NamedFile}
 use Rattle.base_files.specs.Files.{file_of, with_file}
 use Rattle.base_files.proofs.Writing.{file_of-with_file}
@@ -76,7 +77,7 @@ kept_case before files model faults other_model other_faults c same_model same_f
 
 -- and its certificate
 module _ (m : FlatModel) (fs : List Mode) (tree : Tree FlatLeaf) (size : ℕ) (sets : List (List ℕ)) (shown : List (List (List Value))) (bytes : List ℕ) (h : IsCertificateFor m fs tree size sets shown bytes) where
-  kept_certificate : (files : List NamedFile) (name : Text) → file_of files name ≡ Some bytes → ((b : List ℕ) → file_of files name ≡ Some b → length b ≤ 268435456) → HoldsCertificate files name h.certificate
+  kept_certificate : (files : List NamedFile) (name : Text) → file_of files name ≡ Some bytes → ((b : List ℕ) → file_of files name ≡ Some b → length b ≤ MOST_CERT_BYTES) → HoldsCertificate files name h.certificate
   kept_certificate files name held within = record { bytes = bytes; has = record { held = held; short = within bytes held }; spells = h.spells }
 
 -- what a run answers whose words ask for something

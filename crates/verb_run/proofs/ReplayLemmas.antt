@@ -7,6 +7,7 @@ use Rattle.smv_language.specs.ProgramTree.{Text, ProgramTree}
 use Rattle.smv_language.specs.Tree.{Tree}
 use Rattle.smv_language.specs.Values.{Value}
 use Rattle.base_values.specs.declared.value.Value.{Value as Numbered}
+use Rattle.base_values.specs.declared.limits.TheConstants.{MOST_TRACE_BYTES}
 use Rattle.smv_language.specs.ModelTree.{model_tree}
 use Rattle.smv_flat_laws.specs.FaultModes.{mode_of}
 use Rattle.smv_language.specs.Flat.{FlatLeaf, FlatModel}
@@ -38,15 +39,15 @@ use Rattle.verb_loading.proofs.LoadedLaws.{same_counts}
 
 -- The file of a trace.
 pub refuses_trace_file : (told : Option (List NamedFile)) (name : Text) (m : FlatModel) (r : Refusal) (a : InputFault) → r ≡ refusal.NotAccepted (objection.Trace a) →
-    IfSome told (λ files. IsRefusedAbove 16777216 files name a) → IfSome told (λ files. RefusesTrace files name m r)
+    IfSome told (λ files. IsRefusedAbove MOST_TRACE_BYTES files name a) → IfSome told (λ files. RefusesTrace files name m r)
 refuses_trace_file None name m r a is refused = tt
 refuses_trace_file (Some files) name m r a is refused = trace_file a is refused
 
-module _ (told : Option (List NamedFile)) (name : Text) (m : FlatModel) (bytes : List ℕ) (has : IfSome told (λ files. HasAtMost 16777216 files name bytes)) where
+module _ (told : Option (List NamedFile)) (name : Text) (m : FlatModel) (bytes : List ℕ) (has : IfSome told (λ files. HasAtMost MOST_TRACE_BYTES files name bytes)) where
   at_first_fault : (f : TraceFault) (r : Refusal) → r ≡ refusal.NotAccepted (objection.Trace (text_fault f)) → IsFirstFault m bytes f → IfSome told (λ files. RefusesTrace files name m r)
   at_first_fault f r is first = at_told told has
     where
-      at_told : (t : Option (List NamedFile)) → IfSome t (λ files. HasAtMost 16777216 files name bytes) → IfSome t (λ files. RefusesTrace files name m r)
+      at_told : (t : Option (List NamedFile)) → IfSome t (λ files. HasAtMost MOST_TRACE_BYTES files name bytes) → IfSome t (λ files. RefusesTrace files name m r)
       at_told None has = tt
       at_told (Some files) has = trace_bytes bytes f is has first
 
@@ -59,7 +60,7 @@ module _ (told : Option (List NamedFile)) (name : Text) (m : FlatModel) (bytes :
   refuses_trace_text fault.OutOfMemory r is first = cc
 
 -- text that gives a trace
-pub holds_trace : (told : Option (List NamedFile)) (name : Text) (m : FlatModel) (bytes : List ℕ) (trace : List (List Value)) → IfSome told (λ files. HasAtMost 16777216 files name bytes) →
+pub holds_trace : (told : Option (List NamedFile)) (name : Text) (m : FlatModel) (bytes : List ℕ) (trace : List (List Value)) → IfSome told (λ files. HasAtMost MOST_TRACE_BYTES files name bytes) →
     BytesGive m bytes trace → IfSome told (λ files. HoldsTrace files name m trace)
 holds_trace None name m bytes trace has gives = tt
 holds_trace (Some files) name m bytes trace has gives = record { bytes = bytes; has = has; gives = gives }

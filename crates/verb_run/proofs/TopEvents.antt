@@ -1,6 +1,7 @@
 -- A case with a top event can be searched, and what answers a search is an analysis of it.
 use Rattle.std.proofs.Common.{arith, ◌≡◌, ◌<◌, ◌≤◌, ◌^◌, ℕ, List, [], length, map, subst, ◌∙◌}
 use Rattle.std.proofs.lemmas.List.{length-map}
+use Rattle.base_values.specs.declared.limits.TheConstants.{MOST_BITS}
 use Rattle.smv_language.specs.Tree.{Tree}
 use Rattle.smv_language.specs.ProgramTree.{Formula, ProgramTree}
 use Rattle.smv_flat_laws.specs.FaultModes.{mode_of}
@@ -30,14 +31,15 @@ use Rattle.verb_run.specs.Tables.{IsExtensible, IsEventOf}
 use Rattle.verb_loading.proofs.FlatLimits.{flat_typed}
 use Rattle.verb_loading.proofs.LoadedLaws.{same_counts}
 use Rattle.verb_loading.proofs.TopLaws.{have_models}
+use Rattle.sat_encoding_laws.specs.Variables.{most_asked_cost}
 
 module _ (p : ProgramTree) (l : LoadedCase) (is : IsExtensible p l) where
   abbrev pub case_is : Case
   case_is = case_of p l
 
   -- it has few faults
-  pub few_in_case : length l.limited.faults ≤ 4096
-  few_in_case = subst (λ n. n ≤ 4096) (length-map l.limited.faults mode_of) (few_faults case_is.flat case_is.modes is.loaded.is_case.typed.small)
+  pub few_in_case : length l.limited.faults ≤ MOST_BITS
+  few_in_case = subst (λ n. n ≤ MOST_BITS) (length-map l.limited.faults mode_of) (few_faults case_is.flat case_is.modes is.loaded.is_case.typed.small)
 
   pub counts_in_case : length (map fault_tree l.limited.woven.faults) ≡ length l.limited.faults
   counts_in_case = length-map l.limited.woven.faults fault_tree ∙ same_counts l.limited.typed.model l.limited.woven.faults l.limited.faults is.loaded.numbered
@@ -66,7 +68,7 @@ module _ (p : ProgramTree) (l : LoadedCase) (is : IsExtensible p l) where
         let c : Case = case_is in
         let h = is.loaded.is_case in
         let typed : IsTyped c.flat = flat_typed c.program is.flat c.instructions c.faults is.lawful h.taken h.are_faults c.flat h.is_flat h.within in
-        let small : cost_of tree ≤ 60000 = let cost = event_fits.small in omega (arith, cost) in
+        let small : cost_of tree ≤ most_asked_cost = let cost = event_fits.small in omega (arith, cost) in
         extensions_searchable c.program c.instructions c.faults e c.flat c.modes tree model_of_event is.loaded.writable few typed h.typed event_fits.fits small
 
     ends_by : (depth size : ℕ) (sets : List (List ℕ)) (ending : Ending) →

@@ -1,6 +1,7 @@
 -- A generated case: what it is, the files and the summary that it leaves.
 use Rattle.std.specs.Prelude.{◌≡◌, ℕ, ◌≤◌, List, Some, ◌++◌, codes, length}
 use Rattle.std.specs.Fmt.{decimal}
+use Rattle.base_values.specs.declared.limits.TheConstants.{MOST_STAGES}
 use Rattle.base_files.specs.declared.files.NamedFile.{NamedFile}
 use Rattle.base_files.specs.Files.{file_of}
 use Rattle.base_files.specs.Desk.{told_with, said_more, SaysPrefix, WritesPrefix}
@@ -26,11 +27,11 @@ pub record IsGenerated (number stages : ℕ) (c : Case) : Type 0 where
   pub program : c.program ≡ generated_model number stages
   pub instructions : c.instructions ≡ generated_instructions
 
--- a program of the generator, of at most 64 stages
+-- a program of the generator, of at most `MOST_STAGES`
 pub record IsOfGenerator (p : ProgramTree) : Type 0 where
   pub number : ℕ
   pub stages : ℕ
-  pub few : stages ≤ 64
+  pub few : stages ≤ MOST_STAGES
   pub is : p ≡ generated_model number stages
 
 -- the bytes are the text of one

@@ -1,5 +1,6 @@
 -- What a later run comes to that checks the certificate which an earlier one has written.
 use Rattle.std.specs.Prelude.{◌≡◌, ℕ, ◌≤◌, List, Option, Some, length}
+use Rattle.base_values.specs.declared.limits.TheConstants.{MOST_CERT_BYTES}
 use Rattle.base_files.specs.declared.files.NamedFile.{NamedFile}
 use Rattle.base_files.specs.Files.{file_of}
 use Rattle.smv_language.specs.ProgramTree.{Text}
@@ -21,7 +22,7 @@ pub record KeepsCertificate (before after files : List NamedFile) (model faults 
     pub model_kept : file_of files other_model ≡ file_of before model
     pub faults_kept : file_of files other_faults ≡ file_of before faults
     pub cert_kept : file_of files other_cert ≡ file_of after cert
-    pub within : (bytes : List ℕ) → file_of files other_cert ≡ Some bytes → length bytes ≤ 268435456
+    pub within : (bytes : List ℕ) → file_of files other_cert ≡ Some bytes → length bytes ≤ MOST_CERT_BYTES
 
 -- the run that answers has accepted
 abbrev pub IsAcceptedBy : List NamedFile → List Text → Type 0

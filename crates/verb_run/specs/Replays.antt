@@ -5,6 +5,7 @@ use Rattle.smv_language.specs.ProgramTree.{Text}
 use Rattle.smv_language.specs.Tree.{Tree}
 use Rattle.smv_language.specs.Values.{Value}
 use Rattle.base_values.specs.declared.value.Value.{Value as Numbered}
+use Rattle.base_values.specs.declared.limits.TheConstants.{MOST_TRACE_BYTES}
 use Rattle.smv_language.specs.Flat.{FlatLeaf, FlatModel}
 use Rattle.smv_flat_laws.specs.History.{Mode}
 use Rattle.smv_evaluation.specs.Stops as stops
@@ -40,16 +41,16 @@ text_fault (missing_value k) = record { part = part.Read; number = 4; place = k 
 
 -- the file of a trace is refused, or its text
 pub data RefusesTrace (files : List NamedFile) (name : Text) (m : FlatModel) (r : Refusal) : Type 0 where
-  trace_file : (fault : InputFault) → r ≡ refusal.NotAccepted (objection.Trace fault) → IsRefusedAbove 16777216 files name fault →
+  trace_file : (fault : InputFault) → r ≡ refusal.NotAccepted (objection.Trace fault) → IsRefusedAbove MOST_TRACE_BYTES files name fault →
       RefusesTrace files name m r
   trace_bytes : (bytes : List ℕ) (f : TraceFault) → r ≡ refusal.NotAccepted (objection.Trace (text_fault f)) →
-      HasAtMost 16777216 files name bytes → IsFirstFault m bytes f →
+      HasAtMost MOST_TRACE_BYTES files name bytes → IsFirstFault m bytes f →
       RefusesTrace files name m r
 
 -- the file holds a text that gives this trace
 pub record HoldsTrace (files : List NamedFile) (name : Text) (m : FlatModel) (trace : List (List Value)) : Type 0 where
   pub bytes : List ℕ
-  pub has : HasAtMost 16777216 files name bytes
+  pub has : HasAtMost MOST_TRACE_BYTES files name bytes
   pub gives : BytesGive m bytes trace
 
 -- the end of the work where this is wrong with the text of a trace, at a place

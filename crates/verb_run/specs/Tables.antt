@@ -1,6 +1,7 @@
 -- The file of top events, and the table of their analyses. As the shown traces of an analysis are free, what answers is a relation
 -- between a case with its events and what stands; its text is one all the same, since a table tells sets and endings alone.
 use Rattle.std.specs.Prelude.{◌≡◌, ◌⊎◌, ℕ, ◌+◌, ◌≤◌, ◌<◌, List, [], ◌∷◌, Some, All, Contains, length, map, slice_get}
+use Rattle.base_values.specs.declared.limits.TheConstants.{MOST_TOPS}
 use Rattle.base_files.specs.declared.files.NamedFile.{NamedFile}
 use Rattle.base_files.specs.Desk.{said_more, SaysPrefix}
 use Rattle.smv_language.specs.Tree.{Tree}
@@ -38,9 +39,9 @@ use Rattle.verb_loading.specs.CaseAnswers.{Told, Said, faults_text, bits_of}
 use Rattle.cut_model_search.specs.CaseAnalysis.{IsFound}
 use Rattle.smv_language.specs.Trace.{EachBoth}
 
--- there are more than 64
+-- there are more than `MOST_TOPS`
 abbrev pub too_many_tops : InputFault
-too_many_tops = record { part = part.Count; number = 1; place = 65 }
+too_many_tops = record { part = part.Count; number = 1; place = MOST_TOPS + 1 }
 
 -- the bytes spell these expressions and no others, within the depths
 pub record IsListText (bytes : List ℕ) (es : List Formula) : Type 0 where
@@ -48,16 +49,16 @@ pub record IsListText (bytes : List ℕ) (es : List Formula) : Type 0 where
   pub only : (fs : List Formula) → BytesSpellExpressions bytes fs → es ≡ fs
   pub depths : HaveDepths bytes es
 
--- and at most 64
+-- and at most `MOST_TOPS`
 pub record AreTopTexts (bytes : List ℕ) (es : List Formula) : Type 0 where
   pub text : IsListText bytes es
-  pub few : length es ≤ 64
+  pub few : length es ≤ MOST_TOPS
 
 -- the bytes spell no expressions within the depths, or too many
 pub data IsWrongList (bytes : List ℕ) (fault : InputFault) : Type 0 where
   no_list : (f : ParseFault) → FaultMeans IsExpressions (AreTooDeep bytes) bytes f → wrong.Refused fault ≡ parse_wrong f →
       IsWrongList bytes fault
-  long_list : (es : List Formula) → IsListText bytes es → 64 < length es → fault ≡ too_many_tops → IsWrongList bytes fault
+  long_list : (es : List Formula) → IsListText bytes es → MOST_TOPS < length es → fault ≡ too_many_tops → IsWrongList bytes fault
 
 -- the first that is no top event of the program, told at its number, from 1 on
 pub record IsFirstNoTop (p : ProgramTree) (es : List Formula) (fault : InputFault) : Type 0 where

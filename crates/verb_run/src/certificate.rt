@@ -12,6 +12,7 @@ ghost use Rattle.verb_loading.specs.declared.status.Refusal.{Refusal};
 ghost use Rattle.verb_loading.specs.declared.input.Stop.TheVariants as stop;
 
 use base_files::Desk;
+use base_values::limits::MOST_SYMBOLS;
 use base_values::{ByteList, OutOfMemory};
 use cert_check::{Judged, check};
 use cert_file::certificate::{accepted_report, line_stop, load_certificate};
@@ -20,9 +21,6 @@ use std::alloc::Global;
 use verb_loading::event::LoadedEvent;
 use verb_loading::input::Stop;
 use verb_loading::status::Refusal;
-
-/// A judgement gives each symbol a number below this. That a model of two files within their limits has fewer is not proved.
-const MOST_SYMBOLS: usize = 2_147_483_648;
 
 /// Judges the certificate of a file over the extension, for its top event, and makes what is to be said of it.
 pub fn check_file<D: Desk>(

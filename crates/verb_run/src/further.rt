@@ -2,6 +2,7 @@
 //!
 //! Each function here calls the crate of its verb, which reads, searches, writes and says, and says the line of what that refuses.
 ghost use Rattle.std.specs.Prelude.{◌≡◌, ◌≤◌};
+ghost use Rattle.base_values.specs.declared.limits.TheConstants.{GREATEST_DEPTH};
 ghost use Rattle.base_files.specs.Desk.{IsLater, Rose};
 ghost use Rattle.verb_command_line.specs.declared.command.Command.TheVariants as ask;
 ghost use Rattle.verb_command_line.specs.CommandView.{seen};
@@ -27,7 +28,7 @@ pub(crate) fn causes<D: Desk>(
     asked: &FindCauses,
     panel: &mut Panel,
 ) -> Status
-    requires { asked.now.depth ≤ 1000000000 }
+    requires { asked.now.depth ≤ GREATEST_DEPTH }
     ensures answered { IsCarriedOut (seen (ask.Causes asked.now)) result
         (D.told desk.old).files (D.told desk.new).files (D.told desk.old).said (D.told desk.new).said }
     ensures left { IsLeftInPart (seen (ask.Causes asked.now))
@@ -96,7 +97,7 @@ pub(crate) fn odds<D: Desk>(
     asked: &FindOdds,
     panel: &mut Panel,
 ) -> Status
-    requires { asked.now.depth ≤ 1000000000 }
+    requires { asked.now.depth ≤ GREATEST_DEPTH }
     ensures answered { IsCarriedOut (seen (ask.Odds asked.now)) result
         (D.told desk.old).files (D.told desk.new).files (D.told desk.old).said (D.told desk.new).said }
     ensures left { IsLeftInPart (seen (ask.Odds asked.now))

@@ -3,6 +3,7 @@
 //! The case is read back from the two texts that are written, so that all that is known of a case from files is known of it, and
 //! the files hold it. The reading refuses none of them, so that it ends for want of memory alone.
 ghost use Rattle.std.specs.Prelude.{◌≡◌, ◌≤◌, ◌++◌, IfOk, OnOk, IsErrOf};
+ghost use Rattle.base_values.specs.declared.limits.TheConstants.{MOST_STAGES};
 ghost use Rattle.base_files.specs.Desk.{IsLater, Rose};
 ghost use Rattle.base_files.specs.declared.desk.WriteStop.TheVariants as write_stop;
 ghost use Rattle.smv_language.specs.ProgramTree.{program_tree};
@@ -69,7 +70,7 @@ pub struct Summary {
 
 /// Generates a case of a number and so many stages.
 pub fn generate(alloc: Global, number: u32, stages: u32) -> Result<Generated, OutOfMemory>
-    requires { stages ≤ 64 }
+    requires { stages ≤ MOST_STAGES }
     ensures event { IfOk result (λ g. IsEvent dead_word g.loaded) }
     ensures program { IfOk result (λ g. (case_in g.loaded).program ≡ generator.generated_model number stages) }
     ensures instructions { IfOk result (λ g. (case_in g.loaded).instructions ≡ generator.generated_instructions) }

@@ -32,6 +32,7 @@ ghost use Rattle.verb_loading.specs.declared.wrong.Wrong.{Wrong};
 ghost use Rattle.smv_flat_laws.specs.ValueRules.{KeepsValue};
 
 use base_files::{Desk, DeskFault, WriteStop, read_whole, say_whole};
+use base_values::limits::{MOST_FILE_BYTES, MOST_TOPS};
 use base_values::{Dotted, Ending, Items, OutOfMemory};
 use cut_frames::Frames;
 use cut_model_search::{FaultyModel, size_of, told};
@@ -49,12 +50,6 @@ use verb_loading::model::{LoadedModel, load_model};
 use verb_loading::status::{InputFault, Part, Refusal, Status};
 use verb_loading::top::{judge_top, over_extension, top_stop};
 use verb_loading::wrong::Wrong;
-
-/// The limit of a file of top events, in bytes.
-const LIMIT: u64 = 1_048_576;
-
-/// The most top events of a file.
-const MOST_TOPS: usize = 64;
 
 /// Top events as a file spells them, and over the flat model of an extension.
 #[derive(Drop)]
@@ -128,16 +123,16 @@ pub(crate) fn load_tops<D: Desk>(
 /// The bytes of the file of top events.
 fn read_tops<D: Desk>(alloc: Global, desk: &mut D, name: &str) -> Result<Vec<u8>, Stop>
     ensures bytes { IfOk result (λ bytes. IfSome (D.told desk.old).files (λ files. HasBytes files name.now bytes.items)) }
-    ensures short { IfOk result (λ bytes. length bytes.items ≤ 1048576) }
+    ensures short { IfOk result (λ bytes. length bytes.items ≤ MOST_FILE_BYTES) }
     ensures refused { (r : Refusal) → IsErrOf result (stop.Refused r) →
         (fault : InputFault) × (r ≡ refusal.Top fault) × IfSome (D.told desk.old).files (λ files. IsRefusedFile files name.now fault) }
     ensures failed { IsErrOf result stop.Desk → Rose (D.told desk.old).faults (D.told desk.new).faults }
     ensures stays { OnlyReads (D.told desk.old) (D.told desk.new) }
 {
-    match read_whole(alloc, desk, name, LIMIT) {
+    match read_whole(alloc, desk, name, MOST_FILE_BYTES) {
         Ok(bytes) => Ok(bytes),
         Err(DeskFault::Absent) => Err(file_stop(Part::Absent, 1, 0)),
-        Err(DeskFault::TooLong) => Err(file_stop(Part::Length, 1, LIMIT)),
+        Err(DeskFault::TooLong) => Err(file_stop(Part::Length, 1, MOST_FILE_BYTES)),
         Err(DeskFault::Failed) => Err(Stop::Desk),
         Err(DeskFault::OutOfMemory) => Err(Stop::Memory),
     }
@@ -161,7 +156,7 @@ fn tops_of(
     model: &LoadedModel,
     case: &LoadedCase,
 ) -> Result<Tops, Wrong>
-    requires length { length bytes.now ≤ 1048576 }
+    requires length { length bytes.now ≤ MOST_FILE_BYTES }
     requires lawful { IsLawful (program_tree model.now.program) (model_tree model.now.typed.model) }
     requires loaded { IsLoaded (program_tree model.now.program) case.now }
     ensures text { IfOk result (λ t. AreTopTexts bytes.now (map tree_of t.written)) }
@@ -178,7 +173,7 @@ fn tops_of(
 
 /// The expressions that the bytes spell, where they are not too many.
 fn written_tops(alloc: Global, bytes: &[u8]) -> Result<ExprList<Dotted>, Wrong>
-    requires { length bytes.now ≤ 1048576 }
+    requires { length bytes.now ≤ MOST_FILE_BYTES }
     ensures ok { IfOk result (λ es. AreTopTexts bytes.now (map tree_of es)) }
     ensures wrong { IfErr result (IfRefused (IsWrongList bytes.now)) }
 {
@@ -187,7 +182,7 @@ fn written_tops(alloc: Global, bytes: &[u8]) -> Result<ExprList<Dotted>, Wrong>
         return Err(Wrong::Refused(InputFault {
             part: Part::Count,
             number: 1,
-            place: 65,
+            place: MOST_TOPS as u64 + 1,
         }));
     }
     Ok(written)
@@ -196,7 +191,7 @@ fn written_tops(alloc: Global, bytes: &[u8]) -> Result<ExprList<Dotted>, Wrong>
 /// Refuses the first expression that is no top event of the model, at its number from 1.
 fn judge_tops(alloc: Global, model: &LoadedModel, tops: &[Expr<Dotted>]) -> Result<(), Wrong>
     requires lawful { IsLawful (program_tree model.now.program) (model_tree model.now.typed.model) }
-    requires few { length tops.now ≤ 64 }
+    requires few { length tops.now ≤ MOST_TOPS }
     ensures ok { OnOk result (Each (IsTop (program_tree model.now.program)) (map tree_of tops.now)) }
     ensures wrong { IfErr result (IfRefused (IsFirstNoTop (program_tree model.now.program) (map tree_of tops.now))) }
 {

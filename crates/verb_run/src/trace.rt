@@ -17,14 +17,12 @@ ghost use Rattle.cert_check.specs.Moments.{CanBeReplayed};
 
 use base_files::{Desk, DeskFault, read_whole};
 use base_values::MomentList;
+use base_values::limits::MOST_TRACE_BYTES;
 use cut_report::{TraceFault, read_trace};
 use smv_types::Typed;
 use std::alloc::Global;
 use verb_loading::input::Stop;
 use verb_loading::status::{InputFault, Objection, Part, Refusal};
-
-/// The limit of the file of a trace, in bytes.
-const TRACE_LIMIT: u64 = 16_777_216;
 
 /// The moments that the file of a trace gives, over the flat model of an extension.
 pub(crate) fn load_trace<D: Desk>(
@@ -52,18 +50,18 @@ pub(crate) fn load_trace<D: Desk>(
 
 /// The bytes of the file of a trace.
 fn read_trace_file<D: Desk>(alloc: Global, desk: &mut D, name: &str) -> Result<Vec<u8>, Stop>
-    ensures bytes { IfOk result (λ bytes. IfSome (D.told desk.old).files (λ files. HasAtMost 16777216 files name.now bytes.items)) }
-    ensures short { IfOk result (λ bytes. length bytes.items ≤ 16777216) }
+    ensures bytes { IfOk result (λ bytes. IfSome (D.told desk.old).files (λ files. HasAtMost MOST_TRACE_BYTES files name.now bytes.items)) }
+    ensures short { IfOk result (λ bytes. length bytes.items ≤ MOST_TRACE_BYTES) }
     ensures refused { (r : Refusal) → IsErrOf result (stop.Refused r) →
         (fault : InputFault) × (r ≡ refusal.NotAccepted (objection.Trace fault))
-        × IfSome (D.told desk.old).files (λ files. IsRefusedAbove 16777216 files name.now fault) }
+        × IfSome (D.told desk.old).files (λ files. IsRefusedAbove MOST_TRACE_BYTES files name.now fault) }
     ensures failed { IsErrOf result stop.Desk → Rose (D.told desk.old).faults (D.told desk.new).faults }
     ensures stays { OnlyReads (D.told desk.old) (D.told desk.new) }
 {
-    match read_whole(alloc, desk, name, TRACE_LIMIT) {
+    match read_whole(alloc, desk, name, MOST_TRACE_BYTES) {
         Ok(bytes) => Ok(bytes),
         Err(DeskFault::Absent) => Err(trace_stop(Part::Absent, 1, 0)),
-        Err(DeskFault::TooLong) => Err(trace_stop(Part::Length, 1, TRACE_LIMIT)),
+        Err(DeskFault::TooLong) => Err(trace_stop(Part::Length, 1, MOST_TRACE_BYTES)),
         Err(DeskFault::Failed) => Err(Stop::Desk),
         Err(DeskFault::OutOfMemory) => Err(Stop::Memory),
     }

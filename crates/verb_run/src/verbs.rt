@@ -3,6 +3,7 @@
 //! Each has two halves: `prepare_..` reads its files, tries every refusal, and changes nothing; what follows writes and says, and
 //! refuses nothing. The main function is `carry_out`, which takes the verbs of `further` too.
 ghost use Rattle.std.specs.Prelude.{◌≡◌, ◌≤◌, IfOk, IfSome, IsErrOf};
+ghost use Rattle.base_values.specs.declared.limits.TheConstants.{MOST_STAGES};
 ghost use Rattle.base_files.specs.Desk.{OnlyReads, IsLater, Rose};
 ghost use Rattle.verb_loading.specs.declared.status.Refusal.{Refusal};
 ghost use Rattle.verb_loading.specs.declared.input.Stop.TheVariants as stops;
@@ -151,7 +152,7 @@ fn tabulate<D: Desk>(alloc: Global, desk: &mut D, asked: &Fmea, panel: &mut Pane
 
 /// Generates a case, writes it, searches it, and says its line.
 fn make_case<D: Desk>(alloc: Global, desk: &mut D, asked: &Make, panel: &mut Panel) -> Status
-    requires { asked.now.stages ≤ 64 }
+    requires { asked.now.stages ≤ MOST_STAGES }
     ensures answered { IsCarriedOut (seen (ask.Make asked.now)) result
         (D.told desk.old).files (D.told desk.new).files (D.told desk.old).said (D.told desk.new).said }
     ensures left { IsLeftInPart (seen (ask.Make asked.now))
@@ -253,7 +254,7 @@ fn prepare_table<D: Desk>(alloc: Global, desk: &mut D, asked: &Fmea) -> Result<T
 
 /// Generates a case, with where its files go.
 fn prepare_made<'a>(alloc: Global, asked: &Make<'a>) -> Result<Making<'a>, OutOfMemory>
-    requires { asked.now.stages ≤ 64 }
+    requires { asked.now.stages ≤ MOST_STAGES }
     ensures ok { IfOk result (λ m. MakeComesTo asked.now.number asked.now.stages asked.now.depth asked.now.model.now asked.now.faults.now
         (makes (made_case m) m.stages m.depth m.model.now m.faults.now)) }
     ensures making { IfOk result IsMaking }

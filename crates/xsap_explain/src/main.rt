@@ -9,6 +9,7 @@
 //! ```
 #![tactic(auto)]
 
+use base_values::limits::MOST_CERT_BYTES;
 use smv_lexer::OutOfMemory;
 use std::alloc::{AllocError, Global};
 use std::io::{ErrorKind, Read};
@@ -20,9 +21,6 @@ use xsap_refusals::{Explanation, look_up, read_refusal};
 
 /// No line of a refusal has so many bytes.
 const LONGEST_LINE: u64 = 256;
-
-/// The program reads no longer file.
-const LONGEST_FILE: u64 = 268_435_456;
 
 /// How a run ends, by the number that the system gets; from 7 on as for `xsap_program`.
 #[derive(Clone, Copy)]
@@ -163,7 +161,7 @@ fn explained<R: Files + Print>(
 fn bytes_of<R: Files>(rt: &R, alloc: Global, name: &str) -> io::Result<Vec<u8>> {
     let mut bytes = Vec::new(alloc);
     std::fs::open(rt, name)?
-        .take(LONGEST_FILE)
+        .take(MOST_CERT_BYTES)
         .read_to_end(&mut bytes)?;
     Ok(bytes)
 }

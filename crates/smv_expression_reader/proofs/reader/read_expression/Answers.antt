@@ -1,11 +1,11 @@
 use Rattle.std.proofs.Common.{◌≡◌, ◌≤◌, Some, true, false, subst}
 use Rattle.std.proofs.lemmas.Result.{IfOk-weaker}
+use Rattle.base_values.specs.declared.limits.TheConstants.{MOST_HEIGHT}
 use Rattle.smv_language.specs.Tree.{height_of}
 use Rattle.smv_language.specs.ExpressionTree.{tree_of}
 use Rattle.smv_language.specs.Bytes.{BytesSpellExpr, HasDepths}
 use Rattle.smv_language.specs.ProgramTree.{Formula}
 use Rattle.smv_language.specs.Lexemes.{lexemes_of}
-use Rattle.smv_language.specs.Limits.{deepest}
 use Rattle.smv_expression_reader.specs.Recogniser as machine
 use Rattle.smv_expression_reader.specs.TreeBuilder.{built}
 use Rattle.smv_expression_reader.specs.Extents.{is_deep}
@@ -23,7 +23,7 @@ returns-clause-spelled c =
 pub returns-clause-depths : goal.returns-clause-depths
 returns-clause-depths c =
     let low : is_deep machine.start (lexemes_of c.args.bytes.now c.args.tokens.now) ≡ false = subst (λ ts. is_deep machine.start ts ≡ false) c.requires.same c.in_ok-check_expression.ensures.flat in
-    IfOk-weaker c.make_expression.result (λ e. height_of (tree_of e) ≤ deepest) (λ e. HasDepths c.args.bytes.now (tree_of e))
+    IfOk-weaker c.make_expression.result (λ e. height_of (tree_of e) ≤ MOST_HEIGHT) (λ e. HasDepths c.args.bytes.now (tree_of e))
     (λ e within. expression_depths c.args.bytes.now c.args.tokens.now (tree_of e) c.requires.only low within) c.make_expression.ensures.within
 
 pub returns-clause-only : goal.returns-clause-only

@@ -1,6 +1,7 @@
 use Rattle.std.proofs.Common.{[], ◌≤◌, length, false, map, sym, subst}
 use Rattle.std.proofs.lemmas.Result.{err_from_is_err_and}
 use Rattle.std.proofs.lemmas.List.{length-map}
+use Rattle.base_values.specs.declared.limits.TheConstants.{MOST_TOPS}
 use Rattle.smv_language.specs.ProgramTree.{program_tree}
 use Rattle.smv_language.specs.Trace.{Each, EachBoth}
 use Rattle.smv_language.specs.ExpressionTree.{tree_of}
@@ -28,7 +29,7 @@ returns-in_err-written-clause-wrong c =
 
 pub judge_tops-requires-clause-few : goal.judge_tops-requires-clause-few
 judge_tops-requires-clause-few c =
-    subst (λ xs. length xs ≤ 64) (sym c.as_slice.ensures) (subst (λ n. n ≤ 64) (length-map c.in_ok-written.written tree_of) c.in_ok-written.ensures.ok.few)
+    subst (λ xs. length xs ≤ MOST_TOPS) (sym c.as_slice.ensures) (subst (λ n. n ≤ MOST_TOPS) (length-map c.in_ok-written.written tree_of) c.in_ok-written.ensures.ok.few)
 
 pub returns-in_err-judge_tops-clause-wrong : goal.returns-in_err-judge_tops-clause-wrong
 returns-in_err-judge_tops-clause-wrong c =
