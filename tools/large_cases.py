@@ -8,10 +8,10 @@ import random
 import re
 
 from large_texts import (
-    ALL, ANY, CERTIFICATE_BYTES, DEEP, HELD_COST, HIGHEST, LAMP, LOST, MODEL_BYTES, MOST_BITS, MOST_COST, MOST_FAULTS, MOST_TOPS, SLICE_COST,
-    STUCK, TOP_BYTES, TRACE_BYTES, analyse, becomes, causes, check, check_causes, check_orders, definitions, downs, each, each_line, edited,
-    extend, faults_said, filled, fmea, low, make, odds, orders, rename, replay, report, sets_said, singles, slice_text, unit_names, units, woven,
-    wrote)
+    ALL, ANY, CERTIFICATE_BYTES, DEEP, HELD_COST, HIGHEST, LAMP, LOST, MODEL_BYTES, MOST_BITS, MOST_COST, MOST_FAULTS, MOST_MODES,
+    MOST_TOPS, SLICE_COST, STUCK, TOP_BYTES, TRACE_BYTES, analyse, becomes, causes, check, check_causes, check_orders, definitions, downs,
+    each, each_line, edited, extend, faults_said, filled, fmea, low, make, odds, orders, rename, replay, report, sets_said, singles,
+    slice_text, unit_names, units, woven, wrote)
 
 CASES = {}
 
@@ -240,12 +240,12 @@ def sizes():
 def modes():
     modes_of = lambda count: [(f"m{i}", "Permanent StuckAt(TRUE)", "", "TRUE", "") for i in range(1, count + 1)]
     instructions = lambda count: f"EXTENSION OF MODULE main\n{slice_text('S', 'x', modes_of(count))}"
-    names = [f"S.m{i}" for i in range(1, MOST_FAULTS + 1)]
-    made = LAMP.replace("  x :=", "  x#nominal :=") + woven("S", "x", "boolean", modes_of(MOST_FAULTS))
-    return {"m": LAMP, "f": instructions(MOST_FAULTS)}, [
-        extend(0, faults_said(names) + "extended\n"), wrote("x", made), analyse("x", 0, report(names, singles(MOST_FAULTS))),
-        analyse("x", 1, report(names, singles(MOST_FAULTS), f"bounded 1 bits {2 + MOST_FAULTS.bit_length() + MOST_FAULTS}\n"), 1),
-        becomes("f", instructions(MOST_FAULTS + 1)), extend(4, "refused faults weave 9 at 259\n")]
+    names = [f"S.m{i}" for i in range(1, MOST_MODES + 1)]
+    made = LAMP.replace("  x :=", "  x#nominal :=") + woven("S", "x", "boolean", modes_of(MOST_MODES))
+    return {"m": LAMP, "f": instructions(MOST_MODES)}, [
+        extend(0, faults_said(names) + "extended\n"), wrote("x", made), analyse("x", 0, report(names, singles(MOST_MODES))),
+        analyse("x", 1, report(names, singles(MOST_MODES), f"bounded 1 bits {2 + MOST_MODES.bit_length() + MOST_MODES}\n"), 1),
+        becomes("f", instructions(MOST_MODES + 1)), extend(4, "refused faults weave 9 at 259\n")]
 
 
 def six_modes(i):

@@ -8,7 +8,7 @@ Where the text of a written extension is compared, the model is written as the p
 """
 DEEP = 1_000_000_000
 MODEL_BYTES, TRACE_BYTES, CERTIFICATE_BYTES, TOP_BYTES = 1 << 20, 1 << 24, 1 << 28, 1 << 16
-MOST_BITS, MOST_COST, MOST_FAULTS, MOST_TOPS, HIGHEST = 4096, 50_000, 256, 64, 1000
+MOST_BITS, MOST_COST, MOST_FAULTS, MOST_MODES, MOST_TOPS, HIGHEST = 4096, 50_000, 256, 256, 64, 1000
 FILES = ["--model", "m", "--faults", "f"]
 # What a boolean that is held by `:=` costs, and what a slice with one permanent mode and no guard adds, with the bit of its fault.
 HELD_COST, SLICE_COST = 3, 46
