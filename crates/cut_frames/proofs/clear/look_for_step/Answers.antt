@@ -37,16 +37,16 @@ ask-requires-clause-up_to g c =
 pub ask-requires-clause-apart : goal.ask-requires-clause-apart
 ask-requires-clause-apart g c = let assumed : c.as_slice-2.result.now ≡ literals_from (c.args.at.system.now.state_bits + 2) c.args.state.now = grind (arith, common_steps) in subst HasNoOpposites (sym assumed) (literals_apart (c.args.at.system.now.state_bits + 2) c.args.state.now)
 
-pub returns-in-Sat-clause-look : goal.returns-in-Sat-clause-look
-returns-in-Sat-clause-look g c =
+pub returns-in_ok-moment-in-Sat-clause-look : goal.returns-in_ok-moment-in-Sat-clause-look
+returns-in_ok-moment-in-Sat-clause-look g c =
     let assumed : c.as_slice-2.result.now ≡ literals_from (c.args.at.system.now.state_bits + 2) c.args.state.now = grind (arith, common_steps) in
     let both = before_deeper c.args.at.system.now (frames_of c.args.at.frames.now) (c.args.at.level - 1) c.requires.kept.bad c.args.state.now c.in-Sat.values c.in_ok-moment-in-Sat.moment c.requires.at.framed.framed c.requires.state
     (sat_told c.args.at.system.now c.requires.kept.bad (frames_of c.args.at.frames.now) Step (c.args.at.level - 1) c.as_slice-2.result.now (literals_from (c.args.at.system.now.state_bits + 2) c.args.state.now) c.in_ok-values.field-0 c.in-Sat.values assumed c.in-Sat.is
     (c.in_ok-values.ensures.verdict (apart_system c.args.at.system.now) (apart_list (places_of c.args.at.system.now) c.requires.kept.bad) (frames_of c.args.at.frames.now) c.requires.kept.kept)) c.in_ok-moment-in-Sat.ensures in
     (c.requires.at.some, both.0, both.1)
 
-pub returns-in-Sat-clause-asked : goal.returns-in-Sat-clause-asked
-returns-in-Sat-clause-asked g c = c.in_ok-values.ensures.asked
+pub returns-in_ok-moment-in-Sat-clause-asked : goal.returns-in_ok-moment-in-Sat-clause-asked
+returns-in_ok-moment-in-Sat-clause-asked g c = c.in_ok-values.ensures.asked
 
 pub join-requires : goal.join-requires
 join-requires g c =
@@ -73,8 +73,8 @@ blocking-requires-clause-cores g c =
 pub blocking-requires-clause-kept : goal.blocking-requires-clause-kept
 blocking-requires-clause-kept g c = holds_stays c.args.at.system.now (frames_of c.args.at.frames.now) c.args.kept.now c.ask.new.self c.requires.kept c.in_ok-values.ensures.asked
 
-pub returns-clause-look : goal.returns-clause-look
-returns-clause-look g c = c.in_ok-clause-in-Unsat.ensures.blocks
+pub returns-in_ok-clause-in-Unsat-clause-look : goal.returns-in_ok-clause-in-Unsat-clause-look
+returns-in_ok-clause-in-Unsat-clause-look g c = c.in_ok-clause-in-Unsat.ensures.blocks
 
-pub returns-clause-asked : goal.returns-clause-asked
-returns-clause-asked g c = asked_more c.args.kept.now c.ask.new.self c.blocking.new.kept c.in_ok-values.ensures.asked c.in_ok-clause-in-Unsat.ensures.asked
+pub returns-in_ok-clause-in-Unsat-clause-asked : goal.returns-in_ok-clause-in-Unsat-clause-asked
+returns-in_ok-clause-in-Unsat-clause-asked g c = asked_more c.args.kept.now c.ask.new.self c.blocking.new.kept c.in_ok-values.ensures.asked c.in_ok-clause-in-Unsat.ensures.asked
