@@ -3,6 +3,7 @@
 //! [`FaultyModel`] is the one type that carries these. Contracts see its flat model, its faults and its top event, of which
 //! `specs/FaultyModels.antt` speaks; that they can be searched, and that the model with history belongs to them, holds of every one.
 ghost use Rattle.std.specs.Prelude.{◌≡◌, ◌≤◌, ◌<◌, ◌^◌, IfOk, OnOk, IsOk, length, map};
+ghost use Rattle.base_values.specs.declared.limits.TheConstants.{MOST_BITS};
 ghost use Rattle.smv_language.specs.ModelTree.{model_tree, flat_tree};
 ghost use Rattle.smv_flat_laws.specs.FaultModes.{mode_of};
 ghost use Rattle.smv_flat_laws.specs.History.{with_history};
@@ -131,7 +132,7 @@ impl<'a> FaultyModel<'a> {
     /// The number of the faults.
     pub(crate) fn count(&self) -> u32
         ensures count { result ≡ length (modes_in self.now) }
-        ensures few { result ≤ 4096 }
+        ensures few { result ≤ MOST_BITS }
     {
         self.can_be_searched();
         self.listed().len() as u32

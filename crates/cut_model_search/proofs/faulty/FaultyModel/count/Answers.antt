@@ -1,4 +1,5 @@
 use Rattle.std.proofs.Common.{◌≤◌, ◌≡◌, length, ap, sym, ◌∙◌, subst, arith}
+use Rattle.base_values.specs.declared.limits.TheConstants.{MOST_BITS}
 use Rattle.std.proofs.lemmas.List.{length-map}
 use Rattle.smv_flat_laws.specs.FaultModes.{mode_of}
 use Rattle.cut_model_search.specs.FaultyModels.{modes_in}
@@ -15,4 +16,4 @@ overflow_cast-result c =
 pub returns : goal.returns
 returns c =
     let is : c.len.result ≡ length (modes_in c.args.self.now) = c.len.ensures ∙ ap length c.listed.ensures ∙ sym (length-map c.args.self.now.faults mode_of) in
-    record { count = is; few = subst (λ n. n ≤ 4096) (sym is) (few c.args.self.now c.can_be_searched.ensures) }
+    record { count = is; few = subst (λ n. n ≤ MOST_BITS) (sym is) (few c.args.self.now c.can_be_searched.ensures) }
