@@ -5,7 +5,6 @@ ghost use Rattle.std.specs.Prelude.{◌≡◌, ◌<◌, ◌-◌, true, false, []
 ghost use Rattle.cut_frames.specs.OwnVariables.{IsKept};
 ghost use Rattle.cut_frames.specs.Chain.{State, InFrame};
 ghost use Rattle.cut_frames.specs.FrameLists.{frame_at, InNumber, IsInductive};
-ghost use Rattle.cut_frames.specs.LastingClauses.{AreLasting};
 ghost use Rattle.cut_frames.specs.Levels.{frames_of, IsLevelled, IsTightened};
 
 use crate::clear::block;

@@ -11,6 +11,7 @@ ghost use Rattle.smv_type_laws.specs.Costs.{state_bits};
 ghost use Rattle.cut_search_laws.specs.Searchable.{IsSearchable};
 ghost use Rattle.cut_model_search.specs.FaultyModels.{faulty_of, faulty_case, modes_in, whole_in, history_in, CanBeSearched};
 
+use base_values::limits::MOST_SYMBOLS;
 use base_values::{Items, OutOfMemory};
 use sat_clauses::lit::Lit;
 use sat_encoding::history_literals;
@@ -20,9 +21,6 @@ use smv_types::Typed;
 use std::alloc::Global;
 use std::marker::Model;
 use verb_loading::loaded::LoadedCase;
-
-/// A search gives each symbol a number below this. A model of two files within their limits has far fewer.
-const MOST_SYMBOLS: usize = 2_147_483_648;
 
 /// A model, its faults, and a top event that can be searched for.
 #[derive(Drop)]

@@ -9,7 +9,6 @@ ghost use Rattle.cut_model_search.specs.FaultyModels.{whole_in, AnswersSearch};
 
 use crate::faulty::FaultyModel;
 use base_values::OutOfMemory;
-use base_values::limits::MOST_SYMBOLS;
 use cut_frames::Frames;
 use cut_search::answer::Analysis;
 use cut_search::search::{analyse, frames_of};

@@ -4,7 +4,6 @@
 ghost use Rattle.std.specs.Prelude.{◌≡◌, IfOk};
 
 use base_values::{Ending, Items, OutOfMemory, SetList};
-use std::alloc::Global;
 
 /// What an analysis found for a top event: the sets that reach it, and how it ended.
 #[derive(Drop)]

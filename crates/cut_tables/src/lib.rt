@@ -21,9 +21,7 @@ mod entries;
 mod print;
 mod rows;
 
-pub use columns::{
-    Column, ColumnList, EndingList, EntryList, EntryRows, FmeaTable, TableEntry,
-};
+pub use columns::{Column, ColumnList, EndingList, EntryList, EntryRows, FmeaTable, TableEntry};
 pub use entries::table;
 pub use print::print_table;
 

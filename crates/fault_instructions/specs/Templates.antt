@@ -3,7 +3,6 @@ use Rattle.std.specs.Prelude.{nat_abs, ℤ, pos, negsuc, suc, nat_eq, true, fals
 use Rattle.base_values.specs.declared.limits.TheConstants.{GREATEST_NUMBER}
 use Rattle.smv_language.specs.declared.expr.Op.TheVariants as op
 use Rattle.smv_language.specs.declared.program.Member.{Member}
-use Rattle.smv_language.specs.declared.program.Member.TheVariants as member
 use Rattle.smv_language.specs.declared.program.Section.{Section}
 use Rattle.smv_language.specs.Tree.{Trees, truth as is_truth, number as is_number, leaf, not_of, negate, next_of, binary, choice, set_of}
 use Rattle.smv_language.specs.Tree.{span, no_tree, tree_then, trees_from}

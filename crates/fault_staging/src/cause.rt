@@ -4,7 +4,6 @@
 ghost use Rattle.std.specs.Prelude.{◌≡◌, IfOk};
 
 use base_values::{FaultSet, Items, Name, OutOfMemory};
-use std::alloc::Global;
 
 /// Common causes, in the order of their file.
 pub type CauseList = Items<Cause>;

@@ -1,10 +1,10 @@
 -- Steps of the loops that mark variables and count what is not marked.
 use Rattle.std.proofs.Common.{◌≡◌, ◌⊎◌, inl, inr, ℕ, ◌+◌, ◌-◌, ◌<◌, ◌≤◌, Bool, true, false, IsTrue, List, [], ◌∷◌, ◌++◌, length, get_or, set, take, drop, All, sym, ap, ◌∙◌, subst, arith}
 use Rattle.std.proofs.lemmas.Bool.{cases_eq, cases_lt}
-use Rattle.std.proofs.lemmas.List.{append-nil, append_assoc, drop_more, drop_all, get_or-set_same, get_or-set_other, get_or_append_left, get_or_past, take_all}
+use Rattle.std.proofs.lemmas.List.{get_or-set_same, get_or-set_other, get_or_append_left, get_or_past, take_all}
 use Rattle.std.proofs.lemmas.List.Elements.{All-more, All-weaker, All-nil}
 use Rattle.sat_clauses.specs.Literal.{Literal}
-use Rattle.sat_simplify.specs.CompactNumbers.{KeepsMarks, IsMarked, HasMarked, gap_after, gaps}
+use Rattle.sat_simplify.specs.CompactNumbers.{KeepsMarks, IsMarked, HasMarked}
 
 no_mark : false ≡ true → ⊥
 no_mark e = cc

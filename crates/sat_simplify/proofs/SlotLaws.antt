@@ -12,7 +12,7 @@ use Rattle.sat_clauses.specs.Models.{TotalAssignment, literal_value, clause_valu
 use Rattle.sat_simplify.specs.Resolution.{has_literal, subsumes, without, each_once}
 use Rattle.sat_simplify.specs.Slots.{Slot, IsMade, IsOver, IsSlotOver, AreNoted}
 use Rattle.sat_simplify.specs.Changes.{slot_at, changed_at, changed, dropped, shrunk, covered}
-use Rattle.sat_simplify.specs.OccurrenceLists.{noted_at, KeepsNotes, HasNoted, IsNotedAt}
+use Rattle.sat_simplify.specs.OccurrenceLists.{noted_at, HasNoted, IsNotedAt}
 use Rattle.sat_simplify.proofs.Members.{contains_from_has, from_without, from_once}
 use Rattle.sat_simplify.proofs.ClauseLaws.{true_by, true_in_more, true_without, true_with, true_once, once_true}
 

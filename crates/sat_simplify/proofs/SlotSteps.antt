@@ -6,9 +6,9 @@ use Rattle.std.proofs.lemmas.List.Sums.{fold_more}
 use Rattle.sat_clauses.specs.Literal.{Literal}
 use Rattle.std.specs.Option.{option_to_list}
 use Rattle.sat_simplify.specs.Slots.{Slot, standing}
-use Rattle.sat_simplify.specs.Resolution.{has_literal, subsumes, without, each_once, resolvent}
+use Rattle.sat_simplify.specs.Resolution.{has_literal, subsumes, each_once, resolvent}
 use Rattle.sat_simplify.specs.Elimination.{unless_tautology, resolvents_with, resolvents}
-use Rattle.sat_simplify.specs.Changes.{slot_at, changed_at, changed, slot_has, dropped, shrunk, covered, slot_covered, picked, gathered, entered}
+use Rattle.sat_simplify.specs.Changes.{slot_at, changed_at, changed, slot_has, dropped, covered, slot_covered, picked, gathered, entered}
 
 -- no slot past the end is changed, and none by a change that leaves it as it is
 pub changed_past : (f : Slot → Slot) (slots : List Slot) (i : ℕ) → length slots ≤ i → changed_at f slots i ≡ slots

@@ -18,7 +18,6 @@ use base_values::OutOfMemory;
 use sat_adviser::Panel;
 use sat_clauses::assign::Assign;
 use sat_clauses::checker_trail::CheckerTrail;
-use sat_clauses::clause::Clause;
 use sat_clauses::clause_store::ClauseStore;
 use sat_clauses::hints::{follow, has_no_opposites};
 use sat_clauses::lit::{Lit, are_up_to, contains};

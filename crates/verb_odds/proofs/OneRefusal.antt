@@ -14,9 +14,7 @@ use Rattle.verb_loading.proofs.OneModelFault.{one_refused_model, held_not_refuse
 use Rattle.verb_loading.proofs.OneCase.{case_not_refused, one_case}
 use Rattle.verb_loading.proofs.OneTop.{one_wrong_word, word_not_wrong}
 use Rattle.verb_loading.specs.declared.status.Refusal.{Refusal}
-use Rattle.verb_loading.specs.declared.status.Status.{Status}
-use Rattle.verb_loading.specs.CaseAnswers.{Said}
-use Rattle.verb_odds.specs.Odds.{mark_refusal, RefusesOdds, at_model, at_faults, at_mark, at_top, HoldsMarked, HasOdds}
+use Rattle.verb_odds.specs.Odds.{mark_refusal, RefusesOdds, at_model, at_faults, at_mark, at_top, HoldsMarked}
 use Rattle.std.proofs.lemmas.Option.{same_Some as same_first}
 
 module _ {A : Type 0} where

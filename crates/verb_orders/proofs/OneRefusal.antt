@@ -23,7 +23,6 @@ use Rattle.verb_loading.specs.declared.status.InputFault.{InputFault}
 use Rattle.verb_loading.specs.declared.status.Objection.TheVariants as objection
 use Rattle.verb_loading.specs.declared.status.Refusal.{Refusal}
 use Rattle.verb_loading.specs.declared.status.Refusal.TheVariants as refusal
-use Rattle.verb_loading.specs.CaseAnswers.{Told, Said}
 use Rattle.verb_loading.specs.Cases.{Case, HoldsCase, IsTopWord, IsWrongWord}
 use Rattle.verb_loading.specs.Tasks.{IsTopTree}
 use Rattle.cert_file.specs.CertificateFiles.{HoldsCertificate}
@@ -33,9 +32,8 @@ use Rattle.cert_file.proofs.OneCertificate.{one_refused_certificate, held_certif
 use Rattle.verb_loading.proofs.OneExtending.{one_refused_faults}
 use Rattle.verb_loading.proofs.OneModelFault.{one_refused_model, held_not_refused, one_held_model}
 use Rattle.verb_loading.proofs.OneTop.{one_wrong_word, word_not_wrong}
-use Rattle.verb_loading.specs.declared.status.Status.{Status}
 use Rattle.verb_orders.specs.Pairs.{IsFirstOutside, outside_refusal, HoldsPair, HoldsPairEvent, RefusesPair, at_model, at_faults, at_set, at_stage, at_top}
-use Rattle.verb_orders.specs.Orders.{staged_of, against_of, claim_in, staged_matter, RefusesClaim, at_line, RefusesCheck, no_pair, no_certificate, not_accepted, AcceptsOrder, HasOrder}
+use Rattle.verb_orders.specs.Orders.{staged_of, against_of, claim_in, staged_matter, RefusesClaim, at_line, RefusesCheck, no_pair, no_certificate, not_accepted, AcceptsOrder}
 
 -- ---- one number outside, and one rule of kinds
 

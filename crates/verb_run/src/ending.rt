@@ -34,8 +34,7 @@ pub fn stopped<D: Desk>(alloc: Global, desk: &mut D, stop: Stop) -> Status
 /// Ends a run by what its work came to, which has written and said all but a refusal.
 pub(crate) fn concluded<D: Desk>(alloc: Global, desk: &mut D, done: Result<Status, Stop>) -> Status
     requires { IfOk done IsFinished }
-    ensures concluded {
-        Concluded done result (D.told desk.old).files (D.told desk.new).files (D.told desk.old).said (D.told desk.new).said }
+    ensures concluded { Concluded done result (D.told desk.old).files (D.told desk.new).files (D.told desk.old).said (D.told desk.new).said }
     ensures failed { result ≡ Status.Desk → IsErrOf done stops.Desk ⊎ Rose (D.told desk.old).faults (D.told desk.new).faults }
     ensures stays { IsLater (D.told desk.old) (D.told desk.new) }
 {

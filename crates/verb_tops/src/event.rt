@@ -12,7 +12,6 @@ ghost use Rattle.verb_tops.specs.Each.{event_line, certificate_name};
 ghost use Rattle.verb_tops.specs.Work.{case_of_asked, size_of_asked, IsEventFinding};
 
 use crate::each::Asked;
-use base_values::limits::MOST_SYMBOLS;
 use base_values::{ByteList, OutOfMemory};
 use cert_file::conclusion::Conclusion;
 use cut_frames::Frames;

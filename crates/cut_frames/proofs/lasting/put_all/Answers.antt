@@ -3,7 +3,6 @@ use Rattle.std.specs.Prelude.{Contains}
 use Rattle.std.proofs.lemmas.List.{take_all, take_more}
 use Rattle.sat_clauses.specs.Literal.{Literal}
 use Rattle.cut_frames.specs.Chain.{InFrame, IsOverBits}
-use Rattle.cut_frames.specs.Levels.{frames_of}
 use Rattle.cut_frames.proofs.OwedLemmas.{tightened_stays}
 use Rattle.cut_frames.proofs.RaiseLaws.{tightened_twice}
 use Rattle.cut_frames.proofs.LastingLaws.{tightened_put, implied_put}
