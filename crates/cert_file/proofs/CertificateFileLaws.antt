@@ -10,7 +10,7 @@ use Rattle.verb_loading.specs.declared.status.InputFault.{InputFault}
 use Rattle.verb_loading.specs.declared.status.Objection.TheVariants as objection
 use Rattle.verb_loading.specs.declared.status.Refusal.{Refusal}
 use Rattle.verb_loading.specs.declared.status.Refusal.TheVariants as refusal
-use Rattle.verb_loading.specs.Tasks.{IsRefusedAbove, HasAtMost}
+use Rattle.verb_loading.specs.Inputs.{IsRefusedAbove, HasAtMost}
 use Rattle.cert_file.specs.CertificateFiles.{IsWrongText, RefusesCertificate, certificate_file, certificate_bytes, HoldsCertificate}
 
 module _ (told : Option (List NamedFile)) (name : Text) where

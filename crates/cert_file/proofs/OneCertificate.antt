@@ -13,7 +13,8 @@ use Rattle.verb_loading.specs.declared.status.Objection.TheVariants as objection
 use Rattle.verb_loading.specs.declared.status.Refusal.{Refusal}
 use Rattle.verb_loading.specs.declared.status.Refusal.TheVariants as refusal
 use Rattle.verb_loading.specs.Cases.{Case, extension_of, HoldsCase, IsTopWord}
-use Rattle.verb_loading.specs.Tasks.{HasAtMost, IsTopTree}
+use Rattle.verb_loading.specs.Inputs.{HasAtMost}
+use Rattle.verb_loading.specs.Tasks.{IsTopTree}
 use Rattle.cert_file.specs.CertificateFiles.{text_fault, IsWrongText, a_bad_line, a_missing_line, RefusesCertificate, certificate_file, certificate_bytes, HoldsCertificate}
 use Rattle.verb_loading.proofs.OneCase.{one_case}
 use Rattle.verb_loading.proofs.FilesWithin.{no_bytes_within, one_fault_above, same_bytes_within}

@@ -10,7 +10,7 @@ use Rattle.verb_loading.specs.declared.status.Part.TheVariants as part
 use Rattle.verb_loading.specs.declared.status.Objection.TheVariants as objection
 use Rattle.verb_loading.specs.declared.status.Refusal.{Refusal}
 use Rattle.verb_loading.specs.declared.status.Refusal.TheVariants as refusal
-use Rattle.verb_loading.specs.Tasks.{IsRefusedAbove, HasAtMost}
+use Rattle.verb_loading.specs.Inputs.{IsRefusedAbove, HasAtMost}
 
 -- what is told of a line of a certificate, from 1
 abbrev pub text_fault : ℕ → ℕ → InputFault

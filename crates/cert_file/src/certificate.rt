@@ -6,22 +6,19 @@ ghost use Rattle.base_files.specs.Desk.{OnlyReads, Rose};
 ghost use Rattle.cert_text.specs.CertificateView.{seen};
 ghost use Rattle.cert_check.specs.Fit.{IsCheckable};
 ghost use Rattle.cut_text_laws.specs.AnalysisText.{size_line};
-ghost use Rattle.verb_loading.specs.Tasks.{IsRefusedAbove, HasAtMost};
 ghost use Rattle.cert_file.specs.CertificateFiles.{RefusesCertificate, HoldsCertificate};
-ghost use Rattle.verb_loading.specs.declared.status.InputFault.{InputFault};
 ghost use Rattle.verb_loading.specs.declared.status.Refusal.{Refusal};
 ghost use Rattle.verb_loading.specs.declared.status.Refusal.TheVariants as refusal;
 ghost use Rattle.verb_loading.specs.declared.status.Objection.TheVariants as objection;
 ghost use Rattle.verb_loading.specs.declared.input.Stop.TheVariants as stop;
 
-use base_files::{Desk, DeskFault, read_whole};
-use base_values::limits::MOST_CERT_BYTES;
+use base_files::Desk;
 use base_values::{ByteList, OutOfMemory};
 use cert_check::spelled_are_checkable;
 use cert_text::{CertFault, Certificate, read};
 use std::alloc::Global;
-use verb_loading::input::Stop;
-use verb_loading::status::{InputFault, Objection, Part, Refusal};
+use verb_loading::input::{Input, Stop, read_input};
+use verb_loading::status::{Objection, Part, Refusal};
 
 /// The certificate that the file spells.
 pub fn load_certificate<D: Desk>(
@@ -36,45 +33,15 @@ pub fn load_certificate<D: Desk>(
     ensures failed { IsErrOf result stop.Desk → Rose (D.told desk.old).faults (D.told desk.new).faults }
     ensures stays { OnlyReads (D.told desk.old) (D.told desk.new) }
 {
-    let bytes = read_certificate_file(alloc, desk, name)?;
+    let bytes = read_input(alloc, desk, Input::Certificate, name)?;
     // The law by which what is read can be judged.
     spelled_are_checkable();
     match read(alloc, &bytes) {
         Ok(certificate) => Ok(certificate),
-        Err(CertFault::BadLine(line)) => Err(cert_stop(Part::Read, 1, line)),
-        Err(CertFault::Ends(line)) => Err(cert_stop(Part::Read, 2, line)),
+        Err(CertFault::BadLine(line)) => Err(Input::Certificate.broken(Part::Read, 1, line)),
+        Err(CertFault::Ends(line)) => Err(Input::Certificate.broken(Part::Read, 2, line)),
         Err(CertFault::OutOfMemory) => Err(Stop::Memory),
     }
-}
-
-/// The bytes of the file of a certificate.
-fn read_certificate_file<D: Desk>(alloc: Global, desk: &mut D, name: &str) -> Result<Vec<u8>, Stop>
-    ensures bytes { IfOk result (λ bytes. IfSome (D.told desk.old).files (λ files. HasAtMost MOST_CERT_BYTES files name.now bytes.items)) }
-    ensures short { IfOk result (λ bytes. length bytes.items ≤ MOST_CERT_BYTES) }
-    ensures refused { (r : Refusal) → IsErrOf result (stop.Refused r) →
-        (fault : InputFault) × (r ≡ refusal.NotAccepted (objection.Cert fault))
-        × IfSome (D.told desk.old).files (λ files. IsRefusedAbove MOST_CERT_BYTES files name.now fault) }
-    ensures failed { IsErrOf result stop.Desk → Rose (D.told desk.old).faults (D.told desk.new).faults }
-    ensures stays { OnlyReads (D.told desk.old) (D.told desk.new) }
-{
-    match read_whole(alloc, desk, name, MOST_CERT_BYTES) {
-        Ok(bytes) => Ok(bytes),
-        Err(DeskFault::Absent) => Err(cert_stop(Part::Absent, 1, 0)),
-        Err(DeskFault::TooLong) => Err(cert_stop(Part::Length, 1, MOST_CERT_BYTES)),
-        Err(DeskFault::Failed) => Err(Stop::Desk),
-        Err(DeskFault::OutOfMemory) => Err(Stop::Memory),
-    }
-}
-
-/// The end of the work where a rule of the file of a certificate is broken at a place.
-fn cert_stop(part: Part, number: u32, place: u64) -> Stop
-    ensures { result ≡ stop.Refused (refusal.NotAccepted (objection.Cert (record { part = part; number = number; place = place }))) }
-{
-    Stop::Refused(Refusal::NotAccepted(Objection::Cert(InputFault {
-        part,
-        number,
-        place,
-    })))
 }
 
 /// The end of the work where a line of a certificate breaks a rule.

@@ -32,15 +32,15 @@ use Rattle.verb_loading.specs.declared.loaded.LoadedCase.{LoadedCase}
 use Rattle.verb_loading.specs.declared.status.InputFault.{InputFault}
 use Rattle.verb_loading.specs.declared.status.Refusal.{Refusal}
 use Rattle.verb_loading.specs.declared.status.Refusal.TheVariants as refusal
-use Rattle.verb_loading.specs.declared.input.Stop.{Stop}
 use Rattle.verb_loading.specs.declared.input.Stop.TheVariants as stop
 use Rattle.verb_loading.specs.declared.wrong.Wrong.{Wrong}
 use Rattle.verb_loading.specs.declared.wrong.Wrong.TheVariants as wrong
 use Rattle.verb_loading.specs.Wrongs.{parse_wrong, IfRefused}
 use Rattle.verb_loading.specs.Wholes.{BreaksKinds}
-use Rattle.verb_loading.specs.Inputs.{RefusesModel, HoldsModel, RefusesFaults}
+use Rattle.verb_loading.specs.declared.input.Input.TheVariants as input
+use Rattle.verb_loading.specs.Inputs.{stop_at, IsRefusedFile, RefusesModel, HoldsModel, RefusesFaults}
 use Rattle.verb_loading.specs.Cases.{Case, extension_of, HoldsCase, IsTopWord, IsWrongWord}
-use Rattle.verb_loading.specs.Tasks.{HasAtMost}
+use Rattle.verb_loading.specs.Inputs.{HasAtMost}
 use Rattle.verb_loading.specs.LoadedCases.{case_of, IsLoaded}
 use Rattle.verb_loading.specs.LoadedEvents.{case_in}
 use Rattle.verb_loading.specs.CaseAnswers.{told_maybe, Told, Said}
@@ -53,8 +53,8 @@ use Rattle.verb_loading.specs.Statuses.{ended_with, IsBoundedAt}
 use Rattle.verb_causes.specs.declared.staged.StagedEvent.{StagedEvent}
 use Rattle.cert_file.specs.declared.conclusion.Conclusion.{Conclusion}
 use Rattle.cert_file.specs.Conclusions.{ConcludesInPart}
-use Rattle.verb_causes.specs.Causes.{stop_at_causes, flat_in, modes_in, faults_in, extension_in, AreCausesOf, HoldsCauses, HasCauses, IsStagedOf, causes_in, staged_in, events_in, IsStagedEvent, CertifiesStaged, AcceptsStaged, HoldsStaged, AcceptsCauses, HasCheckedCauses, ChecksCausesInPart, LeavesCheck, IsCausesFinding, FindsCauses, HasFoundCauses, FindsCausesInPart, LeavesCauses, IsSomeCase}
-use Rattle.verb_causes.specs.Refusals.{broken_cause, stop_of_causes, IsRefusedCausesFile, KeepsLimits, BreaksStaged, whole_breaks, model_breaks, not_spelled, rule_broken, past_limit, RefusesBytes, RefusesCauses, causes_file, causes_bytes, RefusesStaged, at_model, at_faults, at_causes, at_top, BreaksLine, RefusesJudged, no_certificate, not_accepted, RefusesCauseCheck, at_staged, at_certificate}
+use Rattle.verb_causes.specs.Causes.{flat_in, modes_in, faults_in, extension_in, AreCausesOf, HoldsCauses, HasCauses, IsStagedOf, causes_in, staged_in, events_in, IsStagedEvent, CertifiesStaged, AcceptsStaged, HoldsStaged, AcceptsCauses, HasCheckedCauses, ChecksCausesInPart, LeavesCheck, IsCausesFinding, FindsCauses, HasFoundCauses, FindsCausesInPart, LeavesCauses, IsSomeCase}
+use Rattle.verb_causes.specs.Refusals.{broken_cause, stop_of_causes, KeepsLimits, BreaksStaged, whole_breaks, model_breaks, not_spelled, rule_broken, past_limit, RefusesBytes, RefusesCauses, causes_file, causes_bytes, RefusesStaged, at_model, at_faults, at_causes, at_top, BreaksLine, RefusesJudged, no_certificate, not_accepted, RefusesCauseCheck, at_staged, at_certificate}
 
 -- ---- why the work can't go on
 
@@ -68,7 +68,7 @@ pub says_part : {A E : Type 0} (done : Result A E) (before mid now : Said) (byte
 says_part done before mid now bytes text silent same whole part = subst (λ t. SaysPrefix t now text) silent (says_in_part done mid now bytes text same whole part)
 
 -- what is wrong with the causes is no end of the desk
-pub no_desk_at_causes : (w : Wrong) → stop.Desk ≡ stop_at_causes w → ⊥
+pub no_desk_at_causes : (w : Wrong) → stop.Desk ≡ stop_at input.Causes w → ⊥
 no_desk_at_causes (wrong.Refused fault) e = cc
 no_desk_at_causes wrong.Memory e = cc
 
@@ -83,7 +83,7 @@ record IsTold (w : Wrong) (r : Refusal) : Type 0 where
   is : wrong.Refused fault ≡ w
   told : r ≡ refusal.Causes fault
 
-told_at_causes : (w : Wrong) (r : Refusal) → stop.Refused r ≡ stop_at_causes w → IsTold w r
+told_at_causes : (w : Wrong) (r : Refusal) → stop.Refused r ≡ stop_at input.Causes w → IsTold w r
 told_at_causes (wrong.Refused fault) r e = record { fault = fault; is = refl; told = one_refusal e }
 told_at_causes wrong.Memory r e = cc
 
@@ -96,13 +96,13 @@ module _ (faults : List Fault) (w : ProgramTree) (m : FlatModel) (fs : List Mode
   refuses_bytes bytes (cause_fault.Broken rule number) r e says = (broken_cause (rule_of rule) number, one_refusal e, rule_broken (rule_of rule) number says refl)
   refuses_bytes bytes cause_fault.OutOfMemory r e says = cc
 
-  pub refuses_limit : (bytes : List ℕ) (cs : List CommonCause) → AreRead faults w bytes cs → (wr : Wrong) (r : Refusal) → stop.Refused r ≡ stop_at_causes wr → IfRefused (BreaksStaged m fs cs) wr →
+  pub refuses_limit : (bytes : List ℕ) (cs : List CommonCause) → AreRead faults w bytes cs → (wr : Wrong) (r : Refusal) → stop.Refused r ≡ stop_at input.Causes wr → IfRefused (BreaksStaged m fs cs) wr →
       RefusesBytes faults w m fs bytes r
   refuses_limit bytes cs are (wrong.Refused fault) r e bad = (fault, one_refusal e, past_limit cs fault are bad refl)
   refuses_limit bytes cs are wrong.Memory r e bad = cc
 
   pub file_refused : (told : Option (List NamedFile)) (name : Text) (r : Refusal) →
-      (fault : InputFault) × (r ≡ refusal.Causes fault) × IfSome told (λ files. IsRefusedCausesFile files name fault) → IfSome told (λ files. RefusesCauses files name faults w m fs r)
+      (fault : InputFault) × (r ≡ refusal.Causes fault) × IfSome told (λ files. IsRefusedFile files name fault) → IfSome told (λ files. RefusesCauses files name faults w m fs r)
   file_refused None name r bad = tt
   file_refused (Some files) name r bad = causes_file bad.0 bad.1 bad.2
 

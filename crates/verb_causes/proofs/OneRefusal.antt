@@ -28,7 +28,7 @@ use Rattle.verb_loading.specs.declared.status.Objection.TheVariants as objection
 use Rattle.verb_loading.specs.declared.status.Refusal.TheVariants as refusal
 use Rattle.verb_loading.specs.Inputs.{RefusesFaults}
 use Rattle.verb_loading.specs.Cases.{Case, extension_of, HoldsCase, IsTopWord, IsWrongWord}
-use Rattle.verb_loading.specs.Tasks.{IsRefusedAbove, HasAtMost, IsTopTree}
+use Rattle.verb_loading.specs.Tasks.{IsTopTree}
 use Rattle.cert_file.specs.CertificateFiles.{HoldsCertificate}
 use Rattle.verb_loading.specs.LoadedEvents.{case_in}
 use Rattle.verb_loading.proofs.Told.{one_refusal}
@@ -43,7 +43,7 @@ use Rattle.cert_file.proofs.OneCertificate.{one_refused_certificate, held_certif
 use Rattle.verb_loading.specs.declared.status.Refusal.{Refusal}
 use Rattle.verb_causes.specs.declared.staged.StagedEvent.{StagedEvent}
 use Rattle.verb_causes.specs.Causes.{HoldsCauses, HasCauses, causes_in, staged_in, events_in, BreaksNoLine, HoldsStaged, AcceptsCauses}
-use Rattle.verb_causes.specs.Refusals.{broken_cause, IsRefusedCausesFile, KeepsLimits, BreaksStaged, whole_breaks, model_breaks, IsWrongCauses, not_spelled, rule_broken, past_limit, RefusesBytes, RefusesCauses, causes_file, causes_bytes, RefusesStaged, at_model, at_faults, at_causes, at_top, HoldsCaused, BreaksLine, at_line, RefusesJudged, no_certificate, not_accepted, RefusesCauseCheck, at_staged, at_certificate}
+use Rattle.verb_causes.specs.Refusals.{broken_cause, KeepsLimits, BreaksStaged, whole_breaks, model_breaks, IsWrongCauses, not_spelled, rule_broken, past_limit, RefusesBytes, RefusesCauses, causes_file, causes_bytes, RefusesStaged, at_model, at_faults, at_causes, at_top, HoldsCaused, BreaksLine, at_line, RefusesJudged, no_certificate, not_accepted, RefusesCauseCheck, at_staged, at_certificate}
 use Rattle.verb_causes.proofs.CausesLaws.{keeps_limits}
 
 -- ---- the limits of a staged model
@@ -92,31 +92,17 @@ module _ (faults : List Fault) (w : ProgramTree) (m : FlatModel) (fs : List Mode
 -- ---- the file of causes
 
 module _ (files : List NamedFile) (name : Text) where
-  -- it is refused as other files are
-  as_above : (told : InputFault) → IsRefusedCausesFile files name told → (fault : InputFault) × (told ≡ fault) × IsRefusedAbove MOST_FILE_BYTES files name fault
-  as_above told (inl h) = (_, h.0, inl (refl, h.1))
-  as_above told (inr h) = (_, h.0, inr (refl, h.1))
-
-  one_file_fault : (a b : InputFault) → IsRefusedCausesFile files name a → IsRefusedCausesFile files name b → a ≡ b
-  one_file_fault a b h g =
-      let x = as_above a h in
-      let y = as_above b g in
-      x.1 ∙ (one_fault_above MOST_FILE_BYTES files name x.0 y.0 x.2 y.2) ∙ sym y.1
-
-  refused_has_none : (a : InputFault) (bytes : List ℕ) → IsRefusedCausesFile files name a → HasAtMost MOST_FILE_BYTES files name bytes → ⊥
-  refused_has_none a bytes h has = let x = as_above a h in no_bytes_within MOST_FILE_BYTES files name x.0 bytes x.2 has
-
   module _ (faults : List Fault) (w : ProgramTree) (m : FlatModel) (fs : List Mode) where
     one_refused_causes : (r s : Refusal) → RefusesCauses files name faults w m fs r → RefusesCauses files name faults w m fs s → r ≡ s
-    one_refused_causes r s (causes_file a is bad) (causes_file b was also) = is ∙ ap (λ f. refusal.Causes f) (one_file_fault a b bad also) ∙ sym was
-    one_refused_causes r s (causes_file a is bad) (causes_bytes bytes has wrong) = absurd (refused_has_none a bytes bad has)
-    one_refused_causes r s (causes_bytes bytes has wrong) (causes_file b was bad) = absurd (refused_has_none b bytes bad has)
+    one_refused_causes r s (causes_file a is bad) (causes_file b was also) = is ∙ ap (λ f. refusal.Causes f) (one_fault_above MOST_FILE_BYTES files name a b bad also) ∙ sym was
+    one_refused_causes r s (causes_file a is bad) (causes_bytes bytes has wrong) = absurd (no_bytes_within MOST_FILE_BYTES files name a bytes bad has)
+    one_refused_causes r s (causes_bytes bytes has wrong) (causes_file b was bad) = absurd (no_bytes_within MOST_FILE_BYTES files name b bytes bad has)
     one_refused_causes r s (causes_bytes bytes has wrong) (causes_bytes others holds also) =
         let there : RefusesBytes faults w m fs bytes s = subst (λ t. RefusesBytes faults w m fs t s) (same_bytes_within MOST_FILE_BYTES files name others bytes holds has) also in
         wrong.1 ∙ ap (λ f. refusal.Causes f) (one_wrong faults w m fs bytes wrong.0 there.0 wrong.2 there.2) ∙ sym there.1
 
     held_causes_not_refused : (cs : List CommonCause) (r : Refusal) → HoldsCauses files name faults w cs → KeepsLimits m fs cs → RefusesCauses files name faults w m fs r → ⊥
-    held_causes_not_refused cs r h kept (causes_file a is bad) = refused_has_none a h.bytes bad h.has
+    held_causes_not_refused cs r h kept (causes_file a is bad) = no_bytes_within MOST_FILE_BYTES files name a h.bytes bad h.has
     held_causes_not_refused cs r h kept (causes_bytes bytes has wrong) =
         let there : RefusesBytes faults w m fs h.bytes r = subst (λ t. RefusesBytes faults w m fs t r) (same_bytes_within MOST_FILE_BYTES files name bytes h.bytes has h.has) wrong in
         read_not_wrong faults w m fs h.bytes cs there.0 h.are kept there.2

@@ -35,11 +35,8 @@ use Rattle.fault_causes_reader.specs.CausesFile.{AreRead}
 use Rattle.cut_reach_laws.specs.CausedLaws.{AreNamed}
 use Rattle.cut_reach_laws.specs.CausedAnalyses.{CertifiesCauses, IsCausedAnalysis}
 use Rattle.verb_loading.specs.declared.loaded.LoadedCase.{LoadedCase}
-use Rattle.verb_loading.specs.declared.status.InputFault.{InputFault}
-use Rattle.verb_loading.specs.declared.wrong.Wrong.{Wrong}
-use Rattle.verb_loading.specs.declared.wrong.Wrong.TheVariants as wrong
 use Rattle.verb_loading.specs.Cases.{Case, extension_of, HoldsCase, IsTopWord}
-use Rattle.verb_loading.specs.Tasks.{HasAtMost}
+use Rattle.verb_loading.specs.Inputs.{HasAtMost}
 use Rattle.verb_loading.specs.LoadedCases.{IsLoaded}
 use Rattle.verb_loading.specs.Models.{IsLawful}
 use Rattle.verb_loading.specs.LoadedEvents.{case_in, IsEvent}
@@ -47,20 +44,12 @@ use Rattle.cut_model_search.specs.Searches.{IsSearched, HasCertificate}
 use Rattle.verb_loading.specs.CaseAnswers.{told_maybe, Told, Said}
 use Rattle.cert_file.specs.CertificateFiles.{HoldsCertificate}
 use Rattle.verb_loading.specs.declared.status.Part.TheVariants as part
-use Rattle.verb_loading.specs.declared.status.Refusal.TheVariants as refusal
-use Rattle.verb_loading.specs.declared.input.Stop.{Stop}
-use Rattle.verb_loading.specs.declared.input.Stop.TheVariants as stop
 use Rattle.verb_causes.specs.declared.staged.CausesCase.{CausesCase}
 use Rattle.verb_causes.specs.declared.staged.StagedEvent.{StagedEvent}
 use Rattle.cert_file.specs.declared.conclusion.Conclusion.{Conclusion}
 use Rattle.cert_file.specs.Conclusions.{ConcludesInPart}
 use Rattle.verb_loading.specs.declared.status.Status.{Status}
 use Rattle.verb_loading.specs.Statuses.{ended_with}
-
--- the end of the work where something is wrong with the causes that may be wrong with other files too
-abbrev pub stop_at_causes : Wrong → Stop
-stop_at_causes (wrong.Refused fault) = stop.Refused (refusal.Causes fault)
-stop_at_causes wrong.Memory = stop.Memory
 
 -- the faults of what was loaded, as modes of its flat model
 abbrev pub modes_in : LoadedCase → List Mode

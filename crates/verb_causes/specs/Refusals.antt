@@ -2,7 +2,6 @@
 use Rattle.std.specs.Prelude.{◌≡◌, ◌⊎◌, ◌<◌, ℕ, List, None, length}
 use Rattle.base_values.specs.declared.limits.TheConstants.{MOST_FILE_BYTES}
 use Rattle.base_files.specs.declared.files.NamedFile.{NamedFile}
-use Rattle.base_files.specs.Files.{file_of, content_of}
 use Rattle.smv_language.specs.Tree.{Tree}
 use Rattle.smv_language.specs.ProgramTree.{Text, Formula, ProgramTree}
 use Rattle.smv_language.specs.Values.{Value}
@@ -33,16 +32,17 @@ use Rattle.verb_loading.specs.declared.status.Objection.TheVariants as objection
 use Rattle.verb_loading.specs.declared.status.Refusal.{Refusal}
 use Rattle.verb_loading.specs.declared.status.Refusal.TheVariants as refusal
 use Rattle.verb_loading.specs.declared.wrong.Wrong.TheVariants as wrong
-use Rattle.verb_loading.specs.Statuses.{absent, too_long}
 use Rattle.verb_loading.specs.Wrongs.{parse_wrong, kinds_fault}
-use Rattle.verb_loading.specs.Inputs.{RefusesModel, HoldsModel, RefusesFaults}
+use Rattle.verb_loading.specs.declared.input.Input.TheVariants as input
+use Rattle.verb_loading.specs.Inputs.{stop_at, IsRefusedFile, RefusesModel, HoldsModel, RefusesFaults}
 use Rattle.verb_loading.specs.Cases.{Case, extension_of, HoldsCase, IsTopWord, IsWrongWord}
-use Rattle.verb_loading.specs.Tasks.{HasAtMost, IsTopTree}
+use Rattle.verb_loading.specs.Inputs.{HasAtMost}
+use Rattle.verb_loading.specs.Tasks.{IsTopTree}
 use Rattle.cert_file.specs.CertificateFiles.{RefusesCertificate, HoldsCertificate}
 use Rattle.verb_loading.specs.declared.status.Part.TheVariants as part
 use Rattle.verb_loading.specs.declared.input.Stop.{Stop}
 use Rattle.verb_loading.specs.declared.input.Stop.TheVariants as stop
-use Rattle.verb_causes.specs.Causes.{stop_at_causes, HasCauses}
+use Rattle.verb_causes.specs.Causes.{HasCauses}
 
 -- the rules of causes, by their numbers
 abbrev pub cause_number : CauseRule → ℕ
@@ -60,14 +60,9 @@ broken_cause rule number = record { part = part.Cause; number = cause_number rul
 
 -- the end of the work where bytes are no causes
 abbrev pub stop_of_causes : CauseFault → Stop
-stop_of_causes (cause_fault.Parse fault) = stop_at_causes (parse_wrong fault)
+stop_of_causes (cause_fault.Parse fault) = stop_at input.Causes (parse_wrong fault)
 stop_of_causes (cause_fault.Broken rule number) = stop.Refused (refusal.Causes (broken_cause (rule_of rule) number))
 stop_of_causes cause_fault.OutOfMemory = stop.Memory
-
--- the file of causes is not there, or has more bytes than `MOST_FILE_BYTES`
-abbrev pub IsRefusedCausesFile : List NamedFile → Text → InputFault → Type 0
-IsRefusedCausesFile files name told =
-    ((told ≡ absent) × (file_of files name ≡ None)) ⊎ ((told ≡ too_long) × (MOST_FILE_BYTES < length (content_of files name)))
 
 -- the staged model passes no limit, with the history of its events and without
 pub record KeepsLimits (m : FlatModel) (fs : List Mode) (cs : List CommonCause) : Type 0 where
@@ -101,7 +96,7 @@ RefusesBytes faults w m fs bytes r = (told : InputFault) × (r ≡ refusal.Cause
 -- the file of causes is refused, or its bytes
 pub data RefusesCauses (files : List NamedFile) (name : Text) (faults : List Fault) (w : ProgramTree) (m : FlatModel) (fs : List Mode)
     (r : Refusal) : Type 0 where
-  causes_file : (told : InputFault) → r ≡ refusal.Causes told → IsRefusedCausesFile files name told →
+  causes_file : (told : InputFault) → r ≡ refusal.Causes told → IsRefusedFile files name told →
       RefusesCauses files name faults w m fs r
   causes_bytes : (bytes : List ℕ) → HasAtMost MOST_FILE_BYTES files name bytes → RefusesBytes faults w m fs bytes r →
       RefusesCauses files name faults w m fs r

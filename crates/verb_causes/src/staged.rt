@@ -5,7 +5,6 @@ ghost use Rattle.std.specs.Prelude.{◌≡◌, ◌≤◌, List, ℕ, length, map
 ghost use Rattle.base_files.specs.Desk.{OnlyReads, Rose};
 ghost use Rattle.fault_staging.specs.CauseOf.{cause_of};
 ghost use Rattle.verb_loading.specs.Cases.{HoldsCase};
-ghost use Rattle.verb_loading.specs.Tasks.{HasAtMost};
 ghost use Rattle.verb_loading.specs.Wrongs.{IfRefused};
 ghost use Rattle.verb_loading.specs.LoadedEvents.{case_in};
 ghost use Rattle.verb_loading.specs.Models.{IsLawful};
@@ -14,15 +13,13 @@ ghost use Rattle.smv_language.specs.ProgramTree.{Text, program_tree};
 ghost use Rattle.smv_language.specs.ModelTree.{model_tree, flat_tree};
 ghost use Rattle.fault_causes_reader.specs.BrokenRules.{rule_of};
 ghost use Rattle.verb_loading.specs.declared.status.Refusal.{Refusal};
-ghost use Rattle.verb_loading.specs.declared.status.Refusal.TheVariants as refusal;
-ghost use Rattle.verb_loading.specs.declared.status.InputFault.{InputFault};
 ghost use Rattle.verb_loading.specs.declared.input.Stop.TheVariants as stop;
-ghost use Rattle.verb_causes.specs.Causes.{stop_at_causes, flat_in, modes_in, faults_in, extension_in, IsSomeCase, AreCausesOf};
+ghost use Rattle.verb_causes.specs.Causes.{flat_in, modes_in, faults_in, extension_in, IsSomeCase, AreCausesOf};
 ghost use Rattle.verb_causes.specs.Causes.{HoldsCauses, HasCauses, IsStagedCase, IsStagedEvent};
-ghost use Rattle.verb_causes.specs.Refusals.{cause_number, stop_of_causes, IsRefusedCausesFile, BreaksStaged, RefusesBytes, RefusesCauses};
+ghost use Rattle.verb_causes.specs.Refusals.{cause_number, stop_of_causes, BreaksStaged, RefusesBytes, RefusesCauses};
 ghost use Rattle.verb_causes.specs.Refusals.{RefusesStaged};
 
-use base_files::{Desk, DeskFault, read_whole};
+use base_files::Desk;
 use base_values::limits::MOST_FILE_BYTES;
 use fault_causes_reader::{CauseFault, CauseRule, read_causes};
 use fault_staging::{CauseList, with_causes};
@@ -32,10 +29,10 @@ use smv_language::model::{FaultList, Flat};
 use smv_types::Typed;
 use std::alloc::Global;
 use verb_loading::event::LoadedEvent;
-use verb_loading::input::Stop;
+use verb_loading::input::{Input, Stop, read_input};
 use verb_loading::loaded::{LoadedCase, load_case, typed_whole};
 use verb_loading::model::{LoadedModel, load_model};
-use verb_loading::status::{InputFault, Part, Refusal};
+use verb_loading::status::{Part, Refusal};
 use verb_loading::top::load_top;
 use verb_loading::wrong::Wrong;
 
@@ -164,30 +161,11 @@ fn load_causes<D: Desk>(
     ensures failed { IsErrOf result stop.Desk → Rose (D.told desk.old).faults (D.told desk.new).faults }
     ensures stays { OnlyReads (D.told desk.old) (D.told desk.new) }
 {
-    let bytes = read_causes_file(alloc, desk, name)?;
+    let bytes = read_input(alloc, desk, Input::Causes, name)?;
     let causes = causes_of(alloc, &bytes, case)?;
     match staged_of(alloc, case, causes) {
         Ok(staged) => Ok(staged),
-        Err(wrong) => Err(causes_stop(wrong)),
-    }
-}
-
-/// The bytes of a causes file.
-fn read_causes_file<D: Desk>(alloc: Global, desk: &mut D, name: &str) -> Result<Vec<u8>, Stop>
-    ensures bytes { IfOk result (λ bytes. IfSome (D.told desk.old).files (λ files. HasAtMost MOST_FILE_BYTES files name.now bytes.items)) }
-    ensures short { IfOk result (λ bytes. length bytes.items ≤ MOST_FILE_BYTES) }
-    ensures refused { (r : Refusal) → IsErrOf result (stop.Refused r) →
-        (told : InputFault) × (r ≡ refusal.Causes told)
-        × IfSome (D.told desk.old).files (λ files. IsRefusedCausesFile files name.now told) }
-    ensures failed { IsErrOf result stop.Desk → Rose (D.told desk.old).faults (D.told desk.new).faults }
-    ensures stays { OnlyReads (D.told desk.old) (D.told desk.new) }
-{
-    match read_whole(alloc, desk, name, MOST_FILE_BYTES) {
-        Ok(bytes) => Ok(bytes),
-        Err(DeskFault::Absent) => Err(refused(Part::Absent, 1, 0)),
-        Err(DeskFault::TooLong) => Err(refused(Part::Length, 1, MOST_FILE_BYTES)),
-        Err(DeskFault::Failed) => Err(Stop::Desk),
-        Err(DeskFault::OutOfMemory) => Err(Stop::Memory),
+        Err(wrong) => Err(Input::Causes.stop(wrong)),
     }
 }
 
@@ -233,9 +211,9 @@ fn fault_stop(fault: CauseFault) -> Stop
     ensures { result ≡ stop_of_causes fault }
 {
     match fault {
-        CauseFault::Parse(fault) => causes_stop(Wrong::from(fault)),
+        CauseFault::Parse(fault) => Input::Causes.stop(Wrong::from(fault)),
         CauseFault::Broken(rule, number) => {
-            refused(Part::Cause, number_of(rule), u64::from(number))
+            Input::Causes.broken(Part::Cause, number_of(rule), u64::from(number))
         }
         CauseFault::OutOfMemory => Stop::Memory,
     }
@@ -246,25 +224,4 @@ fn number_of(rule: CauseRule) -> u32
     ensures { result ≡ cause_number (rule_of rule) }
 {
     rule as u32
-}
-
-/// The end of the work where this is wrong with the causes.
-fn causes_stop(wrong: Wrong) -> Stop
-    ensures { result ≡ stop_at_causes wrong }
-{
-    match wrong {
-        Wrong::Refused(fault) => refused(fault.part, fault.number, fault.place),
-        Wrong::Memory => Stop::Memory,
-    }
-}
-
-/// The end of the work where a rule of the causes is broken.
-fn refused(part: Part, number: u32, place: u64) -> Stop
-    ensures { result ≡ stop.Refused (refusal.Causes (record { part = part; number = number; place = place })) }
-{
-    Stop::Refused(Refusal::Causes(InputFault {
-        part,
-        number,
-        place,
-    }))
 }

@@ -4,7 +4,7 @@ use Rattle.base_files.specs.declared.files.NamedFile.{NamedFile}
 use Rattle.base_files.specs.Files.{file_of, content_of}
 use Rattle.smv_language.specs.ProgramTree.{Text}
 use Rattle.verb_loading.specs.declared.status.InputFault.{InputFault}
-use Rattle.verb_loading.specs.Tasks.{IsRefusedAbove, HasAtMost}
+use Rattle.verb_loading.specs.Inputs.{IsRefusedAbove, HasAtMost}
 
 module _ (limit : ℕ) (files : List NamedFile) (name : Text) where
   pub no_bytes_within : (fault : InputFault) (bytes : List ℕ) → IsRefusedAbove limit files name fault → HasAtMost limit files name bytes → ⊥

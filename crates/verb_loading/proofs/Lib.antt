@@ -7,7 +7,6 @@ pub mod AddedNames
 pub mod WovenSpells
 pub mod SpelledInVar
 pub mod TextFaults
-pub mod FileFacts
 pub mod FilesWithin
 pub mod OneFaults
 pub mod OneModes

@@ -17,7 +17,8 @@ use Rattle.verb_loading.specs.declared.status.Refusal.{Refusal}
 use Rattle.verb_loading.specs.Reports.{report_text}
 use Rattle.verb_loading.specs.Inputs.{IsInstructionText, RefusesFaults, HoldsFaults}
 use Rattle.verb_loading.specs.Cases.{Case, extension_of, IsCase, HoldsCase}
-use Rattle.verb_loading.proofs.FileFacts.{same_bytes}
+use Rattle.base_values.specs.declared.limits.TheConstants.{MOST_FILE_BYTES}
+use Rattle.verb_loading.proofs.FilesWithin.{same_bytes_within}
 use Rattle.verb_loading.proofs.OneFaults.{one_list}
 use Rattle.verb_loading.proofs.OneModes.{one_modes}
 use Rattle.verb_loading.proofs.OneModelFault.{one_held_model}
@@ -74,7 +75,7 @@ module _ (files : List NamedFile) (model faults : Text) where
   pub one_case : (c d : Case) → HoldsCase files model faults c → HoldsCase files model faults d → c ≡ d
   one_case c d h g =
       let programs : d.program ≡ c.program = one_held_model files model c.program d.program h.program g.program in
-      let texts : IsInstructionText h.bytes d.instructions = subst (λ b. IsInstructionText b d.instructions) (same_bytes files faults g.bytes h.bytes g.has h.has) g.is_text in
+      let texts : IsInstructionText h.bytes d.instructions = subst (λ b. IsInstructionText b d.instructions) (same_bytes_within MOST_FILE_BYTES files faults g.bytes h.bytes g.has h.has) g.is_text in
       let lists : d.instructions ≡ c.instructions = one_instructions h.bytes d.instructions c.instructions texts h.is_text in
       let moved : IsCase (record { program = c.program; instructions = c.instructions; faults = d.faults; flat = d.flat; modes = d.modes }) =
       subst (λ i. IsCase (record { program = c.program; instructions = i; faults = d.faults; flat = d.flat; modes = d.modes })) lists

@@ -20,7 +20,8 @@ use Rattle.verb_loading.specs.Models.{IsLawful}
 use Rattle.verb_loading.specs.Wholes.{PassesLimit, IsWithinLimits}
 use Rattle.verb_loading.specs.Reports.{report_text}
 use Rattle.verb_loading.specs.Inputs.{AreTaken, IsWrongFaults, not_spelled, not_woven, past_limit, RefusesFaults, faults_file, faults_bytes, IsExtensionText, HoldsFaults}
-use Rattle.verb_loading.proofs.FileFacts.{no_bytes, one_file_fault, same_bytes}
+use Rattle.base_values.specs.declared.limits.TheConstants.{MOST_FILE_BYTES}
+use Rattle.verb_loading.proofs.FilesWithin.{no_bytes_within, one_fault_above, same_bytes_within}
 use Rattle.verb_loading.proofs.OneFaults.{one_list}
 use Rattle.verb_loading.proofs.OneExtension.{one_wrong_whole, within_not_wrong}
 use Rattle.verb_loading.proofs.LimitLaws.{passes_wrong}
@@ -87,17 +88,17 @@ module _ (p : ProgramTree) (m : FlatModel) (lawful : IsLawful p m) (bytes : List
 
 module _ (files : List NamedFile) (name : Text) (p : ProgramTree) (m : FlatModel) (lawful : IsLawful p m) where
   pub one_refused_faults : (r s : Refusal) → RefusesFaults files name p r → RefusesFaults files name p s → r ≡ s
-  one_refused_faults r s (faults_file a is refused) (faults_file b was also) = is ∙ ap (λ f. refusal.Faults f) (one_file_fault files name a b refused also) ∙ sym was
-  one_refused_faults r s (faults_file a is refused) (faults_bytes bytes b was has bad) = absurd (no_bytes files name a bytes refused has)
-  one_refused_faults r s (faults_bytes bytes a is has bad) (faults_file b was refused) = absurd (no_bytes files name b bytes refused has)
+  one_refused_faults r s (faults_file a is refused) (faults_file b was also) = is ∙ ap (λ f. refusal.Faults f) (one_fault_above MOST_FILE_BYTES files name a b refused also) ∙ sym was
+  one_refused_faults r s (faults_file a is refused) (faults_bytes bytes b was has bad) = absurd (no_bytes_within MOST_FILE_BYTES files name a bytes refused has)
+  one_refused_faults r s (faults_bytes bytes a is has bad) (faults_file b was refused) = absurd (no_bytes_within MOST_FILE_BYTES files name b bytes refused has)
   one_refused_faults r s (faults_bytes bytes a is has bad) (faults_bytes others b was holds also) =
-      is ∙ ap (λ f. refusal.Faults f) (one_wrong_faults p m lawful bytes a b bad (subst (λ t. IsWrongFaults p t b) (same_bytes files name others bytes holds has) also)) ∙ sym was
+      is ∙ ap (λ f. refusal.Faults f) (one_wrong_faults p m lawful bytes a b bad (subst (λ t. IsWrongFaults p t b) (same_bytes_within MOST_FILE_BYTES files name others bytes holds has) also)) ∙ sym was
 
   pub taken_not_refused : (text report : Text) (r : Refusal) → HoldsFaults files name p text report → RefusesFaults files name p r → ⊥
-  taken_not_refused text report r have (faults_file a is refused) = no_bytes files name a have.bytes refused have.has
+  taken_not_refused text report r have (faults_file a is refused) = no_bytes_within MOST_FILE_BYTES files name a have.bytes refused have.has
   taken_not_refused text report r have (faults_bytes bytes a is has bad) =
-      taken_not_wrong p m lawful have.bytes text report a have.extension (subst (λ t. IsWrongFaults p t a) (same_bytes files name bytes have.bytes has have.has) bad)
+      taken_not_wrong p m lawful have.bytes text report a have.extension (subst (λ t. IsWrongFaults p t a) (same_bytes_within MOST_FILE_BYTES files name bytes have.bytes has have.has) bad)
 
   pub one_taken : (text report text' report' : Text) → HoldsFaults files name p text report → HoldsFaults files name p text' report' → (text ≡ text') × (report ≡ report')
   one_taken text report text' report' a b =
-      one_extension p m lawful a.bytes text report text' report' a.extension (subst (λ t. IsExtensionText p t text' report') (same_bytes files name b.bytes a.bytes b.has a.has) b.extension)
+      one_extension p m lawful a.bytes text report text' report' a.extension (subst (λ t. IsExtensionText p t text' report') (same_bytes_within MOST_FILE_BYTES files name b.bytes a.bytes b.has a.has) b.extension)

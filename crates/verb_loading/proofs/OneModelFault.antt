@@ -26,7 +26,8 @@ use Rattle.verb_loading.specs.Models.{IsModelText, IsModelFault, IsLawful, IsWro
 use Rattle.verb_loading.specs.Inputs.{RefusesModel, model_file, model_bytes, HoldsModel}
 use Rattle.verb_loading.proofs.Told.{one_refusal}
 use Rattle.verb_loading.proofs.TextFaults.{reason, of_this_kind, same_reason}
-use Rattle.verb_loading.proofs.FileFacts.{no_bytes, one_file_fault, same_bytes}
+use Rattle.base_values.specs.declared.limits.TheConstants.{MOST_FILE_BYTES}
+use Rattle.verb_loading.proofs.FilesWithin.{no_bytes_within, one_fault_above, same_bytes_within}
 
 -- a rule and a place are told in one way
 one_place : (p : Part) (a b i j : ℕ) → a ≡ b → i ≡ j → ◌≡◌ {A = InputFault} (record { part = p; number = a; place = i }) (record { part = p; number = b; place = j })
@@ -83,17 +84,17 @@ module _ (bytes : List ℕ) where
 
 module _ (files : List NamedFile) (name : Text) where
   pub one_refused_model : (r s : Refusal) → RefusesModel files name r → RefusesModel files name s → r ≡ s
-  one_refused_model r s (model_file a is refused) (model_file b was also) = is ∙ ap (λ f. refusal.Model f) (one_file_fault files name a b refused also) ∙ sym was
-  one_refused_model r s (model_file a is refused) (model_bytes bytes b was has bad) = absurd (no_bytes files name a bytes refused has)
-  one_refused_model r s (model_bytes bytes a is has bad) (model_file b was refused) = absurd (no_bytes files name b bytes refused has)
+  one_refused_model r s (model_file a is refused) (model_file b was also) = is ∙ ap (λ f. refusal.Model f) (one_fault_above MOST_FILE_BYTES files name a b refused also) ∙ sym was
+  one_refused_model r s (model_file a is refused) (model_bytes bytes b was has bad) = absurd (no_bytes_within MOST_FILE_BYTES files name a bytes refused has)
+  one_refused_model r s (model_bytes bytes a is has bad) (model_file b was refused) = absurd (no_bytes_within MOST_FILE_BYTES files name b bytes refused has)
   one_refused_model r s (model_bytes bytes a is has bad) (model_bytes others b was holds also) =
-      is ∙ ap (λ f. refusal.Model f) (one_wrong_model bytes a b bad (subst (λ t. IsWrongModel t b) (same_bytes files name others bytes holds has) also)) ∙ sym was
+      is ∙ ap (λ f. refusal.Model f) (one_wrong_model bytes a b bad (subst (λ t. IsWrongModel t b) (same_bytes_within MOST_FILE_BYTES files name others bytes holds has) also)) ∙ sym was
 
   pub held_not_refused : (p : ProgramTree) (r : Refusal) → HoldsModel files name p → RefusesModel files name r → ⊥
-  held_not_refused p r holds (model_file a is refused) = no_bytes files name a holds.bytes refused holds.has
+  held_not_refused p r holds (model_file a is refused) = no_bytes_within MOST_FILE_BYTES files name a holds.bytes refused holds.has
   held_not_refused p r holds (model_bytes bytes a is has bad) =
-      lawful_not_wrong holds.bytes p holds.flat a holds.is_text holds.lawful (subst (λ t. IsWrongModel t a) (same_bytes files name bytes holds.bytes has holds.has) bad)
+      lawful_not_wrong holds.bytes p holds.flat a holds.is_text holds.lawful (subst (λ t. IsWrongModel t a) (same_bytes_within MOST_FILE_BYTES files name bytes holds.bytes has holds.has) bad)
 
   pub one_held_model : (p q : ProgramTree) → HoldsModel files name p → HoldsModel files name q → q ≡ p
   one_held_model p q holds other =
-      other.is_text.only p (subst (λ b. BytesSpellProgram b p) (same_bytes files name holds.bytes other.bytes holds.has other.has) holds.is_text.spelled)
+      other.is_text.only p (subst (λ b. BytesSpellProgram b p) (same_bytes_within MOST_FILE_BYTES files name holds.bytes other.bytes holds.has other.has) holds.is_text.spelled)

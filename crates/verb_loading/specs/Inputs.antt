@@ -1,6 +1,6 @@
--- What the two input files come to: what is wrong with a file, and what it holds.
+-- What the input files come to: what is wrong with a file, and what it holds.
 use Rattle.std.specs.Prelude.{ℕ, ◌≡◌, ◌⊎◌, ◌≤◌, ◌<◌, List, [], ◌∷◌, ◌++◌, length, map, Some, None}
-use Rattle.base_values.specs.declared.limits.TheConstants.{MOST_FILE_BYTES}
+use Rattle.base_values.specs.declared.limits.TheConstants.{MOST_FILE_BYTES, MOST_TRACE_BYTES, MOST_CERT_BYTES}
 use Rattle.base_files.specs.declared.files.NamedFile.{NamedFile}
 use Rattle.base_files.specs.Files.{file_of, content_of}
 use Rattle.base_files.specs.declared.desk.WriteStop.{WriteStop}
@@ -26,6 +26,8 @@ use Rattle.fault_extend.specs.declared.faults.WovenFault.{WovenFault}
 use Rattle.smv_language.specs.declared.model.Fault.{Fault as Numbered}
 use Rattle.fault_extend.specs.declared.fault.WeaveFault.{WeaveFault}
 use Rattle.verb_loading.specs.declared.status.InputFault.{InputFault}
+use Rattle.verb_loading.specs.declared.status.Part.TheVariants as part
+use Rattle.verb_loading.specs.declared.status.Objection.TheVariants as objection
 use Rattle.verb_loading.specs.declared.status.Refusal.{Refusal}
 use Rattle.verb_loading.specs.declared.status.Refusal.TheVariants as refusal
 use Rattle.verb_loading.specs.declared.wrong.Wrong.{Wrong}
@@ -35,17 +37,30 @@ use Rattle.verb_loading.specs.declared.input.Input.TheVariants as input
 use Rattle.verb_loading.specs.declared.input.Stop.{Stop}
 use Rattle.verb_loading.specs.declared.input.Stop.TheVariants as stop
 use Rattle.verb_loading.specs.declared.faults.Made.{Made}
-use Rattle.verb_loading.specs.Statuses.{absent, too_long}
+use Rattle.verb_loading.specs.Statuses.{absent}
 use Rattle.verb_loading.specs.Wrongs.{parse_wrong, weave_wrong}
 use Rattle.verb_loading.specs.Models.{IsModelText, IsLawful, IsWrongModel}
 use Rattle.verb_loading.specs.Wholes.{PassesLimit, IsWithinLimits}
 use Rattle.verb_loading.specs.Reports.{report_text}
 use Rattle.smv_language.specs.ModelTree.{name_of_fault}
 
--- the refusal of one of the two input files
+-- the refusal of an input file, or of the top event
 abbrev pub refusal_at : Input → InputFault → Refusal
 refusal_at input.Model fault = refusal.Model fault
 refusal_at input.Faults fault = refusal.Faults fault
+refusal_at input.Top fault = refusal.Top fault
+refusal_at input.Causes fault = refusal.Causes fault
+refusal_at input.Trace fault = refusal.NotAccepted (objection.Trace fault)
+refusal_at input.Certificate fault = refusal.NotAccepted (objection.Cert fault)
+
+-- the most bytes that it may have
+abbrev pub limit_of : Input → ℕ
+limit_of input.Model = MOST_FILE_BYTES
+limit_of input.Faults = MOST_FILE_BYTES
+limit_of input.Top = MOST_FILE_BYTES
+limit_of input.Causes = MOST_FILE_BYTES
+limit_of input.Trace = MOST_TRACE_BYTES
+limit_of input.Certificate = MOST_CERT_BYTES
 
 -- why the work can't go on where this is wrong with a file
 abbrev pub stop_at : Input → Wrong → Stop
@@ -57,15 +72,23 @@ abbrev pub stop_of_write : WriteStop → Stop
 stop_of_write write_stop.Failed = stop.Desk
 stop_of_write write_stop.OutOfMemory = stop.Memory
 
--- the file is not there, or it has more bytes than `MOST_FILE_BYTES`
-abbrev pub IsRefusedFile : List NamedFile → Text → InputFault → Type 0
-IsRefusedFile files name fault = ((fault ≡ absent) × (file_of files name ≡ None))
-    ⊎ ((fault ≡ too_long) × (MOST_FILE_BYTES < length (content_of files name)))
+-- the file is not there, or has more bytes than this
+abbrev pub IsRefusedAbove : ℕ → List NamedFile → Text → InputFault → Type 0
+IsRefusedAbove limit files name fault =
+    ((fault ≡ absent) × (file_of files name ≡ None))
+    ⊎ ((fault ≡ record { part = part.Length; number = 1; place = limit }) × (limit < length (content_of files name)))
 
--- the file has these bytes, at most `MOST_FILE_BYTES`
-pub record HasBytes (files : List NamedFile) (name : Text) (bytes : List ℕ) : Type 0 where
+-- the file has these bytes, at most so many
+pub record HasAtMost (limit : ℕ) (files : List NamedFile) (name : Text) (bytes : List ℕ) : Type 0 where
   pub held : file_of files name ≡ Some bytes
-  pub short : length bytes ≤ MOST_FILE_BYTES
+  pub short : length bytes ≤ limit
+
+-- the same of a file that may have `MOST_FILE_BYTES`
+abbrev pub IsRefusedFile : List NamedFile → Text → InputFault → Type 0
+IsRefusedFile = IsRefusedAbove MOST_FILE_BYTES
+
+abbrev pub HasBytes : List NamedFile → Text → List ℕ → Type 0
+HasBytes = HasAtMost MOST_FILE_BYTES
 
 -- the model file is refused
 pub data RefusesModel (files : List NamedFile) (name : Text) (r : Refusal) : Type 0 where

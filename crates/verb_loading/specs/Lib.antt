@@ -10,4 +10,3 @@ pub mod CaseAnswers
 pub mod Events
 pub mod LoadedCases
 pub mod LoadedEvents
-pub mod Tops

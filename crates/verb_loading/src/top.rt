@@ -15,13 +15,12 @@ ghost use Rattle.verb_loading.specs.declared.status.Refusal.{Refusal};
 ghost use Rattle.verb_loading.specs.declared.status.InputFault.{InputFault};
 ghost use Rattle.verb_loading.specs.declared.status.Refusal.TheVariants as refusal;
 ghost use Rattle.verb_loading.specs.declared.input.Stop.TheVariants as stop;
-ghost use Rattle.verb_loading.specs.Tops.{stop_at_top};
 ghost use Rattle.smv_flat_laws.specs.ValueRules.{KeepsValue};
 
-use crate::input::Stop;
+use crate::input::{Input, Stop};
 use crate::loaded::LoadedCase;
 use crate::model::LoadedModel;
-use crate::status::{InputFault, Part, Refusal};
+use crate::status::{InputFault, Part};
 use crate::wrong::Wrong;
 use base_values::Dotted;
 use base_values::limits::MOST_TOP_BYTES;
@@ -48,17 +47,7 @@ pub fn load_top(
 {
     match top_of(alloc, word.as_bytes(), model, case) {
         Ok(top) => Ok(top),
-        Err(wrong) => Err(top_stop(wrong)),
-    }
-}
-
-/// The end of the work where this is wrong with the top event.
-pub fn top_stop(wrong: Wrong) -> Stop
-    ensures { result ≡ stop_at_top wrong }
-{
-    match wrong {
-        Wrong::Refused(fault) => Stop::Refused(Refusal::Top(fault)),
-        Wrong::Memory => Stop::Memory,
+        Err(wrong) => Err(Input::Top.stop(wrong)),
     }
 }
 

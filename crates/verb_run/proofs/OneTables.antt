@@ -24,7 +24,8 @@ use Rattle.verb_loading.specs.Cases.{Case, HoldsCase, IsTop, IsWrongTop, HoldsTo
 use Rattle.verb_run.specs.Tables.{IsListText, AreTopTexts, IsWrongList, no_list, long_list, IsFirstNoTop, IsWrongTops, wrong_list, wrong_event, RefusesTops, tops_file, tops_bytes, RefusesTable, table_no_model, table_no_faults, table_no_tops}
 use Rattle.verb_loading.proofs.Told.{one_refusal}
 use Rattle.verb_loading.proofs.TextFaults.{reason, of_this_kind, same_reason}
-use Rattle.verb_loading.proofs.FileFacts.{no_bytes, one_file_fault, same_bytes}
+use Rattle.base_values.specs.declared.limits.TheConstants.{MOST_FILE_BYTES}
+use Rattle.verb_loading.proofs.FilesWithin.{no_bytes_within, one_fault_above, same_bytes_within}
 use Rattle.verb_loading.proofs.OneTop.{one_wrong_top, top_not_wrong}
 use Rattle.verb_loading.proofs.OneExtending.{one_refused_faults}
 use Rattle.verb_loading.proofs.OneModelFault.{one_refused_model, held_not_refused, one_held_model}
@@ -93,19 +94,19 @@ module _ (p : ProgramTree) (accepted : IsAccepted p) where
     texts_held es h = record { text = record { spelled = h.spelled; only = h.only; depths = h.depths }; few = h.few }
 
     pub one_refused_tops : (r s : Refusal) → RefusesTops files name p r → RefusesTops files name p s → r ≡ s
-    one_refused_tops r s (tops_file a is bad) (tops_file b was also) = is ∙ ap (λ f. refusal.Top f) (one_file_fault files name a b bad also) ∙ sym was
-    one_refused_tops r s (tops_file a is bad) (tops_bytes bytes b was has also) = absurd (no_bytes files name a bytes bad has)
-    one_refused_tops r s (tops_bytes bytes a is has bad) (tops_file b was also) = absurd (no_bytes files name b bytes also has)
+    one_refused_tops r s (tops_file a is bad) (tops_file b was also) = is ∙ ap (λ f. refusal.Top f) (one_fault_above MOST_FILE_BYTES files name a b bad also) ∙ sym was
+    one_refused_tops r s (tops_file a is bad) (tops_bytes bytes b was has also) = absurd (no_bytes_within MOST_FILE_BYTES files name a bytes bad has)
+    one_refused_tops r s (tops_bytes bytes a is has bad) (tops_file b was also) = absurd (no_bytes_within MOST_FILE_BYTES files name b bytes also has)
     one_refused_tops r s (tops_bytes bytes a is has bad) (tops_bytes more b was have also) =
-        is ∙ ap (λ f. refusal.Top f) (one_wrong_tops bytes a b bad (subst (λ bs. IsWrongTops p bs b) (same_bytes files name more bytes have has) also)) ∙ sym was
+        is ∙ ap (λ f. refusal.Top f) (one_wrong_tops bytes a b bad (subst (λ bs. IsWrongTops p bs b) (same_bytes_within MOST_FILE_BYTES files name more bytes have has) also)) ∙ sym was
 
     pub tops_not_refused : (es : List Formula) (r : Refusal) → HoldsTops files name p es → RefusesTops files name p r → ⊥
-    tops_not_refused es r h (tops_file a is bad) = no_bytes files name a h.bytes bad h.has
+    tops_not_refused es r h (tops_file a is bad) = no_bytes_within MOST_FILE_BYTES files name a h.bytes bad h.has
     tops_not_refused es r h (tops_bytes bytes a is has bad) =
-        tops_not_wrong h.bytes es a (texts_held es h) h.are_tops (subst (λ bs. IsWrongTops p bs a) (same_bytes files name bytes h.bytes has h.has) bad)
+        tops_not_wrong h.bytes es a (texts_held es h) h.are_tops (subst (λ bs. IsWrongTops p bs a) (same_bytes_within MOST_FILE_BYTES files name bytes h.bytes has h.has) bad)
 
     pub one_held_tops : (es fs : List Formula) → HoldsTops files name p es → HoldsTops files name p fs → es ≡ fs
-    one_held_tops es fs h g = one_list_text h.bytes es fs (texts_held es h).text (subst (λ bs. IsListText bs fs) (same_bytes files name g.bytes h.bytes g.has h.has) (texts_held fs g).text)
+    one_held_tops es fs h g = one_list_text h.bytes es fs (texts_held es h).text (subst (λ bs. IsListText bs fs) (same_bytes_within MOST_FILE_BYTES files name g.bytes h.bytes g.has h.has) (texts_held fs g).text)
 
 module _ (files : List NamedFile) (model faults tops : Text) where
   pub one_refused_table : (r s : Refusal) → RefusesTable files model faults tops r → RefusesTable files model faults tops s → r ≡ s

@@ -15,7 +15,7 @@ use Rattle.smv_flat_laws.specs.History.{Mode, with_history}
 use Rattle.smv_flat_laws.proofs.HistoryLaws.{no_bits}
 use Rattle.sat_encoding_laws.specs.FlatTraces.{ReachesTop, HasFailedNumber}
 use Rattle.cut_text_laws.specs.TraceOfText.{GivesTrace}
-use Rattle.cut_text_laws.specs.Analysis.{Ending, complete, bounded, told_ending}
+use Rattle.cut_text_laws.specs.Analysis.{Ending, complete, bounded}
 use Rattle.cut_search.specs.declared.answer.End.{End}
 use Rattle.cut_search.specs.declared.answer.End.TheVariants.{Complete, Bounded}
 use Rattle.cut_report_laws.specs.SearchAnswer.{ending_of}
@@ -25,7 +25,6 @@ use Rattle.cert_laws.specs.Subject.{subject_of}
 use Rattle.cert_laws.proofs.Objections.{accepted_has_none}
 use Rattle.cert_file.specs.CertificateFiles.{HoldsCertificate}
 use Rattle.cert_file.proofs.OneCertificate.{held_certificate_not_refused, one_held_certificate, moved}
-use Rattle.verb_command_line.specs.declared.fault.WordFault.{WordFault}
 use Rattle.verb_command_line.specs.Commands.{Command, check, check_causes, check_orders}
 use Rattle.verb_command_line.specs.Meaning.{Means as WordsMean}
 use Rattle.verb_command_line.specs.Sets.{numbers_of}
@@ -43,16 +42,15 @@ use Rattle.verb_loading.specs.LoadedEvents.{case_in}
 use Rattle.cut_model_search.specs.CaseAnalysis.{size_for, IsCertificateFor}
 use Rattle.cut_model_search.specs.Searches.{HasCertificate}
 use Rattle.verb_causes.specs.declared.staged.StagedEvent.{StagedEvent}
-use Rattle.verb_causes.specs.Causes.{staged_in, events_in, HasCauses, causes_in, HoldsStaged, BreaksNoLine, HasFoundCauses}
-use Rattle.verb_causes.specs.Refusals.{RefusesCauseCheck}
+use Rattle.verb_causes.specs.Causes.{staged_in, events_in, HoldsStaged, BreaksNoLine}
 use Rattle.verb_causes.proofs.OneRefusal.{unbroken_cause_check}
 use Rattle.verb_orders.specs.Pairs.{HoldsPair}
-use Rattle.verb_orders.specs.Orders.{Order, claimed, either, claim_word, claim_in, staged_of, against_of, CertifiesClaim, IsClaimWritten, HasOrder}
+use Rattle.verb_orders.specs.Orders.{claimed, claim_word, claim_in, staged_of, against_of, CertifiesClaim, IsClaimWritten}
 use Rattle.verb_orders.proofs.OneRefusal.{certified_check}
 use Rattle.verb_run.specs.Analyses.{Certifies}
 use Rattle.verb_run.specs.Certificates.{subject_in, RefusesLine, at_line, CertRefuses, no_certificate, not_accepted, CheckRefuses, no_event, its_certificate}
-use Rattle.verb_run.specs.Runs.{Outcome, CheckComesTo, refuses_check, is_checked, RefusedOr, is_refused, is_done, CommandComesTo, Means, refuses_words, asked, IsDelivered, HasAnswered}
-use Rattle.verb_run.specs.LaterChecks.{KeepsCertificate, IsAcceptedBy, AnalysesAreAccepted, CausesAreAccepted, OrdersAreAccepted}
+use Rattle.verb_run.specs.Runs.{Outcome, CheckComesTo, refuses_check, is_checked, is_refused, is_done, CommandComesTo, Means, refuses_words, asked, IsDelivered, HasAnswered}
+use Rattle.verb_run.specs.LaterChecks.{AnalysesAreAccepted, CausesAreAccepted, OrdersAreAccepted}
 use Rattle.verb_run.proofs.ExtensionLemmas.{refused_not_asked}
 use Rattle.verb_run.proofs.OneEvent.{event_not_refused}
 

@@ -29,7 +29,7 @@ use Rattle.verb_loading.specs.declared.status.Objection.TheVariants as objection
 use Rattle.verb_loading.specs.declared.status.Refusal.{Refusal}
 use Rattle.verb_loading.specs.declared.status.Refusal.TheVariants as refusal
 use Rattle.verb_loading.specs.declared.input.Stop.TheVariants as stop
-use Rattle.verb_loading.specs.Tasks.{IsRefusedAbove, HasAtMost}
+use Rattle.verb_loading.specs.Inputs.{IsRefusedAbove, HasAtMost}
 use Rattle.verb_run.specs.AnswerTexts.{replay_text}
 use Rattle.verb_loading.specs.LoadedCases.{case_of}
 use Rattle.verb_run.specs.Replays.{text_fault, stop_at_text, RefusesTrace, trace_file, trace_bytes, HoldsTrace, reason_of, RefusesMoment, at_moment, names_where}

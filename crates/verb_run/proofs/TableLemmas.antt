@@ -20,7 +20,8 @@ use Rattle.verb_loading.specs.Wrongs.{IfRefused}
 use Rattle.verb_loading.specs.Inputs.{IsRefusedFile, HasBytes, RefusesModel, HoldsModel, RefusesFaults}
 use Rattle.verb_loading.specs.Cases.{Case, HoldsCase, IsTop, IsWrongTop, by_names, by_kinds, HoldsTops}
 use Rattle.verb_loading.specs.Tasks.{IsTopTree}
-use Rattle.verb_loading.specs.Tops.{stop_at_top}
+use Rattle.verb_loading.specs.declared.input.Input.TheVariants as input
+use Rattle.verb_loading.specs.Inputs.{stop_at}
 use Rattle.verb_run.specs.Tables.{IsEventOf, told_at, AreTopTexts, IsWrongTops, RefusesTops, tops_file, tops_bytes, RefusesTable, table_no_model, table_no_faults, table_no_tops}
 use Rattle.verb_loading.proofs.OneFaults.{same_given as same_item}
 use Rattle.smv_flat_laws.proofs.BothLaws.{both_push}
@@ -113,7 +114,7 @@ pub refuses_tops_file : (told : Option (List NamedFile)) (name : Text) (p : Prog
 refuses_tops_file None name p r a is refused = tt
 refuses_tops_file (Some files) name p r a is refused = tops_file a is refused
 
-pub refuses_tops_bytes : (told : Option (List NamedFile)) (name : Text) (p : ProgramTree) (bytes : List ℕ) (w : Wrong) (r : Refusal) → stop.Refused r ≡ stop_at_top w →
+pub refuses_tops_bytes : (told : Option (List NamedFile)) (name : Text) (p : ProgramTree) (bytes : List ℕ) (w : Wrong) (r : Refusal) → stop.Refused r ≡ stop_at input.Top w →
     IfSome told (λ files. HasBytes files name bytes) → IfRefused (IsWrongTops p bytes) w → IfSome told (λ files. RefusesTops files name p r)
 refuses_tops_bytes None name p bytes w r is has bad = tt
 refuses_tops_bytes (Some files) name p bytes (wrong.Refused a) r is has bad = let same : r ≡ refusal.Top a = cc in tops_bytes bytes a same has bad

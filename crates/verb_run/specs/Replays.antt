@@ -24,7 +24,7 @@ use Rattle.verb_loading.specs.declared.status.Refusal.TheVariants as refusal
 use Rattle.verb_loading.specs.declared.input.Stop.{Stop}
 use Rattle.verb_loading.specs.declared.input.Stop.TheVariants as stop
 use Rattle.verb_loading.specs.Reports.{name_text}
-use Rattle.verb_loading.specs.Tasks.{IsRefusedAbove, HasAtMost}
+use Rattle.verb_loading.specs.Inputs.{IsRefusedAbove, HasAtMost}
 use Rattle.smv_language.specs.declared.model.FlatModel.{FlatModel as Model}
 use Rattle.smv_language.specs.declared.model.Fault.{Fault as Numbering}
 use Rattle.smv_language.specs.ModelTree.{model_tree}

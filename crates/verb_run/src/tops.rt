@@ -18,7 +18,6 @@ ghost use Rattle.cut_text_laws.specs.Analysis.{told_ending};
 ghost use Rattle.cut_report_laws.specs.ExtendedTraces.{Analysis};
 ghost use Rattle.verb_loading.specs.Wrongs.{IfRefused};
 ghost use Rattle.verb_loading.specs.Models.{IsLawful};
-ghost use Rattle.verb_loading.specs.Inputs.{IsRefusedFile, HasBytes};
 ghost use Rattle.verb_loading.specs.Cases.{IsTop, IsWrongTop, HoldsTops, HoldsCase, whole_of};
 ghost use Rattle.verb_loading.specs.LoadedCases.{case_of, IsLoaded};
 ghost use Rattle.verb_run.specs.Tables.{AreTopTexts, IsWrongList, IsFirstNoTop, IsWrongTops, RefusesTops, RefusesTable, IsEventOf};
@@ -26,12 +25,11 @@ ghost use Rattle.verb_run.specs.Tables.{IsExtensible, IsColumn, AreColumns, ende
 ghost use Rattle.verb_run.specs.Tables.{IsTabulable, HasTabulated, TabulatesInPart, told_at};
 ghost use Rattle.verb_loading.specs.declared.status.InputFault.{InputFault};
 ghost use Rattle.verb_loading.specs.declared.status.Refusal.{Refusal};
-ghost use Rattle.verb_loading.specs.declared.status.Refusal.TheVariants as refusal;
 ghost use Rattle.verb_loading.specs.declared.input.Stop.TheVariants as stop;
 ghost use Rattle.verb_loading.specs.declared.wrong.Wrong.{Wrong};
 ghost use Rattle.smv_flat_laws.specs.ValueRules.{KeepsValue};
 
-use base_files::{Desk, DeskFault, WriteStop, read_whole, say_whole};
+use base_files::{Desk, WriteStop, say_whole};
 use base_values::limits::{MOST_FILE_BYTES, MOST_TOPS};
 use base_values::{Dotted, Ending, Items, OutOfMemory};
 use cut_frames::Frames;
@@ -44,11 +42,11 @@ use smv_language::model::Flat;
 use smv_language::{Expr, ExprList};
 use std::alloc::Global;
 use verb_command_line::Fmea;
-use verb_loading::input::Stop;
+use verb_loading::input::{Input, Stop, read_input};
 use verb_loading::loaded::{LoadedCase, load_case};
 use verb_loading::model::{LoadedModel, load_model};
 use verb_loading::status::{InputFault, Part, Refusal, Status};
-use verb_loading::top::{judge_top, over_extension, top_stop};
+use verb_loading::top::{judge_top, over_extension};
 use verb_loading::wrong::Wrong;
 
 /// Top events as a file spells them, and over the flat model of an extension.
@@ -113,40 +111,11 @@ pub(crate) fn load_tops<D: Desk>(
     ensures failed { IsErrOf result stop.Desk → Rose (D.told desk.old).faults (D.told desk.new).faults }
     ensures stays { OnlyReads (D.told desk.old) (D.told desk.new) }
 {
-    let bytes = read_tops(alloc, desk, name)?;
+    let bytes = read_input(alloc, desk, Input::Top, name)?;
     match tops_of(alloc, &bytes, model, case) {
         Ok(tops) => Ok(tops),
-        Err(wrong) => Err(top_stop(wrong)),
+        Err(wrong) => Err(Input::Top.stop(wrong)),
     }
-}
-
-/// The bytes of the file of top events.
-fn read_tops<D: Desk>(alloc: Global, desk: &mut D, name: &str) -> Result<Vec<u8>, Stop>
-    ensures bytes { IfOk result (λ bytes. IfSome (D.told desk.old).files (λ files. HasBytes files name.now bytes.items)) }
-    ensures short { IfOk result (λ bytes. length bytes.items ≤ MOST_FILE_BYTES) }
-    ensures refused { (r : Refusal) → IsErrOf result (stop.Refused r) →
-        (fault : InputFault) × (r ≡ refusal.Top fault) × IfSome (D.told desk.old).files (λ files. IsRefusedFile files name.now fault) }
-    ensures failed { IsErrOf result stop.Desk → Rose (D.told desk.old).faults (D.told desk.new).faults }
-    ensures stays { OnlyReads (D.told desk.old) (D.told desk.new) }
-{
-    match read_whole(alloc, desk, name, MOST_FILE_BYTES) {
-        Ok(bytes) => Ok(bytes),
-        Err(DeskFault::Absent) => Err(file_stop(Part::Absent, 1, 0)),
-        Err(DeskFault::TooLong) => Err(file_stop(Part::Length, 1, MOST_FILE_BYTES)),
-        Err(DeskFault::Failed) => Err(Stop::Desk),
-        Err(DeskFault::OutOfMemory) => Err(Stop::Memory),
-    }
-}
-
-/// The end of the work where a rule of the file of top events is broken at a place.
-fn file_stop(part: Part, number: u32, place: u64) -> Stop
-    ensures { result ≡ stop.Refused (refusal.Top (record { part = part; number = number; place = place })) }
-{
-    Stop::Refused(Refusal::Top(InputFault {
-        part,
-        number,
-        place,
-    }))
 }
 
 /// The top events that the bytes spell, over the flat model of the extension.

@@ -6,23 +6,18 @@ ghost use Rattle.base_files.specs.Desk.{OnlyReads, Rose};
 ghost use Rattle.smv_language.specs.ModelTree.{model_tree};
 ghost use Rattle.smv_language.specs.NumberedValues.{told_trace};
 ghost use Rattle.cut_text_laws.specs.TraceOfText.{IsPrintable, HasItsSymbols};
-ghost use Rattle.verb_loading.specs.Tasks.{IsRefusedAbove, HasAtMost};
 ghost use Rattle.verb_run.specs.Replays.{RefusesTrace, HoldsTrace, stop_at_text};
-ghost use Rattle.verb_loading.specs.declared.status.InputFault.{InputFault};
 ghost use Rattle.verb_loading.specs.declared.status.Refusal.{Refusal};
-ghost use Rattle.verb_loading.specs.declared.status.Refusal.TheVariants as refusal;
-ghost use Rattle.verb_loading.specs.declared.status.Objection.TheVariants as objection;
 ghost use Rattle.verb_loading.specs.declared.input.Stop.TheVariants as stop;
 ghost use Rattle.cert_check.specs.Moments.{CanBeReplayed};
 
-use base_files::{Desk, DeskFault, read_whole};
+use base_files::Desk;
 use base_values::MomentList;
-use base_values::limits::MOST_TRACE_BYTES;
 use cut_report::{TraceFault, read_trace};
 use smv_types::Typed;
 use std::alloc::Global;
-use verb_loading::input::Stop;
-use verb_loading::status::{InputFault, Objection, Part, Refusal};
+use verb_loading::input::{Input, Stop, read_input};
+use verb_loading::status::{Part, Refusal};
 
 /// The moments that the file of a trace gives, over the flat model of an extension.
 pub(crate) fn load_trace<D: Desk>(
@@ -41,29 +36,10 @@ pub(crate) fn load_trace<D: Desk>(
     ensures failed { IsErrOf result stop.Desk → Rose (D.told desk.old).faults (D.told desk.new).faults }
     ensures stays { OnlyReads (D.told desk.old) (D.told desk.new) }
 {
-    let bytes = read_trace_file(alloc, desk, name)?;
+    let bytes = read_input(alloc, desk, Input::Trace, name)?;
     match read_trace(alloc, typed, &bytes) {
         Ok(trace) => Ok(trace),
         Err(fault) => Err(text_stop(fault)),
-    }
-}
-
-/// The bytes of the file of a trace.
-fn read_trace_file<D: Desk>(alloc: Global, desk: &mut D, name: &str) -> Result<Vec<u8>, Stop>
-    ensures bytes { IfOk result (λ bytes. IfSome (D.told desk.old).files (λ files. HasAtMost MOST_TRACE_BYTES files name.now bytes.items)) }
-    ensures short { IfOk result (λ bytes. length bytes.items ≤ MOST_TRACE_BYTES) }
-    ensures refused { (r : Refusal) → IsErrOf result (stop.Refused r) →
-        (fault : InputFault) × (r ≡ refusal.NotAccepted (objection.Trace fault))
-        × IfSome (D.told desk.old).files (λ files. IsRefusedAbove MOST_TRACE_BYTES files name.now fault) }
-    ensures failed { IsErrOf result stop.Desk → Rose (D.told desk.old).faults (D.told desk.new).faults }
-    ensures stays { OnlyReads (D.told desk.old) (D.told desk.new) }
-{
-    match read_whole(alloc, desk, name, MOST_TRACE_BYTES) {
-        Ok(bytes) => Ok(bytes),
-        Err(DeskFault::Absent) => Err(trace_stop(Part::Absent, 1, 0)),
-        Err(DeskFault::TooLong) => Err(trace_stop(Part::Length, 1, MOST_TRACE_BYTES)),
-        Err(DeskFault::Failed) => Err(Stop::Desk),
-        Err(DeskFault::OutOfMemory) => Err(Stop::Memory),
     }
 }
 
@@ -72,22 +48,11 @@ fn text_stop(fault: TraceFault) -> Stop
     ensures { result ≡ stop_at_text fault }
 {
     match fault {
-        TraceFault::BadLine(line) => trace_stop(Part::Read, 1, line),
-        TraceFault::UnknownName(line) => trace_stop(Part::Read, 2, line),
-        TraceFault::Outside(line) => trace_stop(Part::Read, 3, line),
-        TraceFault::MissingValue(moment) => trace_stop(Part::Read, 4, moment),
-        TraceFault::Twice(line) => trace_stop(Part::Read, 5, line),
+        TraceFault::BadLine(line) => Input::Trace.broken(Part::Read, 1, line),
+        TraceFault::UnknownName(line) => Input::Trace.broken(Part::Read, 2, line),
+        TraceFault::Outside(line) => Input::Trace.broken(Part::Read, 3, line),
+        TraceFault::MissingValue(moment) => Input::Trace.broken(Part::Read, 4, moment),
+        TraceFault::Twice(line) => Input::Trace.broken(Part::Read, 5, line),
         TraceFault::OutOfMemory => Stop::Memory,
     }
-}
-
-/// The end of the work where a rule of the file of a trace is broken at a place.
-fn trace_stop(part: Part, number: u32, place: u64) -> Stop
-    ensures { result ≡ stop.Refused (refusal.NotAccepted (objection.Trace (record { part = part; number = number; place = place }))) }
-{
-    Stop::Refused(Refusal::NotAccepted(Objection::Trace(InputFault {
-        part,
-        number,
-        place,
-    })))
 }

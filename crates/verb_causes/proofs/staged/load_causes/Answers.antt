@@ -21,14 +21,14 @@ returns-in-Ok-clause-ok g c =
 pub returns-in_err-bytes-clause-refused : goal.returns-in_err-bytes-clause-refused
 returns-in_err-bytes-clause-refused g c r e =
     let exit = err_from_is_err_and c.from_residual.result c.from_residual.ensures.1 in
-    let refused : IsErrOf c.read_causes_file.result (stop.Refused r) = c.in_err-bytes.was ∙ ap (λ s. Err s) (sym exit.2 ∙ same_fault (sym exit.1 ∙ e)) in
+    let refused : IsErrOf c.read_input.result (stop.Refused r) = c.in_err-bytes.was ∙ ap (λ s. Err s) (sym exit.2 ∙ same_fault (sym exit.1 ∙ e)) in
     let case = c.args.case.now in
-    file_refused (faults_in case) (extension_in case) (flat_in case) (modes_in case) _ _ r (c.read_causes_file.ensures.refused r refused)
+    file_refused (faults_in case) (extension_in case) (flat_in case) (modes_in case) _ _ r (c.read_input.ensures.refused r refused)
 
 pub returns-in_err-bytes-clause-failed : goal.returns-in_err-bytes-clause-failed
 returns-in_err-bytes-clause-failed g c e =
     let exit = err_from_is_err_and c.from_residual.result c.from_residual.ensures.1 in
-    c.read_causes_file.ensures.failed (c.in_err-bytes.was ∙ ap (λ s. Err s) (sym exit.2 ∙ same_fault (sym exit.1 ∙ e)))
+    c.read_input.ensures.failed (c.in_err-bytes.was ∙ ap (λ s. Err s) (sym exit.2 ∙ same_fault (sym exit.1 ∙ e)))
 
 pub returns-in_err-causes-clause-refused : goal.returns-in_err-causes-clause-refused
 returns-in_err-causes-clause-refused g c r e =
@@ -50,7 +50,7 @@ returns-clause-refused g c r e =
     let cs = map cause_of c.in_ok-causes.causes in
     let are = subst (λ bs. AreCausesOf case bs cs) c.deref.ensures.value c.in_ok-causes.ensures.read in
     bytes_refused (faults_in case) (extension_in case) (flat_in case) (modes_in case) _ _ c.in_ok-bytes.bytes.items r c.in_ok-bytes.ensures.bytes
-    (refuses_limit (faults_in case) (extension_in case) (flat_in case) (modes_in case) c.in_ok-bytes.bytes.items cs are c.in-Err.wrong r (sym (same_fault e) ∙ c.causes_stop.ensures) c.in-Err.ensures.wrong)
+    (refuses_limit (faults_in case) (extension_in case) (flat_in case) (modes_in case) c.in_ok-bytes.bytes.items cs are c.in-Err.wrong r (sym (same_fault e) ∙ c.stop.ensures) c.in-Err.ensures.wrong)
 
 pub returns-clause-failed : goal.returns-clause-failed
-returns-clause-failed g c e = absurd (no_desk_at_causes _ (sym (same_fault e) ∙ c.causes_stop.ensures))
+returns-clause-failed g c e = absurd (no_desk_at_causes _ (sym (same_fault e) ∙ c.stop.ensures))

@@ -9,8 +9,8 @@ use Rattle.base_values.proofs.ResultLaws.{same_fault}
 pub returns-in-Err-clause-refused : goal.returns-in-Err-clause-refused
 returns-in-Err-clause-refused c r e =
     let p = program_tree c.args.model.now.program in
-    refuses_top (IsWrongWord p c.args.word.now) c.in-Err.wrong r (sym (same_fault e) ∙ c.top_stop.ensures)
+    refuses_top (IsWrongWord p c.args.word.now) c.in-Err.wrong r (sym (same_fault e) ∙ c.stop.ensures)
     (subst (λ b. IfRefused (IsWrongWord p b) c.in-Err.wrong) c.as_bytes.ensures.value c.in-Err.ensures.wrong)
 
 pub returns-in-Err-clause-desk : goal.returns-in-Err-clause-desk
-returns-in-Err-clause-desk c e = no_desk_at_top c.in-Err.wrong (sym (same_fault e) ∙ c.top_stop.ensures)
+returns-in-Err-clause-desk c e = no_desk_at_top c.in-Err.wrong (sym (same_fault e) ∙ c.stop.ensures)

@@ -13,8 +13,8 @@ use Rattle.base_values.proofs.ResultLaws.{same_fault}
 pub returns-in_err-bytes-clause-refused : goal.returns-in_err-bytes-clause-refused
 returns-in_err-bytes-clause-refused g c r e =
     let exit = err_from_is_err_and c.from_residual.result c.from_residual.ensures.1 in
-    let refused : IsErrOf c.read_trace_file.result (stop.Refused r) = c.in_err-bytes.was ∙ ap (λ stop. Err stop) (sym exit.2 ∙ same_fault (sym exit.1 ∙ e)) in
-    let wrong = c.read_trace_file.ensures.refused r refused in
+    let refused : IsErrOf c.read_input.result (stop.Refused r) = c.in_err-bytes.was ∙ ap (λ stop. Err stop) (sym exit.2 ∙ same_fault (sym exit.1 ∙ e)) in
+    let wrong = c.read_input.ensures.refused r refused in
     refuses_trace_file _ _ _ r wrong.0 wrong.1 wrong.2
 
 pub returns-clause-refused : goal.returns-clause-refused
