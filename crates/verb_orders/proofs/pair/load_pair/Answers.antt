@@ -5,6 +5,7 @@ use Rattle.smv_language.specs.ModelTree.{model_tree}
 use Rattle.sat_encoding_laws.specs.FlatTraces.{IsNumbered}
 use Rattle.smv_type_laws.specs.Models.{IsTyped}
 use Rattle.verb_command_line.specs.Sets.{numbers_of}
+use Rattle.base_files.proofs.Stays.{reads_on}
 use Rattle.verb_loading.proofs.LoadedLaws.{holds_case}
 use Rattle.verb_loading.specs.declared.input.Stop.TheVariants as stops
 use Rattle.verb_orders.specs.Pairs.{IsPair, IsStaged, RefusesStage}
@@ -95,3 +96,9 @@ returns-clause-staged g c =
 
 pub returns-clause-numbers : goal.returns-clause-numbers
 returns-clause-numbers g c asked = c.in_ok-set.ensures.numbers asked
+
+pub returns-in_err-top-clause-stays : goal.returns-in_err-top-clause-stays
+returns-in_err-top-clause-stays g c = reads_on _ _ _ c.load_model.ensures.stays c.load_case.ensures.stays
+
+pub returns-clause-stays : goal.returns-clause-stays
+returns-clause-stays g c = reads_on _ _ _ c.load_model.ensures.stays c.load_case.ensures.stays
