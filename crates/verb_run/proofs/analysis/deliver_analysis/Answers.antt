@@ -4,6 +4,7 @@ use Rattle.verb_run.specs.AnswerTexts.{extension_text}
 use Rattle.verb_run.specs.Findings.{analysed_case}
 use Rattle.verb_run.specs.Analyses.{part_of_extension}
 use Rattle.verb_run.proofs.Concluded.{whole_prefix, written_extension, has_analysed, analyses_in_part}
+use Rattle.base_files.proofs.Stays.{writes_later, later_on}
 use Rattle.verb_run.proofs.analysis.deliver_analysis.Goals as goal
 
 pub returns-in_err-found-clause-part : goal.returns-in_err-found-clause-part
@@ -30,3 +31,12 @@ returns-clause-part g c =
     let a = c.args.asked.now in
     let first = written_extension a c.requires.loaded.program _ _ _ _ c.in_ok-text.ensures.text c.deref.ensures.value c.in_ok-write_whole.ensures.ok in
     analyses_in_part _ _ _ _ _ a.cert.now c.in_ok-found.found c.in_ok-found.ensures _ _ _ _ _ first _ c.write_whole.ensures.stays.said c.conclude.ensures.part
+
+pub returns-in_err-found-clause-stays : goal.returns-in_err-found-clause-stays
+returns-in_err-found-clause-stays g c = writes_later _ _ c.write_whole.ensures.stays
+
+pub returns-in_err-conclude-clause-stays : goal.returns-in_err-conclude-clause-stays
+returns-in_err-conclude-clause-stays g c = later_on _ _ _ (writes_later _ _ c.write_whole.ensures.stays) c.conclude.ensures.stays
+
+pub returns-clause-stays : goal.returns-clause-stays
+returns-clause-stays g c = later_on _ _ _ (writes_later _ _ c.write_whole.ensures.stays) c.conclude.ensures.stays

@@ -8,6 +8,7 @@ use Rattle.verb_loading.specs.LoadedCases.{case_of}
 use Rattle.verb_loading.specs.declared.input.Stop.TheVariants as stop
 use Rattle.verb_loading.proofs.LoadedLaws.{holds_case}
 use Rattle.verb_run.proofs.TableLemmas.{table_model_refused, table_faults_refused, table_tops_refused}
+use Rattle.base_files.proofs.Stays.{reads_on}
 use Rattle.verb_run.proofs.tops.load_table.Goals as goal
 use Rattle.base_values.proofs.ResultLaws.{same_fault}
 
@@ -48,3 +49,12 @@ returns-clause-able g c =
       events = c.in_ok-tops.ensures.events;
       small = c.requires;
     }
+
+pub returns-in_err-case-clause-stays : goal.returns-in_err-case-clause-stays
+returns-in_err-case-clause-stays g c = reads_on _ _ _ c.load_model.ensures.stays c.load_case.ensures.stays
+
+pub returns-in_err-tops-clause-stays : goal.returns-in_err-tops-clause-stays
+returns-in_err-tops-clause-stays g c = reads_on _ _ _ (reads_on _ _ _ c.load_model.ensures.stays c.load_case.ensures.stays) c.load_tops.ensures.stays
+
+pub returns-clause-stays : goal.returns-clause-stays
+returns-clause-stays g c = reads_on _ _ _ (reads_on _ _ _ c.load_model.ensures.stays c.load_case.ensures.stays) c.load_tops.ensures.stays

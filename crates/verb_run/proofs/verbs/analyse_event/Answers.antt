@@ -59,3 +59,6 @@ returns-in-Ok-clause-status g c =
 
 pub returns-in-Err-clause-status : goal.returns-in-Err-clause-status
 returns-in-Err-clause-status g c = stopped_of (seen (ask.Analyse c.args.asked.now)) c.stopped.result c.in-Err.stop _ _ _ _ c.stopped.ensures.stopped
+
+pub returns-in-Err-clause-stays : goal.returns-in-Err-clause-stays
+returns-in-Err-clause-stays g c = later_on _ _ _ (reads_later _ _ c.prepare_analysis.ensures.stays) c.stopped.ensures.stays

@@ -4,6 +4,7 @@ use Rattle.verb_command_line.specs.CommandView.{seen}
 use Rattle.verb_run.specs.Runs.{says, CommandComesTo}
 use Rattle.verb_run.proofs.OutcomeLemmas.{answers_prepared, stops_at_prepared, answers_stop, leaves_stop}
 use Rattle.verb_run.proofs.StatusLaws.{answered_of, stopped_of}
+use Rattle.base_files.proofs.Stays.{reads_later, later_on}
 use Rattle.verb_run.proofs.verbs.check_certificate.Goals as goal
 
 pub returns-in-Ok-clause-answered : goal.returns-in-Ok-clause-answered
@@ -33,3 +34,9 @@ returns-in-Ok-clause-status g c = answered_of (seen (ask.Check c.args.asked.now)
 
 pub returns-in-Err-clause-status : goal.returns-in-Err-clause-status
 returns-in-Err-clause-status g c = stopped_of (seen (ask.Check c.args.asked.now)) c.stopped.result c.in-Err.stop _ _ _ _ c.stopped.ensures.stopped
+
+pub returns-in-Ok-clause-stays : goal.returns-in-Ok-clause-stays
+returns-in-Ok-clause-stays g c = later_on _ _ _ (reads_later _ _ c.prepare_check.ensures.stays) c.deliver_report.ensures.stays
+
+pub returns-in-Err-clause-stays : goal.returns-in-Err-clause-stays
+returns-in-Err-clause-stays g c = later_on _ _ _ (reads_later _ _ c.prepare_check.ensures.stays) c.stopped.ensures.stays

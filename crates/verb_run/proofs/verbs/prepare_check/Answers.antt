@@ -2,6 +2,7 @@ use Rattle.std.proofs.Common.{Err, IsErrOf, sym, ap, ◌∙◌}
 use Rattle.std.proofs.lemmas.Result.{err_from_is_err_and, IfOk-weaker}
 use Rattle.verb_loading.specs.declared.input.Stop.TheVariants as stop
 use Rattle.verb_run.proofs.CheckedLaws.{check_has_no_event, check_refused, check_says}
+use Rattle.base_files.proofs.Stays.{reads_on}
 use Rattle.verb_run.proofs.verbs.prepare_check.Goals as goal
 use Rattle.base_values.proofs.ResultLaws.{same_fault}
 
@@ -21,3 +22,6 @@ pub returns-clause-ok : goal.returns-clause-ok
 returns-clause-ok g c =
     IfOk-weaker c.check_file.result _ _
     (λ report said. check_says _ _ _ _ _ _ c.in_ok-loaded.loaded report c.load_event.ensures.stays.files c.in_ok-loaded.ensures.ok c.in_ok-loaded.ensures.event said) c.check_file.ensures.ok
+
+pub returns-clause-stays : goal.returns-clause-stays
+returns-clause-stays g c = reads_on _ _ _ c.load_event.ensures.stays c.check_file.ensures.stays

@@ -2,6 +2,7 @@ use Rattle.std.proofs.Common.{Err, IsErrOf, sym, ap, ◌∙◌}
 use Rattle.std.proofs.lemmas.Result.{err_from_is_err_and, IfOk-weaker}
 use Rattle.verb_loading.specs.declared.input.Stop.TheVariants as stop
 use Rattle.verb_run.proofs.OutcomeLemmas.{comes_to_no_model, comes_to_no_faults, comes_to_extension}
+use Rattle.base_files.proofs.Stays.{reads_on}
 use Rattle.verb_run.proofs.verbs.prepare_extension.Goals as goal
 use Rattle.base_values.proofs.ResultLaws.{same_fault}
 
@@ -19,3 +20,6 @@ pub returns-clause-ok : goal.returns-clause-ok
 returns-clause-ok g c =
     IfOk-weaker c.load_extension.result _ _
     (λ made has. comes_to_extension _ _ _ _ _ _ made c.load_model.ensures.stays.files c.in_ok-model.ensures.ok has) c.load_extension.ensures.ok
+
+pub returns-clause-stays : goal.returns-clause-stays
+returns-clause-stays g c = reads_on _ _ _ c.load_model.ensures.stays c.load_extension.ensures.stays

@@ -7,6 +7,7 @@ use Rattle.verb_run.specs.Runs.{refuses, says}
 use Rattle.verb_loading.specs.declared.input.Stop.TheVariants as stop
 use Rattle.verb_run.proofs.OutcomeLemmas.{replays_no_model, replays_no_faults, replays_no_top, replays_trace}
 use Rattle.verb_loading.proofs.LoadedLaws.{holds_case}
+use Rattle.base_files.proofs.Stays.{reads_on}
 use Rattle.verb_run.proofs.verbs.prepare_replay.Goals as goal
 use Rattle.base_values.proofs.ResultLaws.{same_fault}
 
@@ -48,3 +49,12 @@ returns-clause-ok g c =
     let holds = holds_case _ _ c.args.asked.now.trace.now c.args.asked.now.top.now _ _ p c.in_ok-case.case c.load_model.ensures.stays.files c.in_ok-model.ensures.ok c.in_ok-case.ensures.ok in
     IfOk-weaker c.replay_file.result _ _
     (λ report comes. replays_trace _ _ _ _ _ _ (case_of p c.in_ok-case.case) (flat_tree c.in_ok-top.top) (says report) (c.load_case.ensures.stays.files ∙ c.load_model.ensures.stays.files) holds c.in_ok-top.ensures.ok comes) c.replay_file.ensures.ok
+
+pub returns-in_err-case-clause-stays : goal.returns-in_err-case-clause-stays
+returns-in_err-case-clause-stays g c = reads_on _ _ _ c.load_model.ensures.stays c.load_case.ensures.stays
+
+pub returns-in_err-top-clause-stays : goal.returns-in_err-top-clause-stays
+returns-in_err-top-clause-stays g c = reads_on _ _ _ c.load_model.ensures.stays c.load_case.ensures.stays
+
+pub returns-clause-stays : goal.returns-clause-stays
+returns-clause-stays g c = reads_on _ _ _ (reads_on _ _ _ c.load_model.ensures.stays c.load_case.ensures.stays) c.replay_file.ensures.stays

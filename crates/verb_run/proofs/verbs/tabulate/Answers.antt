@@ -7,6 +7,7 @@ use Rattle.verb_run.proofs.OutcomeLemmas.{answers_prepared, stops_at_prepared, f
 use Rattle.verb_loading.proofs.SaidLaws.{rose_later}
 use Rattle.verb_run.proofs.StatusLaws.{finished_of, columns_of, stopped_of}
 use Rattle.std.proofs.lemmas.Result.{IfOk-weaker}
+use Rattle.base_files.proofs.Stays.{reads_later, later_on}
 use Rattle.verb_run.proofs.verbs.tabulate.Goals as goal
 
 pub returns-in-Ok-clause-answered : goal.returns-in-Ok-clause-answered
@@ -55,3 +56,9 @@ returns-in-Ok-clause-status g c =
 
 pub returns-in-Err-clause-status : goal.returns-in-Err-clause-status
 returns-in-Err-clause-status g c = stopped_of (seen (ask.Fmea c.args.asked.now)) c.stopped.result c.in-Err.stop _ _ _ _ c.stopped.ensures.stopped
+
+pub returns-in-Ok-clause-stays : goal.returns-in-Ok-clause-stays
+returns-in-Ok-clause-stays g c = later_on _ _ _ (reads_later _ _ c.prepare_table.ensures.stays) c.deliver_table.ensures.stays
+
+pub returns-in-Err-clause-stays : goal.returns-in-Err-clause-stays
+returns-in-Err-clause-stays g c = later_on _ _ _ (reads_later _ _ c.prepare_table.ensures.stays) c.stopped.ensures.stays
