@@ -11,6 +11,7 @@ use Rattle.verb_run.proofs.TopEvents.{event_searchable}
 use Rattle.verb_tops.specs.Each.{HasReported}
 use Rattle.verb_tops.specs.Work.{case_of_asked, events_of_asked, size_of_asked}
 use Rattle.verb_tops.proofs.ReportLaws.{none_reported, none_there, some_there, no_events}
+use Rattle.base_files.proofs.Stays.{later_none}
 use Rattle.verb_tops.proofs.each.search_each.Goals as goal
 
 pub returns-then-is_empty-clause-ok : goal.returns-then-is_empty-clause-ok
@@ -34,3 +35,6 @@ of_case-requires-clause-searchable g c =
 
 pub search_in-requires-clause-system : goal.search_in-requires-clause-system
 search_in-requires-clause-system g c = c.in_ok-frames.ensures ∙ ap (λ v. system_of (whole_in v)) c.in_ok-model.ensures.model
+
+pub returns-then-is_empty-clause-stays : goal.returns-then-is_empty-clause-stays
+returns-then-is_empty-clause-stays g c = later_none _
