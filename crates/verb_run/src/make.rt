@@ -227,8 +227,8 @@ fn summarise(alloc: Global, asked: &Making, panel: &mut Panel) -> Result<Summary
     let loaded = &asked.made.loaded;
     let limited = &loaded.case.limited;
     let size = size_of(None, limited.faults.len());
-    let model = FaultyModel::of_case(alloc, &loaded.case, &loaded.top)?;
-    let a = model.analyse(alloc, asked.depth, size, panel)?;
+    let searched = FaultyModel::of_case(alloc, &loaded.case, &loaded.top)?;
+    let a = searched.analyse(alloc, asked.depth, size, panel)?;
     let ending = told(&a.end);
     let counts = Counts {
         stages: asked.stages,

@@ -23,4 +23,4 @@ returns g c =
     let m = c.args.asked.now in
     let l = m.made.loaded in
     summarised (program_tree l.model.program) l.case (flat_tree l.top) c.requires _ _ _ _ (c.len-2.ensures ∙ ap (λ k. length k.variables) c.model.ensures.model) c.len-3.ensures c.bits.ensures.bits
-    m.stages m.depth c.size_of-size.result c.in_ok-a.a c.in_ok-line.line c.told-ending.result (c.size_of-size.ensures ∙ c.len.ensures) c.len-4.ensures (subst (λ v. AnswersSearch v m.depth c.size_of-size.result c.in_ok-a.a) c.in_ok-model.ensures.model c.in_ok-a.ensures) c.told-ending.ensures c.in_ok-line.ensures
+    m.stages m.depth c.size_of-size.result c.in_ok-a.a c.in_ok-line.line c.told-ending.result (c.size_of-size.ensures ∙ c.len.ensures) c.len-4.ensures (subst (λ v. AnswersSearch v m.depth c.size_of-size.result c.in_ok-a.a) c.in_ok-searched.ensures.model c.in_ok-a.ensures) c.told-ending.ensures c.in_ok-line.ensures

@@ -25,7 +25,7 @@ returns-in-Ok-clause-meant g c f is = never_words (seen c.new.result) c.carry_ou
 
 pub returns-in-Err-clause-answered : goal.returns-in-Err-clause-answered
 returns-in-Err-clause-answered g c answer =
-    answers_words _ _ _ _ (map (λ w. w.now) c.args.words.now) c.in-Err.fault c.reject.result c.in-Err.ensures.refused c.reject.ensures.ends c.reject.ensures.stays.said c.reject.ensures.stays.files answer
+    answers_words _ _ _ _ (map (λ w. w.now) c.args.words.now) c.in-Err.fault c.reject.result c.in-Err.ensures.refused c.reject.ensures.ends c.reject.ensures.said c.reject.ensures.stays.files answer
 
 pub returns-in-Err-clause-left : goal.returns-in-Err-clause-left
 returns-in-Err-clause-left g c = inr (stops_at_words _ _ _ _ (map (λ w. w.now) c.args.words.now) c.in-Err.fault c.in-Err.ensures.refused c.reject.ensures.part c.reject.ensures.stays.files)
