@@ -15,7 +15,7 @@ returns-in-Ok-Analyse-clause-answered g c answer =
 pub returns-in-Ok : goal.returns-in-Ok
 returns-in-Ok g c =
     record {
-      answered = λ answer. words_refused (map (λ w. w.now) c.args.words.now) _ _ _ _ c.reject.result _ c.reject.ensures.ends c.reject.ensures.stays.said c.reject.ensures.stays.files answer;
+      answered = λ answer. words_refused (map (λ w. w.now) c.args.words.now) _ _ _ _ c.reject.result _ c.reject.ensures.ends c.reject.ensures.said c.reject.ensures.stays.files answer;
       failed = c.reject.ensures.failed;
       later = c.reject.ensures.stays.later;
       quiet = c.reject.ensures.stays.quiet;
@@ -23,4 +23,4 @@ returns-in-Ok g c =
 
 pub returns-in-Err-clause-answered : goal.returns-in-Err-clause-answered
 returns-in-Err-clause-answered g c answer =
-    words_refused (map (λ w. w.now) c.args.words.now) _ _ _ _ c.reject-in-Err.result c.in-Err.fault c.reject-in-Err.ensures.ends c.reject-in-Err.ensures.stays.said c.reject-in-Err.ensures.stays.files answer
+    words_refused (map (λ w. w.now) c.args.words.now) _ _ _ _ c.reject-in-Err.result c.in-Err.fault c.reject-in-Err.ensures.ends c.reject-in-Err.ensures.said c.reject-in-Err.ensures.stays.files answer
