@@ -1,3 +1,4 @@
+pub mod BorrowedTexts
 pub mod Counts
 pub mod Separators
 pub mod Domains

@@ -1,5 +1,5 @@
 -- What is found in the rest of a part's sites is found in all of them, site after site.
-use Rattle.std.proofs.Common.{◌≡◌, ℕ, suc, ◌+◌, ◌≤◌, List, [], ◌∷◌, length, drop, Some, sym, ap, subst, ◌∙◌, arith}
+use Rattle.std.proofs.Common.{◌≡◌, ℕ, ◌+◌, ◌≤◌, List, [], ◌∷◌, length, drop, Some, sym, ap, subst, ◌∙◌}
 use Rattle.std.specs.Prelude.{slice_get}
 use Rattle.std.proofs.lemmas.List.{drop_all}
 use Rattle.cut_text_laws.specs.Lines.{Line}
@@ -12,10 +12,7 @@ use Rattle.cert_check.specs.SiteFindings.{IsKeptAt, IsBrokenAt, AreKept, IsFirst
 use Rattle.cert_check.specs.declared.judged.Judged.TheVariants.{Yes, No}
 use Rattle.cert_check.proofs.Finding.{kept_none, kept_then, broken_here, kept_both, broken_front}
 use Rattle.base_values.proofs.ListLaws.{drop_there}
-
--- the place of an item and what is left
-next : (k : ℕ) → suc k ≡ k + 1
-next k = omega arith
+use Rattle.std.proofs.Math.Numerals.{suc-eq-add-one}
 
 module _ (a : Matter) where
   pub goes_itself : (xs : List Site) → GoesOn a xs xs
@@ -35,7 +32,7 @@ module _ (a : Matter) where
       set_sites k (drop k sets) (drop k texts) ≡ a_set k set ∷ a_trace k set text ∷ set_sites (k + 1) (drop (k + 1) sets) (drop (k + 1) texts)
   set_next k sets texts set text e f =
       ap (λ xs. set_sites k xs (drop k texts)) (drop_there sets k set e) ∙ ap (set_sites k (set ∷ drop (k + 1) sets)) (drop_there texts k text f)
-      ∙ ap (λ n. a_set k set ∷ a_trace k set text ∷ set_sites n (drop (k + 1) sets) (drop (k + 1) texts)) (next k)
+      ∙ ap (λ n. a_set k set ∷ a_trace k set text ∷ set_sites n (drop (k + 1) sets) (drop (k + 1) texts)) (suc-eq-add-one k)
 
   pub set_goes_on : (k : ℕ) (sets : List (List ℕ)) (texts : List (List Line)) (set : List ℕ) (text : List Line) (all : List Site) → slice_get sets k ≡ Some set → slice_get texts k ≡ Some text →
       GoesOn a (set_sites k (drop k sets) (drop k texts)) all → AreKept a (a_set k set ∷ a_trace k set text ∷ []) → GoesOn a (set_sites (k + 1) (drop (k + 1) sets) (drop (k + 1) texts)) all
@@ -55,7 +52,7 @@ module _ (a : Matter) where
   -- Clauses.
   clause_next : (i : ℕ) (clauses : List (List Literal)) (clause : List Literal) → slice_get clauses i ≡ Some clause →
       clause_sites i (drop i clauses) ≡ a_clause i clause ∷ clause_sites (i + 1) (drop (i + 1) clauses)
-  clause_next i clauses clause e = ap (clause_sites i) (drop_there clauses i clause e) ∙ ap (λ n. a_clause i clause ∷ clause_sites n (drop (i + 1) clauses)) (next i)
+  clause_next i clauses clause e = ap (clause_sites i) (drop_there clauses i clause e) ∙ ap (λ n. a_clause i clause ∷ clause_sites n (drop (i + 1) clauses)) (suc-eq-add-one i)
 
   pub clause_goes_on : (i : ℕ) (clauses : List (List Literal)) (clause : List Literal) (all : List Site) → slice_get clauses i ≡ Some clause →
       GoesOn a (clause_sites i (drop i clauses)) all → IsKeptAt a (a_clause i clause) → GoesOn a (clause_sites (i + 1) (drop (i + 1) clauses)) all
@@ -72,7 +69,7 @@ module _ (a : Matter) where
 
   -- Steps.
   step_next : (part : Part) (i : ℕ) (steps : List Step) (s : Step) → slice_get steps i ≡ Some s → step_sites part i (drop i steps) ≡ a_step part i s ∷ step_sites part (i + 1) (drop (i + 1) steps)
-  step_next part i steps s e = ap (step_sites part i) (drop_there steps i s e) ∙ ap (λ n. a_step part i s ∷ step_sites part n (drop (i + 1) steps)) (next i)
+  step_next part i steps s e = ap (step_sites part i) (drop_there steps i s e) ∙ ap (λ n. a_step part i s ∷ step_sites part n (drop (i + 1) steps)) (suc-eq-add-one i)
 
   pub step_goes_on : (part : Part) (i : ℕ) (steps : List Step) (s : Step) (all : List Site) → slice_get steps i ≡ Some s → GoesOn a (step_sites part i (drop i steps)) all → IsKeptAt a (a_step part i s) →
       GoesOn a (step_sites part (i + 1) (drop (i + 1) steps)) all

@@ -182,13 +182,6 @@ module _ (n : ℕ) (ls : List Literal) (marks : List Bool) (e : marks ≡ fold (
       first : (code : ℕ) → code < 4096 → code / 4096 ≡ 0
       first code h = omega (arith, h)
 
--- one window after the other
-pub one_more : (P : ℕ → Type 0) (i : ℕ) → ((w : ℕ) → w < i → P w) → P i → (w : ℕ) → w < i + 1 → P w
-one_more P i before here w lt = ⊎_elim (λ same. subst P (sym same) here) (λ other. before w (less w other lt)) (cases_eq w i)
-  where
-    less : (w : ℕ) → (w ≡ i → ⊥) → w < i + 1 → w < i
-    less w n l = grind (arith, n, l)
-
 pub lacks_in_each : (ls : List Literal) (w : ℕ) → HasNoOpposites ls → All (LacksIn w ls) ls
 lacks_in_each ls w h = λ k d lt. record { absent = λ at has. (h k d lt).absent has }
 

@@ -8,7 +8,7 @@ use Rattle.smv_flat_laws.specs.History.{Mode}
 use Rattle.smv_flat_laws.specs.FlatTrace.{IsFlatTrace}
 use Rattle.cut_right_laws.specs.Right.{Shows}
 use Rattle.cut_right_laws.specs.Laws.{AreBoth}
-use Rattle.cut_right_laws.proofs.Places.{get_within, place_within, both_long}
+use Rattle.cut_right_laws.proofs.Places.{place_within, both_long}
 use Rattle.sat_encoding_laws.specs.FlatTraces.{ReachesTop, HasFailedNumber}
 use Rattle.cert_laws.specs.Certificate.{Certificate}
 use Rattle.cut_text_laws.specs.Lines.{Line}
@@ -16,6 +16,7 @@ use Rattle.cert_laws.specs.Acceptance.{Subject, Rule, no_text, no_trace, does_no
 use Rattle.cert_laws.proofs.Made.{made_is_accepted}
 use Rattle.cert_laws.specs.Certification.{IsSubjectOf, IsCertified}
 use Rattle.cert_laws.specs.AnalysisCertificates.{GivesAlone, IsOfAnalysis, AnalysedIsAccepted}
+use Rattle.base_values.proofs.ListLaws.{get_within}
 
 -- of two lists whose members are related place by place, from the first
 from_left : {A B : Type 0} (R : A → B → Type 0) (xs : List A) (ys : List B) → AreBoth R xs ys → (i : ℕ) (x : A) → slice_get xs i ≡ Some x → (y : B) × (slice_get ys i ≡ Some y) × R x y

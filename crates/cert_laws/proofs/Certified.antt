@@ -10,7 +10,7 @@ use Rattle.smv_flat_laws.specs.History.{Mode}
 use Rattle.smv_flat_laws.specs.FlatTrace.{IsFlatTrace}
 use Rattle.cut_right_laws.specs.Laws.{AreBoth}
 use Rattle.cut_right_laws.specs.Right.{IsContained, Shows}
-use Rattle.cut_right_laws.proofs.Places.{get_within, place_within, both_long, both_at}
+use Rattle.cut_right_laws.proofs.Places.{place_within, both_long, both_at}
 use Rattle.sat_encoding_laws.specs.FlatTraces.{ReachesTop, HasFailedNumber, IsNumbered, IsRightFlat}
 use Rattle.sat_encoding_laws.specs.EncodedLaws.{AreOwn, AreCovered}
 use Rattle.sat_encoding_laws.proofs.Covering.{invariants_cover}
@@ -20,6 +20,7 @@ use Rattle.cert_laws.specs.Acceptance.{Subject, other_numbers, no_set, contains_
 use Rattle.cert_laws.proofs.Invariant.{accepted_is_invariant}
 use Rattle.cert_laws.specs.Certification.{IsSubjectOf, IsCertified, CertifiedIsRight}
 use Rattle.smv_flat_laws.proofs.Conditions.{each_from}
+use Rattle.base_values.proofs.ListLaws.{get_within}
 
 -- texts that each give a trace give a list of them
 pub all_given : {A B : Type 0} (R : A → B → Type 0) (xs : List A) → ((k : ℕ) (x : A) → slice_get xs k ≡ Some x → (y : B) × R x y) → (ys : List B) × AreBoth R xs ys

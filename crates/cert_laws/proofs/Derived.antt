@@ -10,7 +10,6 @@ use Rattle.sat_clauses.specs.declared.step.StepFault.{StepFault}
 use Rattle.sat_clauses.specs.declared.step.StepFault.TheVariants.{BadHint, NoConflict}
 use Rattle.sat_clauses.proofs.FaultLemmas.{fault-None, fault-BadHint, fault-NoConflict}
 use Rattle.sat_clauses.proofs.DeriveModelLemmas.{FollowsFrom-EndsFalse}
-use Rattle.cut_right_laws.proofs.Places.{get_within}
 use Rattle.cert_laws.specs.Certificate.{Certificate, Part, a_step, an_end, steps_in}
 use Rattle.cut_text_laws.specs.Lines.{Line}
 use Rattle.cert_laws.specs.Acceptance.{Subject, bad_hint, no_conflict, not_covered, known_before, Covers, givens, goals, known_at, vars_of, IsAccepted}
@@ -18,6 +17,7 @@ use Rattle.cert_laws.proofs.Values.{satisfies_one}
 use Rattle.sat_clauses.proofs.ModelLemmas.{Satisfies-append}
 use Rattle.smv_language.proofs.ListLaws.{take_there}
 use Rattle.sat_clauses.proofs.ClauseLists.{member_true, covered_true}
+use Rattle.base_values.proofs.ListLaws.{get_within}
 
 -- hints that are neither bad nor all open end false
 ends_false : (clauses : List (List Literal)) (vars : ℕ) (c : List Literal) (hints : List ℕ) →

@@ -11,6 +11,7 @@ use Rattle.cut_text_laws.specs.Lines.{Line}
 use Rattle.cert_laws.specs.Acceptance.{Subject, Rule, number_of, Keeps}
 use Rattle.cert_laws.specs.Sites.{set_sites, clause_sites, step_sites, sites_of, KeepsAll, BreaksFirst, FirstBrokenIsObjection}
 use Rattle.std.proofs.Math.Seq.{take-append_seam}
+use Rattle.std.proofs.Math.Nat.{add-zero}
 
 -- Members by recursion.
 abbrev In : {A : Type 0} → A → List A → Type 0
@@ -217,10 +218,6 @@ module _ (c : Certificate) where
         (subst (Rise (next_line c + 2 + length c.next)) (append_none (step_sites part_bad 0 c.bad)) (step_rise part_bad 0 c.bad [] (next_line c + 2 + length c.next) (omega arith) (omega arith) tt))))),
   )
 
--- Each listed site is one.
-add_none : (k : ℕ) → k + 0 ≡ k
-add_none k = omega arith
-
 add_next : (k j : ℕ) → k + suc j ≡ suc k + j
 add_next k j = omega arith
 
@@ -229,7 +226,7 @@ abbrev GoesOn : {A : Type 0} → ℕ → List A → List A → Type 0
 GoesOn {A} k xs all = (j : ℕ) (x : A) → slice_get xs j ≡ Some x → slice_get all (k + j) ≡ Some x
 
 goes_here : {A : Type 0} (k : ℕ) (x : A) (xs all : List A) → GoesOn k (x ∷ xs) all → slice_get all k ≡ Some x
-goes_here k x xs all f = ap (slice_get all) (sym (add_none k)) ∙ f zero x refl
+goes_here k x xs all f = ap (slice_get all) (sym (add-zero k)) ∙ f zero x refl
 
 goes_later : {A : Type 0} (k : ℕ) (x : A) (xs all : List A) → GoesOn k (x ∷ xs) all → GoesOn (suc k) xs all
 goes_later k x xs all f = λ j y e. ap (slice_get all) (sym (add_next k j)) ∙ f (suc j) y e

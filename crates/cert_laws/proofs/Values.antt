@@ -6,20 +6,15 @@ use Rattle.sat_clauses.specs.Literal.{Literal}
 use Rattle.sat_clauses.specs.Models.{TotalAssignment, literal_value, clause_value, Satisfies}
 use Rattle.sat_clauses.specs.States.{State, Agrees}
 use Rattle.std.proofs.lemmas.Bool.{and_from as both_true}
+use Rattle.std.proofs.Math.Nat.{add-zero}
+use Rattle.base_values.proofs.NumberLaws.{next_place}
 
 pub satisfies_one : (v : TotalAssignment) (c : List Literal) → clause_value v c ≡ true → Satisfies v (c ∷ [])
 satisfies_one v c e = both_true (clause_value v c) true e refl
 
--- States.
-next_place : (n i : ℕ) → n + 1 + i ≡ n + suc i
-next_place n i = omega arith
-
-first_place : (n : ℕ) → n + 0 ≡ n
-first_place n = omega arith
-
 pub agrees_at : (v : TotalAssignment) (n i : ℕ) (s : State) → Agrees v n s → i < length s → v (n + i) ≡ slice_index_or s i false
 agrees_at v n i [] g lt = absurd (omega (arith, lt))
-agrees_at v n zero (b ∷ s) g lt = ap v (first_place n) ∙ g.0
+agrees_at v n zero (b ∷ s) g lt = ap v (add-zero n) ∙ g.0
 agrees_at v n (suc i) (b ∷ s) g lt = ap v (sym (next_place n i)) ∙ agrees_at v (n + 1) i s g.1 (omega (arith, lt))
 
 -- clauses whose literals have the same values have the same value

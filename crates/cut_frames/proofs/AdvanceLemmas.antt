@@ -16,12 +16,10 @@ use Rattle.cut_frames.proofs.Sets.{stands_itself}
 use Rattle.cut_frames.proofs.Short.{stands_true}
 use Rattle.cut_frames.proofs.Framing.{to_number, reaches_from, fixed_inductive, open_chain, framed_grown, stronger_grown}
 use Rattle.cut_frames.proofs.LevelLaws.{IsStanding, held_in, frame_is, length_frames, in_frame, to_frame, standing_has, standing_of, frames_more, equal_frames}
+use Rattle.std.proofs.Math.Numerals.{suc-eq-add-one}
 
 below : (i n m : ℕ) → m ≡ suc n → i + 1 < m → i < n
 below i n m e lt = omega (arith, e, lt)
-
-pub one_more : (i : ℕ) → suc i ≡ i + 1
-one_more i = omega arith
 
 -- frames whose lists are one list are one set of clauses
 pub all_stand : (f g : List (List Literal)) → f ≡ g → All (Stands g) f
@@ -69,7 +67,7 @@ module _ (system : System) where
     to_frame l i (held_at l e.place).clause (omega (arith, lt)) (standing_of i l.held.items e.place e.inside (subst (λ n. i ≤ n) (sym e.number) (omega arith))),
     λ stands. p i some lt e.place e.inside e.number (λ s t h step.
         stands_true (state_values system t) (frame_at (frames_of l) (i + 1)) (held_at l e.place).clause
-        (subst (λ n. InFrame system (frame_at (frames_of l) n) t) (one_more i) (f.framed.steps i s t (to_number system (frames_of l) i s some h) step)).1 stands),
+        (subst (λ n. InFrame system (frame_at (frames_of l) n) t) (suc-eq-add-one i) (f.framed.steps i s t (to_number system (frames_of l) i s some h) step)).1 stands),
   )
 
   pub all_pushed : (l : Levels) → AreLevelsPushed system l l.last → ArePushed system (frames_of l)

@@ -1,20 +1,12 @@
 -- Literals up to a variable, and what the values of an answer make true.
-use Rattle.std.proofs.Common.{◌≡◌, ◌≤◌, ℕ, Bool, true, false, List, arith, Option, Some, None}
-use Rattle.std.specs.Prelude.{slice_index_or, All, Any, unwrap_or}
+use Rattle.std.proofs.Common.{◌≡◌, Bool, true, false, List, Option, Some, None}
+use Rattle.std.specs.Prelude.{slice_index_or, Any, unwrap_or}
 use Rattle.std.specs.Option.{option_map}
 use Rattle.std.proofs.lemmas.Option.{none-some}
 use Rattle.sat_clauses.specs.Literal.{Literal, signed}
 use Rattle.sat_clauses.specs.Assignment.{Assignment, value_of}
-use Rattle.sat_clauses.specs.Models.{literal_value, clause_value}
-use Rattle.sat_clauses.specs.Derivation.{IsUpTo}
-use Rattle.cut_frames.specs.Bits.{values_of}
-use Rattle.cut_frames.proofs.Sets.{from_member}
-
-pub all_raised : (n m : ℕ) (xs : List Literal) → n ≤ m → All (IsUpTo n) xs → All (IsUpTo m) xs
-all_raised n m xs le a = λ k d lt. omega (arith, a k d lt, le)
-
-pub lists_raised : (n m : ℕ) (xs : List (List Literal)) → n ≤ m → All (All (IsUpTo n)) xs → All (All (IsUpTo m)) xs
-lists_raised n m xs le a = λ k d lt. all_raised n m (slice_index_or xs k d) le (a k d lt)
+use Rattle.sat_clauses.specs.Models.{literal_value, clause_value, values_of}
+use Rattle.sat_simplify.proofs.ClauseLaws.{true_by}
 
 -- a literal that is true has a value that makes it true
 pub true_value : (a : Assignment) (l : Literal) → value_of a l ≡ Some true → literal_value (values_of a) l ≡ true
@@ -26,4 +18,4 @@ true_value a l e = by_place (slice_index_or a l.var None) e where
     same e = cc
 
 pub true_clause : (a : Assignment) (c : List Literal) → Any (λ l. value_of a l ≡ Some true) c → clause_value (values_of a) c ≡ true
-true_clause a c w = from_member (values_of a) c w.1 (w.0, w.2, w.3) (true_value a w.1 w.4)
+true_clause a c w = true_by (values_of a) c w.1 (w.0, w.2, w.3) (true_value a w.1 w.4)

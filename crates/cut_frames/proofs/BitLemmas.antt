@@ -4,39 +4,33 @@ use Rattle.std.specs.Prelude.{slice_index_or, Contains, All}
 use Rattle.std.proofs.lemmas.List.Elements.{All-nil, All-cons, All-head, All-tail}
 use Rattle.sat_clauses.specs.Literal.{Literal, opposite, signed}
 use Rattle.sat_clauses.specs.Assignment.{Assignment}
-use Rattle.sat_clauses.specs.Models.{TotalAssignment, literal_value, clause_value}
+use Rattle.sat_clauses.specs.Models.{TotalAssignment, literal_value, clause_value, values_of}
 use Rattle.sat_clauses.proofs.ModelLemmas.{literal_value-opposite}
 use Rattle.sat_clauses.specs.Hints.{HasNoOpposites}
 use Rattle.sat_clauses.proofs.FalseLemmas.{opposite-opposite}
 use Rattle.cut_frames.specs.Chain.{State, Agrees}
-use Rattle.cut_frames.specs.Bits.{literal_for, literals_from, values_of, read_from, moved_back}
-
-next_is : (n : ℕ) → n + 1 ≡ suc n
-next_is n = omega arith
-
-move_one : (n i : ℕ) → n + 1 + i ≡ n + suc i
-move_one n i = omega arith
-
-add_zero : (n : ℕ) → n + 0 ≡ n
-add_zero n = omega arith
+use Rattle.cut_frames.specs.Bits.{literal_for, literals_from, read_from, moved_back}
+use Rattle.std.proofs.Math.Nat.{add-zero}
+use Rattle.std.proofs.Math.Numerals.{add-one}
+use Rattle.base_values.proofs.NumberLaws.{next_place}
 
 pub literals_more : (n i : ℕ) (s : State) → i < length s → literals_from n (take (i + 1) s) ≡ literals_from n (take i s) ++ literal_for (n + i) (slice_index_or s i false) ∷ []
-literals_more n i s lt = subst (λ k. literals_from n (take k s) ≡ literals_from n (take i s) ++ literal_for (n + i) (slice_index_or s i false) ∷ []) (sym (next_is i)) (go n i s lt)
+literals_more n i s lt = subst (λ k. literals_from n (take k s) ≡ literals_from n (take i s) ++ literal_for (n + i) (slice_index_or s i false) ∷ []) (sym (add-one i)) (go n i s lt)
   where
     go : (n i : ℕ) (s : State) → i < length s → literals_from n (take (suc i) s) ≡ literals_from n (take i s) ++ literal_for (n + i) (slice_index_or s i false) ∷ []
     go n i [] lt = absurd (omega (arith, lt))
-    go n zero (b ∷ s) lt = ap (λ k. literal_for k b ∷ []) (sym (add_zero n))
+    go n zero (b ∷ s) lt = ap (λ k. literal_for k b ∷ []) (sym (add-zero n))
     go n (suc i) (b ∷ s) lt =
         ap (λ r. literal_for n b ∷ r) (go (n + 1) i s (grind arith)
-        ∙ ap (λ k. literals_from (n + 1) (take i s) ++ literal_for k (slice_index_or s i false) ∷ []) (move_one n i))
+        ∙ ap (λ k. literals_from (n + 1) (take i s) ++ literal_for k (slice_index_or s i false) ∷ []) (next_place n i))
 
 pub read_more : (n k : ℕ) (a : Assignment) → read_from n (k + 1) a ≡ read_from n k a ++ values_of a (n + k) ∷ []
-read_more n k a = subst (λ m. read_from n m a ≡ read_from n k a ++ values_of a (n + k) ∷ []) (sym (next_is k)) (go n k a)
+read_more n k a = subst (λ m. read_from n m a ≡ read_from n k a ++ values_of a (n + k) ∷ []) (sym (add-one k)) (go n k a)
   where
     go : (n k : ℕ) (a : Assignment) → read_from n (suc k) a ≡ read_from n k a ++ values_of a (n + k) ∷ []
-    go n zero a = ap (λ m. values_of a m ∷ []) (sym (add_zero n))
+    go n zero a = ap (λ m. values_of a m ∷ []) (sym (add-zero n))
     go n (suc k) a =
-        ap (λ r. values_of a n ∷ r) (go (n + 1) k a ∙ ap (λ m. read_from (n + 1) k a ++ values_of a m ∷ []) (move_one n k))
+        ap (λ r. values_of a n ∷ r) (go (n + 1) k a ∙ ap (λ m. read_from (n + 1) k a ++ values_of a m ∷ []) (next_place n k))
 
 pub length_read : (n k : ℕ) (a : Assignment) → length (read_from n k a) ≡ k
 length_read n zero a = refl
@@ -48,8 +42,8 @@ agrees_read n (suc k) a = (refl, agrees_read (n + 1) k a)
 
 pub agrees_at : (v : TotalAssignment) (n i : ℕ) (s : State) → Agrees v n s → i < length s → v (n + i) ≡ slice_index_or s i false
 agrees_at v n i [] g lt = absurd (omega (arith, lt))
-agrees_at v n zero (b ∷ s) g lt = ap v (add_zero n) ∙ g.0
-agrees_at v n (suc i) (b ∷ s) g lt = ap v (sym (move_one n i)) ∙ agrees_at v (n + 1) i s g.1 (grind arith)
+agrees_at v n zero (b ∷ s) g lt = ap v (add-zero n) ∙ g.0
+agrees_at v n (suc i) (b ∷ s) g lt = ap v (sym (next_place n i)) ∙ agrees_at v (n + 1) i s g.1 (grind arith)
 
 -- a literal of the state turned round, over the variables from n on
 pub record IsOpposed (n : ℕ) (s : State) (l : Literal) : Type 0 where
@@ -64,10 +58,10 @@ literal_found n (b ∷ s) l m = by_place m.0 m.1 m.2 (λ r. literal_found (n + 1
     by_place : (k : ℕ) → k < length (literals_from n (b ∷ s)) → slice_index_or (literals_from n (b ∷ s)) k l ≡ l →
         (Contains (literals_from (n + 1) s) l → (i : ℕ) × (i < length s) × (l ≡ literal_for (n + 1 + i) (slice_index_or s i false))) →
         (i : ℕ) × (i < length (b ∷ s)) × (l ≡ literal_for (n + i) (slice_index_or (b ∷ s) i false))
-    by_place zero lt e more = (0, grind arith, sym e ∙ ap (λ k. literal_for k b) (sym (add_zero n)))
+    by_place zero lt e more = (0, grind arith, sym e ∙ ap (λ k. literal_for k b) (sym (add-zero n)))
     by_place (suc k) lt e more =
         let rest = more (k, grind arith, e) in
-        (suc rest.0, (let r = rest.1 in grind arith), rest.2 ∙ ap (λ k. literal_for k (slice_index_or s rest.0 false)) (move_one n rest.0))
+        (suc rest.0, (let r = rest.1 in grind arith), rest.2 ∙ ap (λ k. literal_for k (slice_index_or s rest.0 false)) (next_place n rest.0))
 
 pub opposed : (n : ℕ) (s : State) (l : Literal) → Contains (literals_from n s) (opposite l) → IsOpposed n s l
 opposed n s l m =

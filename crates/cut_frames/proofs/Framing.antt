@@ -14,6 +14,7 @@ use Rattle.cut_frames.specs.FramesByNumber.{AreNumbered}
 use Rattle.sat_clauses.proofs.ClauseLists.{covered_true}
 use Rattle.cut_frames.proofs.Sets.{stands_itself}
 use Rattle.cut_frames.proofs.Short.{all_from_members, member_true, subset_true, standing_true}
+use Rattle.std.proofs.Math.Numerals.{suc-eq-add-one}
 
 pub all_members : (P : List Literal → Type 0) (xs : List (List Literal)) → ((c : List Literal) → Contains xs c → P c) → All P xs
 all_members P xs f = λ k d lt. f (slice_index_or xs k d) (Contains-get_or xs k d lt)
@@ -24,9 +25,6 @@ frame_grown [] zero = refl
 frame_grown [] (suc i) = refl
 frame_grown (f ∷ fs) zero = refl
 frame_grown (f ∷ fs) (suc i) = frame_grown fs i
-
-one_more : (i : ℕ) → suc i ≡ i + 1
-one_more i = omega arith
 
 -- what makes a frame true in which a clause more stands made it true before: a clause that went has that one as a part
 pub gained_true : (j : ℕ) (c : List Literal) (old now : List (List (List Literal))) → HasGained j c old now → (i : ℕ) (v : TotalAssignment) → all_true v (frame_at now i) ≡ true → all_true v (frame_at old i) ≡ true
@@ -164,7 +162,7 @@ module _ (system : System) where
     over_bits = all_members (IsOverBits system) (frame_at fs e.at) (f.over_bits e.at);
     apart = all_members HasNoOpposites (frame_at fs e.at) (f.apart e.at);
     holds_first = λ s h. first_in fs e.at s f h;
-    is_kept = λ s t h step. let there : InFrame system (frame_at fs (e.at + 1)) t = subst (λ n. InFrame system (frame_at fs n) t) (one_more e.at) (f.steps e.at s t (to_number fs e.at s e.from_one h) step) in
+    is_kept = λ s t h step. let there : InFrame system (frame_at fs (e.at + 1)) t = subst (λ n. InFrame system (frame_at fs n) t) (suc-eq-add-one e.at) (f.steps e.at s t (to_number fs e.at s e.from_one h) step) in
         (there.0, standing_true (state_values system t) (frame_at fs (e.at + 1)) (frame_at fs e.at) (λ c m. All-contains (Stands (frame_at fs (e.at + 1))) (frame_at fs e.at) c e.same.0 m) there.1);
   }
 
@@ -176,7 +174,7 @@ module _ (system : System) where
     outlined = f.begins;
     implies = λ i s lt h. next_list fs i s f (in_list fs i s f h);
     steps = λ i s t lt h step. f.steps i s t h step;
-    stands = λ i c one lt m. f.shrinks i c (subst (λ n. Contains (frame_at fs n) c) (sym (one_more i)) m);
+    stands = λ i c one lt m. f.shrinks i c (subst (λ n. Contains (frame_at fs n) c) (sym (suc-eq-add-one i)) m);
   }
 
 frame_is : (fs : List (List (List Literal))) (f0 : List (List Literal)) (i : ℕ) (frame : List (List Literal)) → 0 < i → slice_get fs (i - 1) ≡ Some frame → (frame_at (f0 ∷ fs) i ≡ frame) × (i < length (f0 ∷ fs))
@@ -202,12 +200,12 @@ open_chain system f0 fs f p d = record {
   advances = λ i frame next s t at after h step.
       let a = frame_is fs f0 i frame at.0 at.1 in
       let b = frame_is fs f0 (i + 1) next after.0 after.1 in
-      subst (λ z. InFrame system z t) b.0 (subst (λ n. InFrame system (frame_at (f0 ∷ fs) n) t) (one_more i)
+      subst (λ z. InFrame system z t) b.0 (subst (λ n. InFrame system (frame_at (f0 ∷ fs) n) t) (suc-eq-add-one i)
       (f.steps i s t (to_number system (f0 ∷ fs) i s at.0 (subst (λ z. InFrame system z s) (sym a.0) h)) step));
   shrinks = λ i frame next at after c m.
       let a = frame_is fs f0 i frame at.0 at.1 in
       let b = frame_is fs f0 (i + 1) next after.0 after.1 in
-      stands_itself frame c (subst (λ z. Contains z c) a.0 (f.shrinks i c (subst (λ n. Contains (frame_at (f0 ∷ fs) n) c) (sym (one_more i)) (subst (λ z. Contains z c) (sym b.0) m))));
+      stands_itself frame c (subst (λ z. Contains z c) a.0 (f.shrinks i c (subst (λ n. Contains (frame_at (f0 ∷ fs) n) c) (sym (suc-eq-add-one i)) (subst (λ z. Contains z c) (sym b.0) m))));
   loses = λ i frame next at after.
       let a = frame_is fs f0 i frame at.0 at.1 in
       let b = frame_is fs f0 (i + 1) next after.0 after.1 in

@@ -8,7 +8,7 @@ use Rattle.sat_clauses.specs.declared.step.Step.{Step}
 use Rattle.sat_solver.specs.KeptRecord.{KeptValue}
 use Rattle.sat_solver.specs.LearnedClauses.{added_of, HasLearned}
 use Rattle.sat_solver.specs.Search.{with_steps}
-use Rattle.sat_solver.proofs.KeptLemmas.{length_with_steps}
+use Rattle.sat_solver.proofs.KeptLemmas.{length_with_steps, added_learned}
 use Rattle.cut_frames.specs.GuardedSearch.{added_in, IsGuardIn, IsWell, HasSameGuards, HasPut, HasWidened, HasNewBad, HasNewFrame}
 use Rattle.cut_frames.specs.declared.guarded.Guarded.{Guarded}
 
@@ -19,23 +19,6 @@ added_push [] (m ∷ ms) c e = absurd (omega (arith, e))
 added_push (d ∷ cs) [] c e = absurd (omega (arith, e))
 added_push (d ∷ cs) (true ∷ ms) c e = added_push cs ms c (omega (arith, e))
 added_push (d ∷ cs) (false ∷ ms) c e = ap (λ ds. d ∷ ds) (added_push cs ms c (omega (arith, e)))
-
--- a clause that was learned is none of those that were added
-added_one : (cs : List (List Literal)) (ms : List Bool) (c : List Literal) → length ms ≡ length cs → added_of (cs ++ c ∷ []) (ms ++ true ∷ []) ≡ added_of cs ms
-added_one [] [] c e = refl
-added_one [] (m ∷ ms) c e = absurd (omega (arith, e))
-added_one (d ∷ cs) [] c e = absurd (omega (arith, e))
-added_one (d ∷ cs) (true ∷ ms) c e = added_one cs ms c (omega (arith, e))
-added_one (d ∷ cs) (false ∷ ms) c e = ap (λ ds. d ∷ ds) (added_one cs ms c (omega (arith, e)))
-
-added_learned : (cs : List (List Literal)) (ms : List Bool) (ls : List Step) → length ms ≡ length cs → added_of (with_steps cs ls) (ms ++ replicate (length ls) true) ≡ added_of cs ms
-added_learned cs ms [] e = ap (added_of cs) (append-nil ms)
-added_learned cs ms (l ∷ ls) e =
-    ap (added_of (with_steps (cs ++ l.clause ∷ []) ls)) (sym (append_assoc ms (true ∷ []) (replicate (length ls) true)))
-    ∙ added_learned (cs ++ l.clause ∷ []) (ms ++ true ∷ []) ls (longer ms cs e) ∙ added_one cs ms l.clause e
-  where
-    longer : (ms : List Bool) (cs : List (List Literal)) → length ms ≡ length cs → length (ms ++ true ∷ []) ≡ length (cs ++ l.clause ∷ [])
-    longer ms cs e = omega (arith, e, length-append ms (true ∷ []), length-append cs (l.clause ∷ []))
 
 marked_learned : (cs : List (List Literal)) (ms : List Bool) (ls : List Step) → length ms ≡ length cs → length (ms ++ replicate (length ls) true) ≡ length (with_steps cs ls)
 marked_learned cs ms ls e = omega (arith, e, length-append ms (replicate (length ls) true), length-replicate (length ls) true, length_with_steps cs ls)

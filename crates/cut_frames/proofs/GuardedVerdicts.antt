@@ -6,7 +6,7 @@ use Rattle.std.proofs.lemmas.Bool.Decides.{leb_tells}
 use Rattle.std.proofs.lemmas.List.Elements.{All-contains, Contains-append_left, Contains-append_right, Contains-append_cases}
 use Rattle.sat_clauses.specs.Literal.{Literal, opposite}
 use Rattle.sat_clauses.specs.Assignment.{Assignment, value_of}
-use Rattle.sat_clauses.specs.Models.{TotalAssignment, literal_value, clause_value, Satisfies}
+use Rattle.sat_clauses.specs.Models.{TotalAssignment, literal_value, clause_value, Satisfies, values_of}
 use Rattle.sat_clauses.proofs.ModelLemmas.{Satisfies-from_All}
 use Rattle.sat_clauses.specs.Derivation.{IsUpTo}
 use Rattle.sat_clauses.specs.Hints.{HasNoOpposites, LacksOpposite}
@@ -14,7 +14,6 @@ use Rattle.sat_solver.specs.LearnedClauses.{IsRefuted}
 use Rattle.sat_solver.specs.Search.{IsSolution}
 use Rattle.sat_solver.specs.declared.solve.Verdict.TheVariants.{Sat, Unsat}
 use Rattle.sat_clauses.specs.declared.system.System.{System}
-use Rattle.cut_frames.specs.Bits.{values_of}
 use Rattle.cut_frames.specs.FrameLists.{frame_at}
 use Rattle.cut_frames.specs.Roles.{Listed, first, step, bad, list_guard}
 use Rattle.cut_frames.specs.Roles as roles

@@ -13,10 +13,10 @@ use Rattle.cut_frames.specs.Roles.{Listed, place, list_guard, gate, retired, ren
 use Rattle.cut_frames.specs.Roles as roles
 use Rattle.cut_frames.specs.Guards.{guards_next, IsCoveredUpTo, Layout, IsHeld, of_list, of_frame, of_next, of_retired, AreHeld, unguarded}
 use Rattle.cut_frames.specs.GuardedSearch.{Meets}
-use Rattle.cut_frames.proofs.Sets.{from_member, true_member}
 use Rattle.cut_frames.proofs.RoleLaws.{order, first_in, later_in, renamed_low, renamed_high, renamed_value, unguards, unasked, anyway, Asked, spread, spread_at}
 use Rattle.sat_clauses.proofs.ClauseLists.{member_true, covered_true}
 use Rattle.base_values.proofs.ListLaws.{all_from}
+use Rattle.sat_simplify.proofs.ClauseLaws.{true_literal, true_by}
 
 -- a clause of literals up to a variable is over those below the next
 pub below_next : (vars : ℕ) (c : List Literal) → All (IsUpTo vars) c → All (IsBelow (vars + 1)) c
@@ -117,7 +117,7 @@ module _ (l : Layout) (vars : ℕ) (added : List (List Literal)) (are : AreHeld 
 
       by_next : (x y j : ℕ) (b : Bool) → q.frame j ≡ b → l.role x ≡ roles.frame_guard j → l.role y ≡ roles.frame_guard (suc j) → clause_value w (guards_next x y) ≡ true
       by_next x y j true on r s =
-          from_member w (guards_next x y) (plain y) (later_in (opposite (plain x)) (plain y) (plain y ∷ []) (first_in (plain y) []))
+          true_by w (guards_next x y) (plain y) (later_in (opposite (plain x)) (plain y) (plain y ∷ []) (first_in (plain y) []))
           (spread_at q l.role v y (roles.frame_guard (suc j)) s ∙ h.next j on)
       by_next x y j false off r s = unasked w x (plain y ∷ []) (spread_at q l.role v x (roles.frame_guard j) r ∙ off)
 
@@ -125,7 +125,7 @@ module _ (l : Layout) (vars : ℕ) (added : List (List Literal)) (are : AreHeld 
       of_kind d (of_list which c e m) = kept d (under_guard (l.guard which) (renamed_clause l.places (l.base which) c)) e (by_list which c (q.list which) refl m)
       of_kind d (of_frame x j c e r lt s) = kept d (under_guard x c) e (by_frame x j c (q.frame j) refl r lt s)
       of_kind d (of_next x y j e r s) = kept d (guards_next x y) e (by_next x y j (q.frame j) refl r s)
-      of_kind d (of_retired x m r) = from_member w d (opposite (plain x)) m (ap not (spread_at q l.role v x retired r))
+      of_kind d (of_retired x m r) = true_by w d (opposite (plain x)) m (ap not (spread_at q l.role v x retired r))
 
   -- a list whose guard is true is met
   pub list_met : (which : Listed) (v : TotalAssignment) → Satisfies v added → v (l.guard which) ≡ true → Meets l.places (l.list which) v
@@ -151,7 +151,7 @@ module _ (l : Layout) (vars : ℕ) (added : List (List Literal)) (are : AreHeld 
           let before = later n (omega (arith, lt)) in
           let implied = unguards v (l.guard_at (i + n)) (plain (l.guard_at (suc (i + n))) ∷ []) before
           (member_true v added (guards_next (l.guard_at (i + n)) (l.guard_at (suc (i + n)))) t (are.has_next (i + n) (omega (arith, some)) (omega (arith, lt)))) in
-          let one = true_member v (plain (l.guard_at (suc (i + n))) ∷ []) implied in
+          let one = true_literal v (plain (l.guard_at (suc (i + n))) ∷ []) implied in
           let is : one.0 ≡ plain (l.guard_at (suc (i + n))) = only_one one.0 (plain (l.guard_at (suc (i + n)))) one.1 in
           subst (λ k. v (l.guard_at k) ≡ true) (omega arith) (ap (literal_value v) (sym is) ∙ one.2)
         where
@@ -179,7 +179,7 @@ module _ (l : Layout) (vars : ℕ) (added : List (List Literal)) (are : AreHeld 
       All (λ k. Contains (guards ++ assumptions) (opposite k)) core → ((g : Literal) → Contains guards g → literal_value (spread q l.role v) g ≡ true) → All (IsUpTo l.places) assumptions →
       clause_value v (unguarded l.places core) ≡ true
   core_follows q v guards assumptions core h follows negated on low =
-      let one = true_member w core (follows w (held_true q v h)) in
+      let one = true_literal w core (follows w (held_true q v h)) in
       by_order one.0 one.1 one.2 (order one.0.var l.places)
     where
       w : TotalAssignment
@@ -198,7 +198,7 @@ module _ (l : Layout) (vars : ℕ) (added : List (List Literal)) (are : AreHeld 
 
       by_order : (m : Literal) → Contains core m → literal_value w m ≡ true → (m.var ≤ l.places) ⊎ (l.places < m.var) → clause_value v (unguarded l.places core) ≡ true
       by_order m c t (inl le) =
-          from_member v (unguarded l.places core) m (into_kept l.places m core c le)
+          true_by v (unguarded l.places core) m (into_kept l.places m core c le)
           (sym (literal_value-same (l.places + 1) v w m (λ x lt. at_place q v x (omega (arith, lt))) (omega (arith, le))) ∙ t)
       by_order m c t (inr lt) = absurd (not_there m lt t
           (Contains-append_cases guards assumptions (opposite m) (All-contains (λ k. Contains (guards ++ assumptions) (opposite k)) core m negated c)))

@@ -12,10 +12,10 @@ use Rattle.cut_frames.specs.GuardedSearch.{HasPut, IsSimple, AreSimple, IsWell, 
 use Rattle.cut_frames.specs.declared.guarded.Guarded.{Guarded}
 use Rattle.cut_frames.specs.declared.simple.SimpleLists.{SimpleLists}
 use Rattle.cut_frames.proofs.RoleLaws.{renamed_low}
-use Rattle.cut_frames.proofs.AnswerLemmas.{all_raised}
 use Rattle.cut_frames.proofs.HeldLists.{bad_at}
 use Rattle.cut_frames.proofs.AlikeLaws.{alike_more}
 use Rattle.cut_frames.proofs.GuardedLaws.{holding, layout_of, with_bad, alike_bad, guards_same, guard_same, with_simple, well_simple, guards_simple, simple_bad}
+use Rattle.sat_simplify.proofs.UnreadLaws.{all_raised}
 
 -- a clause over the places keeps its variables
 pub renamed_places : (places base : ℕ) (c : List Literal) → All (IsUpTo places) c → renamed_clause places base c ≡ c

@@ -5,12 +5,12 @@ use Rattle.std.proofs.lemmas.Bool.{cases_lt}
 use Rattle.std.proofs.lemmas.List.Elements.{All-head, All-tail, All-append}
 use Rattle.sat_clauses.specs.Literal.{Literal, opposite, signed}
 use Rattle.sat_clauses.specs.Assignment.{Assignment}
-use Rattle.sat_clauses.specs.Models.{TotalAssignment, literal_value, clause_value, all_true}
+use Rattle.sat_clauses.specs.Models.{TotalAssignment, literal_value, clause_value, all_true, values_of}
 use Rattle.sat_clauses.specs.declared.system.System.{System}
 use Rattle.cut_frames.specs.Chain.{State, Agrees, state_values, IsState, IsFirstState, IsStepOf, IsBad, Makes, IsOverBits}
 use Rattle.cut_frames.specs.Condition.{IsFit, IsOverNow}
 use Rattle.cut_frames.specs.FrameLists.{frame_at, InNumber, IsFramed, IsClear}
-use Rattle.cut_frames.specs.Bits.{literal_for, literals_from, values_of, read_from, joined, moved_back}
+use Rattle.cut_frames.specs.Bits.{literal_for, literals_from, read_from, joined, moved_back}
 use Rattle.cut_frames.specs.GuardedSearch.{places_of}
 use Rattle.sat_simplify.specs.SamePlaces.{IsMet}
 use Rattle.cut_frames.specs.OwnVariables.{IsMetFrame, IsFound, IsExcluded}

@@ -2,8 +2,9 @@
 use Rattle.std.proofs.Common.{◌≡◌, ◌≤◌, ◌<◌, ℕ, zero, suc, ◌+◌, Bool, false, List, ◌∷◌, refl, sym, ◌∙◌, ap, subst, arith, Option, Some}
 use Rattle.std.specs.Prelude.{unwrap_or, IsSome}
 use Rattle.sat_clauses.specs.Assignment.{Assignment}
-use Rattle.cut_frames.specs.Bits.{values_of, read_from}
+use Rattle.cut_frames.specs.Bits.{read_from}
 use Rattle.cut_frames.specs.Path.{Gives, AreTaken}
+use Rattle.sat_clauses.specs.Models.{values_of}
 
 read_same : (n k : ℕ) (a b : Assignment) → ((x : ℕ) → n ≤ x → x < n + k → values_of a x ≡ values_of b x) → read_from n k a ≡ read_from n k b
 read_same n zero a b f = refl

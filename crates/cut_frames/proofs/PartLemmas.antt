@@ -22,10 +22,12 @@ use Rattle.cut_frames.specs.ClearLooks.{Blocks}
 use Rattle.cut_frames.specs.declared.guarded.Guarded.{Guarded}
 use Rattle.cut_frames.specs.Parts.{IsPart, IsOfFirst, IsAfter, IsAgreed, AreAgreed, MayStand, HoldsFrames, IsAskable}
 use Rattle.cut_frames.specs.declared.guarded.Beside.TheVariants.{Nothing, Step}
-use Rattle.cut_frames.proofs.Sets.{true_member, from_member, part_itself, from_filter, to_filter}
+use Rattle.cut_frames.proofs.Sets.{part_itself}
 use Rattle.cut_frames.proofs.PushLemmas.{from_map, to_map, next_value, opposite_moved}
 use Rattle.cut_frames.proofs.BitLemmas.{agrees_at, IsOpposed, opposed, all_opposed, all_back, high_enough, all_false, none_apart}
 use Rattle.cut_frames.proofs.LookLemmas.{clause_over, met_number, met_itself, opposed_over, next_over}
+use Rattle.base_values.proofs.ListLaws.{from_filter, to_filter}
+use Rattle.sat_simplify.proofs.ClauseLaws.{true_literal, true_by}
 
 pub part_all : (P : Literal → Type 0) (d c : List Literal) → IsPart d c → All P c → All P d
 part_all P d c p a = λ k x lt. All-contains P c (slice_index_or d k x) a (p k x lt)
@@ -36,7 +38,7 @@ part_apart d c p a = λ k x lt. record {
 }
 
 pub part_true : (v : TotalAssignment) (d c : List Literal) → IsPart d c → clause_value v d ≡ true → clause_value v c ≡ true
-part_true v d c p t = let m = true_member v d t in from_member v c m.0 (All-contains (Contains c) d m.0 p m.1) m.2
+part_true v d c p t = let m = true_literal v d t in true_by v c m.0 (All-contains (Contains c) d m.0 p m.1) m.2
 
 pub part_false : (v : TotalAssignment) (d c : List Literal) → IsPart d c → clause_value v c ≡ false → clause_value v d ≡ false
 part_false v d c p f = go (clause_value v d) refl
@@ -118,14 +120,14 @@ module _ (system : System) where
       let v : TotalAssignment = step.2.0 in
       let at : InNumber system fs (level - 1) r = subst (λ n. InNumber system fs n r) (less level m e) h in
       let holds : clause_value v core ≡ true = k.follows v (met_number system fs (level - 1) r v fit f step.2.1 at) (met_itself system system.step v step.2.3) in
-      let w = true_member v core holds in
+      let w = true_literal v core holds in
       let back : Contains (map (moved_back system.state_bits) core) (moved_back system.state_bits w.0) = to_map (moved_back system.state_bits) core w.0 w.1 in
       let neg = All-contains (λ l. Contains (against_next system.state_bits c) (opposite l)) core w.0 k.negated w.1 in
       let f' = from_map (λ l. moved_on system.state_bits (opposite l)) c (opposite w.0) neg in
       let is : w.0 ≡ moved_on system.state_bits f'.0 = sym (opposite-opposite w.0) ∙ ap opposite (sym f'.2) ∙ opposite_moved system.state_bits f'.0 in
       let inside = All-contains (λ l. (2 ≤ l.var) × (l.var < system.state_bits + 2)) c f'.0 over f'.1 in
       let put : moved_back system.state_bits w.0 ≡ f'.0 = ap (moved_back system.state_bits) is ∙ again f'.0 in
-      from_member (state_values system t) (map (moved_back system.state_bits) core) f'.0 (subst (Contains (map (moved_back system.state_bits) core)) put back)
+      true_by (state_values system t) (map (moved_back system.state_bits) core) f'.0 (subst (Contains (map (moved_back system.state_bits) core)) put back)
       (sym (next_value system.state_bits v t f'.0 step.1 step.2.2 inside) ∙ ap (literal_value v) (sym is) ∙ w.2)
     where
       less : (level m : ℕ) → level ≡ suc m → m ≡ level - 1
@@ -182,7 +184,7 @@ turned_apart c a = λ k d lt. record { absent = λ o. apart (slice_index_or (map
 pub agreed_one : (system : System) (values : List (Option Bool)) (l : Literal) → AreAgreed system values → 2 ≤ l.var → slice_index_or values (l.var - 2) None ≡ Some (not l.negated) → IsOfFirst system (l ∷ [])
 agreed_one system values l agreed low e = λ t first.
     let is : slice_index_or t (l.var - 2) false ≡ not l.negated = agreed (l.var - 2) (not l.negated) e t first in
-    from_member (state_values system t) (l ∷ []) l (0, grind arith, refl) (signs l.negated (slice_index_or t (l.var - 2) false) is)
+    true_by (state_values system t) (l ∷ []) l (0, grind arith, refl) (signs l.negated (slice_index_or t (l.var - 2) false) is)
   where
     signs : (n b : Bool) → b ≡ not n → signed n b ≡ true
     signs true true e = sym e
@@ -267,7 +269,7 @@ agreed_bit system fs bad x value core fit inside c = λ t h. go t h (slice_index
         by_case (inl is) = e ∙ sym is
         by_case (inr n) =
             let holds : clause_value h.1.0 core ≡ true = c.follows h.1.0 (met_itself system system.first h.1.0 h.1.2) tt in
-            let m = true_member h.1.0 core holds in
+            let m = true_literal h.1.0 core holds in
             let is : opposite m.0 ≡ other = one_of (opposite m.0) (All-contains (λ l. Contains (other ∷ []) (opposite l)) core m.0 c.negated m.1) in
             let there : literal_value h.1.0 other ≡ true = ap (signed value) (ap h.1.0 (turn x) ∙ same t h ∙ e) ∙ signs value b n in
             let fails' : literal_value h.1.0 m.0 ≡ false = ap (literal_value h.1.0) (sym (opposite-opposite m.0) ∙ ap opposite is) ∙ literal_value-opposite h.1.0 other ∙ ap not there in

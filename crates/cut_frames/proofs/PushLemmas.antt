@@ -6,11 +6,11 @@ use Rattle.std.proofs.lemmas.List.{length-set, get_or-set_same, get_or-set_other
 use Rattle.std.proofs.lemmas.List.Elements.{All-contains}
 use Rattle.sat_clauses.specs.Literal.{Literal, opposite, signed}
 use Rattle.sat_clauses.specs.Assignment.{Assignment}
-use Rattle.sat_clauses.specs.Models.{TotalAssignment, literal_value, clause_value}
+use Rattle.sat_clauses.specs.Models.{TotalAssignment, literal_value, clause_value, values_of}
 use Rattle.sat_clauses.proofs.ModelLemmas.{literal_value-opposite}
 use Rattle.sat_clauses.proofs.FalseLemmas.{opposite-opposite}
 use Rattle.sat_clauses.specs.declared.system.System.{System}
-use Rattle.cut_frames.specs.Bits.{values_of, read_from, against_next, moved_on}
+use Rattle.cut_frames.specs.Bits.{read_from, against_next, moved_on}
 use Rattle.cut_frames.specs.Chain.{State, Agrees, state_values, IsStepOf, IsOverBits, InFrame}
 use Rattle.cut_frames.specs.Condition.{IsFit}
 use Rattle.cut_frames.specs.FrameLists.{frame_at, InNumber, IsFramed, AreStronger}
@@ -20,12 +20,12 @@ use Rattle.cut_frames.specs.declared.guarded.Beside.TheVariants.{Step}
 use Rattle.cut_frames.specs.Levels.{standing_in, frames_of, held_at, IsLevelled, HasMoved, IsStuck, IsLevelPushed, AreLevelsPushed, IsFilledLevel, AreFilledBelow, IsTightened, IsPushedFrom}
 use Rattle.cut_frames.specs.declared.levels.Held.{Held}
 use Rattle.cut_frames.specs.declared.levels.Levels.{Levels}
-use Rattle.cut_frames.proofs.Sets.{true_member, from_member}
 use Rattle.cut_frames.proofs.Short.{member_true, subset_true}
 use Rattle.cut_frames.proofs.BitLemmas.{agrees_read, agrees_at, length_read}
 use Rattle.cut_frames.proofs.Framing.{to_number, in_list, framed_gained, first_in}
 use Rattle.cut_frames.proofs.LookLemmas.{read_number, met_number, met_itself, now_met, next_met}
 use Rattle.cut_frames.proofs.LevelLaws.{frame_is, frame_past, length_frames, gained_raise, frame_raised, standing_set, to_frame, standing_of}
+use Rattle.sat_simplify.proofs.ClauseLaws.{true_literal, true_by}
 
 pub from_map : (f : Literal → Literal) (c : List Literal) (x : Literal) → Contains (map f c) x → (l : Literal) × Contains c l × (f l ≡ x)
 from_map f [] x m = absurd (omega (arith, m.1))
@@ -64,13 +64,13 @@ module _ (system : System) where
   kept fs i bad c core fit f some oc k s t h step =
       let v : TotalAssignment = step.2.0 in
       let holds : clause_value v core ≡ true = k.follows v (met_number system fs i s v fit f step.2.1 (to_number system fs i s some h)) (met_itself system system.step v step.2.3) in
-      let m = true_member v core holds in
+      let m = true_literal v core holds in
       let neg : Contains (against_next system.state_bits c) (opposite m.0) = subst (λ l. Contains (against_next system.state_bits c) (opposite l)) m.1.2 (k.negated m.1.0 m.0 m.1.1) in
       let from = from_map (λ l. moved_on system.state_bits (opposite l)) c (opposite m.0) neg in
       let is : m.0 ≡ moved_on system.state_bits from.0 =
       sym (opposite-opposite m.0) ∙ ap opposite (sym from.2) ∙ opposite_moved system.state_bits from.0 in
       let inside = All-contains (λ l. (2 ≤ l.var) × (l.var < system.state_bits + 2)) c from.0 oc from.1 in
-      from_member (state_values system t) c from.0 from.1
+      true_by (state_values system t) c from.0 from.1
       (sym (next_value system.state_bits v t from.0 step.1 step.2.2 inside) ∙ ap (literal_value v) (sym is) ∙ m.2)
 
   pub not_kept : (fs : List (List (List Literal))) (i : ℕ) (bad : List (List Literal)) (c : List Literal) (values : Assignment) → IsFramed system fs → IsOverBits system c →
@@ -87,7 +87,7 @@ module _ (system : System) where
         (m.beside.values, now_met system system.step v s now (agrees_read 2 system.state_bits values) m.beside, next_met system system.step v t next (agrees_read (system.state_bits + 2) system.state_bits values) m.beside, m.beside.all),
       ) in
       let there = keeps s t (in_list system fs i s f (read_number system fs i values f m.frame)) step in
-      let one = true_member (state_values system t) c there in
+      let one = true_literal (state_values system t) c there in
       let inside = All-contains (λ l. (2 ≤ l.var) × (l.var < system.state_bits + 2)) c one.0 oc one.1 in
       let passes' : literal_value v (moved_on system.state_bits one.0) ≡ true = next_value system.state_bits v t one.0 next (agrees_read (system.state_bits + 2) system.state_bits values) inside ∙ one.2 in
       let against : literal_value v (moved_on system.state_bits (opposite one.0)) ≡ true = All-contains (λ l. IsTrue (literal_value v l)) (against_next system.state_bits c) (moved_on system.state_bits (opposite one.0)) m.assumed (to_map (λ l. moved_on system.state_bits (opposite l)) c one.0 one.1) in

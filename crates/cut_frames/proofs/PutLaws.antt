@@ -13,8 +13,8 @@ use Rattle.cut_frames.specs.Chain.{IsPart}
 use Rattle.cut_frames.specs.Levels.{standing_in, frames_of, outdone, with_clause, HasGained}
 use Rattle.cut_frames.specs.declared.levels.Held.{Held}
 use Rattle.cut_frames.specs.declared.levels.Levels.{Levels}
-use Rattle.cut_frames.proofs.Sets.{from_filter, to_filter}
 use Rattle.cut_frames.proofs.LevelLaws.{held_in, standing_has, standing_of, gained_from}
+use Rattle.base_values.proofs.ListLaws.{from_filter, to_filter}
 
 -- a clause of a frame is that of a member with this number or a higher one
 record IsOf (i : ℕ) (hs : List Held) (c : List Literal) : Type 0 where

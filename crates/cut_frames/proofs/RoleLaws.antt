@@ -6,7 +6,7 @@ use Rattle.std.proofs.lemmas.Bool.Decides.{leb_tells}
 use Rattle.sat_clauses.specs.Literal.{Literal, plain, opposite}
 use Rattle.sat_clauses.specs.Models.{TotalAssignment, literal_value, clause_value}
 use Rattle.cut_frames.specs.Roles.{Listed, Role, place, frame_guard, list_guard, gate, retired, unused, renamed, renamed_clause, under_guard}
-use Rattle.cut_frames.proofs.Sets.{from_member, true_member}
+use Rattle.sat_simplify.proofs.ClauseLaws.{true_literal, true_by}
 
 pub order : (i j : ℕ) → (i ≤ j) ⊎ (j < i)
 order i j = by_test (leb_tells i j) where
@@ -42,7 +42,7 @@ unasked v x c g = let on : literal_value v (opposite (plain x)) ≡ true = ap no
 
 -- a clause that is true whatever its guard is
 pub anyway : (v : TotalAssignment) (x : ℕ) (c : List Literal) → clause_value v c ≡ true → clause_value v (under_guard x c) ≡ true
-anyway v x c t = let m = true_member v c t in from_member v (under_guard x c) m.0 (later_in (opposite (plain x)) m.0 c m.1) m.2
+anyway v x c t = let m = true_literal v c t in true_by v (under_guard x c) m.0 (later_in (opposite (plain x)) m.0 c m.1) m.2
 
 -- what is asked: whether the guard of a frame is true, whether that of a list is, and the values of the gates of each list
 pub record Asked : Type 0 where

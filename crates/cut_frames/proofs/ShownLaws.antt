@@ -7,12 +7,12 @@ use Rattle.std.proofs.lemmas.List.Elements.{All-contains, All-nil, All-cons, All
 use Rattle.std.proofs.lemmas.List.Folds.{Any-from_list_any}
 use Rattle.sat_clauses.specs.Literal.{Literal}
 use Rattle.sat_clauses.specs.Assignment.{Assignment}
-use Rattle.sat_clauses.specs.Models.{TotalAssignment, clause_value, all_true}
+use Rattle.sat_clauses.specs.Models.{TotalAssignment, clause_value, all_true, values_of}
 use Rattle.sat_clauses.specs.declared.system.System.{System}
 use Rattle.cut_frames.specs.Chain.{State}
 use Rattle.cut_frames.specs.FrameLists.{frame_at, IsFramed}
 use Rattle.cut_frames.specs.FrontierGrowth.{Keeps}
-use Rattle.cut_frames.specs.Bits.{values_of, read_from}
+use Rattle.cut_frames.specs.Bits.{read_from}
 use Rattle.cut_frames.specs.OwnVariables.{IsFound}
 use Rattle.cut_frames.specs.Levels.{frames_of, standing_in, HasMoved}
 use Rattle.cut_frames.specs.declared.guarded.Beside.TheVariants.{Step}

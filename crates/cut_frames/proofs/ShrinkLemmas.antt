@@ -6,25 +6,26 @@ use Rattle.std.proofs.lemmas.List.Elements.{All-contains, All-contains_itself, A
 use Rattle.sat_clauses.specs.Literal.{Literal, opposite}
 use Rattle.sat_clauses.specs.Assignment.{Assignment}
 use Rattle.sat_clauses.specs.Hints.{HasNoOpposites}
-use Rattle.sat_clauses.specs.Models.{TotalAssignment, literal_value, clause_value}
+use Rattle.sat_clauses.specs.Models.{TotalAssignment, literal_value, clause_value, values_of}
 use Rattle.sat_clauses.specs.declared.system.System.{System}
 use Rattle.sat_clauses.proofs.ModelLemmas.{literal_value-opposite}
 use Rattle.sat_clauses.proofs.FalseLemmas.{opposite-opposite}
 use Rattle.cut_frames.specs.Chain.{State, state_values, IsOverBits}
 use Rattle.cut_frames.specs.Condition.{IsFit}
 use Rattle.cut_frames.specs.FrameLists.{InNumber, IsFramed}
-use Rattle.cut_frames.specs.Bits.{values_of, read_from}
+use Rattle.cut_frames.specs.Bits.{read_from}
 use Rattle.cut_frames.specs.OwnVariables.{IsFound, IsExcluded}
 use Rattle.cut_frames.specs.Path.{IsStateMoment, state_in}
 use Rattle.cut_frames.specs.Parts.{IsPart}
 use Rattle.cut_frames.specs.Minimal.{IsPlain, IsWithin, given_up, IsNeeded, IsMinimal}
 use Rattle.cut_frames.specs.declared.guarded.Beside.TheVariants.{Bad}
-use Rattle.cut_frames.proofs.Sets.{true_member, to_filter}
 use Rattle.cut_frames.proofs.PushLemmas.{from_map, to_map}
 use Rattle.cut_frames.proofs.PartLemmas.{filter_part, in_front, one_all}
 use Rattle.cut_frames.proofs.BitLemmas.{agrees_read, length_read, over_value}
 use Rattle.cut_frames.proofs.MomentLemmas.{taken_read}
 use Rattle.cut_frames.proofs.LookLemmas.{met_number, met_itself}
+use Rattle.base_values.proofs.ListLaws.{to_filter}
+use Rattle.sat_simplify.proofs.ClauseLaws.{true_literal}
 
 -- what is assumed: the literals that are given up, and one more
 abbrev pub all_assumed : TotalAssignment → List Literal → Literal → List Literal
@@ -148,7 +149,7 @@ module _ (system : System) (bad : List (List Literal)) (frames : List (List (Lis
   is_needed i v more core fit f over one c held t inside is_bad within =
       let w : TotalAssignment = is_bad.1.0 in
       let holds : clause_value w core ≡ true = c.follows w (met_number system frames i t w fit f is_bad.1.1 inside) (met_itself system bad w is_bad.1.2) in
-      let m = true_member w core holds in
+      let m = true_literal w core holds in
       by_case m.0 m.2 (from_assumed v history more m.0 (All-contains (λ l. Contains (all_assumed v history more) (opposite l)) core m.0 c.negated m.1))
     where
       same : (l : Literal) → Contains history l → literal_value is_bad.1.0 l ≡ literal_value (state_values system t) l

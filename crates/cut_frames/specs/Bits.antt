@@ -1,10 +1,10 @@
 -- Literals of the bits of a state, and reading a state from values.
-use Rattle.std.specs.Prelude.{ℕ, zero, suc, ◌+◌, ◌-◌, Bool, false, not, List, [], ◌∷◌, ◌++◌, map, None, unwrap_or, slice_index_or}
+use Rattle.std.specs.Prelude.{ℕ, zero, suc, ◌+◌, ◌-◌, Bool, not, List, [], ◌∷◌, ◌++◌, map}
 use Rattle.sat_clauses.specs.Literal.{Literal, opposite}
 use Rattle.sat_clauses.specs.Assignment.{Assignment}
-use Rattle.sat_clauses.specs.Models.{TotalAssignment}
 pub use Rattle.sat_clauses.specs.States.{moved_on}
 use Rattle.cut_frames.specs.Chain.{State}
+use Rattle.sat_clauses.specs.Models.{values_of}
 
 -- the literal of a variable that is true where it has the value
 abbrev pub literal_for : ℕ → Bool → Literal
@@ -14,10 +14,6 @@ literal_for n b = record { var = n; negated = not b }
 abbrev pub literals_from : ℕ → State → List Literal
 literals_from n [] = []
 literals_from n (b ∷ bs) = literal_for n b ∷ literals_from (n + 1) bs
-
--- the value of each variable, false where it has none
-abbrev pub values_of : Assignment → TotalAssignment
-values_of a v = unwrap_or (slice_index_or a v None) false
 
 -- the values of the variables from n on, so many of them
 abbrev pub read_from : ℕ → ℕ → Assignment → State

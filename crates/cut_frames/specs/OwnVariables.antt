@@ -3,10 +3,9 @@
 use Rattle.std.specs.Prelude.{ℕ, zero, suc, ◌+◌, ◌≤◌, List, map, nat_le, if◌then◌else◌, IsTrue, All, Contains}
 use Rattle.sat_clauses.specs.Literal.{Literal, opposite}
 use Rattle.sat_clauses.specs.Assignment.{Assignment}
-use Rattle.sat_clauses.specs.Models.{TotalAssignment, literal_value, clause_value, all_true}
+use Rattle.sat_clauses.specs.Models.{TotalAssignment, literal_value, clause_value, all_true, values_of}
 use Rattle.sat_simplify.specs.SamePlaces.{IsMet}
 use Rattle.sat_clauses.specs.declared.system.System.{System}
-use Rattle.cut_frames.specs.Bits.{values_of}
 use Rattle.cut_frames.specs.FrameLists.{frame_at}
 use Rattle.cut_frames.specs.GuardedSearch.{IsHolding, AreSimple, places_of}
 use Rattle.cut_frames.specs.declared.guarded.Beside.{Beside}

@@ -5,9 +5,10 @@ use Rattle.sat_clauses.specs.Literal.{Literal}
 use Rattle.sat_clauses.specs.Assignment.{Assignment}
 use Rattle.sat_clauses.specs.declared.system.System.{System}
 pub use Rattle.sat_clauses.specs.States.{IsStepUnder}
-use Rattle.cut_frames.specs.Bits.{values_of, read_from}
+use Rattle.cut_frames.specs.Bits.{read_from}
 use Rattle.cut_frames.specs.Chain.{State, IsFirstState, IsBad}
 use Rattle.cut_frames.specs.FrameLists.{InNumber}
+use Rattle.sat_clauses.specs.Models.{values_of}
 
 -- each of the k variables from n on has a value
 abbrev pub Gives : ℕ → ℕ → Assignment → Type 0

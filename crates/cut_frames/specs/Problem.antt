@@ -2,7 +2,6 @@
 use Rattle.std.specs.Prelude.{◌<◌, ◌≤◌, [], All}
 use Rattle.sat_clauses.specs.Assignment.{Assignment}
 use Rattle.sat_clauses.specs.Literal.{Literal}
-use Rattle.cut_frames.specs.Bits.{values_of}
 use Rattle.cut_frames.specs.Chain.{IsOverBits}
 use Rattle.cut_frames.specs.Condition.{IsFit, IsOverNow}
 use Rattle.cut_frames.specs.Levels.{frames_of, IsLevelled}
@@ -12,6 +11,7 @@ use Rattle.cut_frames.specs.declared.guarded.Beside.TheVariants.{Bad}
 use Rattle.cut_frames.specs.declared.levels.Levels.{Levels}
 use Rattle.cut_frames.specs.declared.problem.FrameAt.{FrameAt}
 use Rattle.cut_frames.specs.declared.problem.Problem.{Problem}
+use Rattle.sat_clauses.specs.Models.{values_of}
 
 -- frames are made of the system, its bad states are over the state now, and the history literals are bits of it, not turned round
 pub record IsWellPosed (p : Problem) : Type 0 where

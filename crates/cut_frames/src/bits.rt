@@ -6,9 +6,10 @@
 //! down to a moment of a path. A state's bits have the variables from 2 on, as the head of `sat_clauses` says.
 ghost use Rattle.std.specs.Prelude.{◌≡◌, ◌≤◌, ◌<◌, ◌+◌, ◌^◌, length, map, IfOk, All};
 ghost use Rattle.sat_clauses.specs.Literal.{opposite};
-ghost use Rattle.cut_frames.specs.Bits.{literals_from, read_from, joined, values_of, against_next, moved_back, moved_on};
+ghost use Rattle.cut_frames.specs.Bits.{literals_from, read_from, joined, against_next, moved_back, moved_on};
 ghost use Rattle.cut_frames.specs.Condition.{IsLow, IsFit};
 ghost use Rattle.cut_frames.specs.Path.{AreFree, AreTaken, AreKept, IsStateMoment, IsStepMoment};
+ghost use Rattle.sat_clauses.specs.Models.{values_of};
 
 use base_values::{Items, OutOfMemory};
 use sat_clauses::System;

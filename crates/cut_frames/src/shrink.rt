@@ -5,9 +5,8 @@
 ghost use Rattle.std.specs.Prelude.{◌≡◌, ◌≤◌, ◌<◌, ◌^◌, ◌++◌, ◌∷◌, [], if◌then◌else◌, map, All, Contains, IfOk, OnOk, IfSome};
 ghost use Rattle.cut_frames.specs.Parts.{IsPart};
 ghost use Rattle.sat_clauses.specs.Literal.{opposite};
-ghost use Rattle.sat_clauses.specs.Models.{literal_value};
+ghost use Rattle.sat_clauses.specs.Models.{literal_value, values_of};
 ghost use Rattle.cut_frames.specs.OwnVariables.{IsKept};
-ghost use Rattle.cut_frames.specs.Bits.{values_of};
 ghost use Rattle.cut_frames.specs.Levels.{frames_of, IsLevelled};
 ghost use Rattle.cut_frames.specs.Minimal.{given_up};
 ghost use Rattle.cut_frames.specs.Problem.{IsWellPosed, IsBadFound, IsLess, AreNeeded};

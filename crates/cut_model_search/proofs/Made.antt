@@ -20,7 +20,7 @@ use Rattle.sat_clauses.specs.States.{State, IsBad, InFrame, IsOverBits, IsInvari
 use Rattle.cut_right_laws.specs.Sets.{IsRising, stands_before}
 use Rattle.cut_right_laws.specs.Right.{Shows}
 use Rattle.cut_right_laws.specs.Laws.{AreBoth}
-use Rattle.cut_right_laws.proofs.Places.{get_within, place_within}
+use Rattle.cut_right_laws.proofs.Places.{place_within}
 use Rattle.sat_encoding_laws.specs.Encodings.{IsBadListOf, IsBadMoment}
 use Rattle.sat_encoding_laws.specs.FlatTraces.{ReachesTop, HasFailedNumber, IsNumbered, IsRightFlat, history_of}
 use Rattle.sat_encoding_laws.specs.Bits.{state_of}
@@ -60,6 +60,7 @@ use Rattle.cut_report_laws.proofs.Printed.{same_value, map_same as same_maps}
 use Rattle.sat_encoding_laws.proofs.SetLaws.{each_kept}
 use Rattle.smv_flat_laws.proofs.Conditions.{each_at}
 use Rattle.smv_language.proofs.ListLaws.{get_map}
+use Rattle.base_values.proofs.ListLaws.{get_within}
 
 pub same_told : (symbols : List Text) (trace : List (List Value)) → told_trace symbols trace ≡ trace_of symbols trace
 same_told symbols trace = same_maps (told_moment symbols) (values_of symbols) (λ v. same_maps (told_value symbols) (value_of symbols) (same_value symbols) v) trace

@@ -5,8 +5,9 @@ use Rattle.std.specs.List.{AllByRecursion}
 use Rattle.std.proofs.lemmas.List.Elements.{All-head, All-tail}
 use Rattle.smv_language.specs.Trace.{Each, EachPair}
 use Rattle.cut_right_laws.specs.Laws.{AreBoth}
-use Rattle.cut_right_laws.proofs.Places.{get_within, place_read}
+use Rattle.cut_right_laws.proofs.Places.{place_read}
 use Rattle.std.proofs.lemmas.Option.{same_Some as some_same}
+use Rattle.base_values.proofs.ListLaws.{get_within}
 
 -- what holds at each place holds of all
 pub all_by_place : {A : Type 0} (P : A → Type 0) (xs : List A) → ((k : ℕ) (x : A) → slice_get xs k ≡ Some x → P x) → All P xs

@@ -12,7 +12,7 @@ use Rattle.smv_language.proofs.ValueLaws.{same_text_equal}
 use Rattle.smv_language.specs.Flat.{FlatLeaf, FlatVariable, FlatModel}
 use Rattle.smv_flat_laws.specs.History.{Mode, bit_variables, with_history}
 use Rattle.smv_flat_laws.specs.FlatTrace.{IsModeOf}
-use Rattle.smv_flat_laws.proofs.Lists.{get_within, each_more}
+use Rattle.smv_flat_laws.proofs.Lists.{each_more}
 use Rattle.smv_flat_laws.proofs.Conditions.{each_at}
 use Rattle.sat_encoding_laws.specs.EncodedLaws.{AreOwn}
 use Rattle.sat_encoding_laws.specs.Inputs.{is_input}
@@ -28,6 +28,7 @@ use Rattle.fault_cause_laws.proofs.HistoryKinds.{history_addition, history_is}
 use Rattle.cut_reach_laws.proofs.Widened.{HasClauses, fit_wide}
 use Rattle.cut_reach_laws.proofs.Carried.{IsEventIn, Carries, StagedGoes, staged_goes, same_inputs}
 use Rattle.cert_laws.proofs.Own.{own_names, closed_own}
+use Rattle.base_values.proofs.ListLaws.{get_within}
 
 -- ---- names
 

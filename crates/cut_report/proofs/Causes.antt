@@ -4,7 +4,6 @@ use Rattle.std.specs.Prelude.{slice_get, IsTrue}
 use Rattle.smv_language.specs.Values.{Value, value_text}
 use Rattle.smv_language.specs.Trace.{in_domain}
 use Rattle.smv_language.specs.Flat.{FlatVariable, FlatModel}
-use Rattle.smv_flat_laws.proofs.Lists.{get_within}
 use Rattle.std.proofs.lemmas.Option.{slice_get_within, same_Some as some_same}
 use Rattle.cut_text_laws.specs.Lines.{Line}
 use Rattle.cut_text_laws.specs.TraceText.{moment_line, equation}
@@ -21,6 +20,7 @@ use Rattle.cut_report.specs.Lookups.{IsNamedAt, HasNoValue}
 use Rattle.cut_report.specs.TraceReading.{IsGiven, IsAfter, IsTaken, IsRefusal, IsRefusedLine}
 use Rattle.smv_language.specs.NumberedValues.{told_value}
 use Rattle.cut_text_laws.proofs.LineJudged.{number_least}
+use Rattle.base_values.proofs.ListLaws.{get_within}
 
 -- a bad line has the smallest number
 pub bad_is_least : (m : FlatModel) (lines : List Line) (l : Line) → l ≢ [] → l ≢ moment_line (moments_after 0 lines) → ((name value : Line) → IsEquation name value l → moments_after 0 lines ≡ 0) → IsLeast m lines l bad_line

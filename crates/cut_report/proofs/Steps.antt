@@ -9,7 +9,6 @@ use Rattle.smv_language.specs.ProgramTree.{Text}
 use Rattle.smv_language.specs.Values.{Value, value_text}
 use Rattle.smv_language.specs.Trace.{in_domain}
 use Rattle.smv_language.specs.Flat.{FlatVariable, FlatModel}
-use Rattle.smv_flat_laws.proofs.Lists.{get_within}
 use Rattle.smv_flat_laws.proofs.OneOfTwo.{set_get, set_own}
 use Rattle.cut_text_laws.specs.Lines.{Line}
 use Rattle.cut_text_laws.proofs.Separators.{same_front}
@@ -27,7 +26,7 @@ use Rattle.smv_language.specs.NumberedValues.{told_value}
 use Rattle.cut_report.specs.TraceReading.{IsGiven, IsSilent, IsLast, IsSaid, AreSaid, IsAfter, values_of, with_last, Gives}
 use Rattle.cut_report.proofs.Positions.{last_or_in, sound_more, still, one_begins, front_begun, lacks_more, lacks_at_moment}
 use Rattle.std.proofs.lemmas.Bool.{and_parts as first_true}
-use Rattle.base_values.proofs.ListLaws.{push_get}
+use Rattle.base_values.proofs.ListLaws.{push_get, get_within}
 
 -- What was said stays said.
 given_more : (lines : List Line) (l : Line) (x : FlatVariable) (w : Value) (k : ℕ) → IsGiven lines x w k → IsGiven (lines ++ l ∷ []) x w k

@@ -10,7 +10,6 @@ use Rattle.smv_language.specs.Values.{Value, value_text}
 use Rattle.smv_language.specs.Trace.{in_domain}
 use Rattle.smv_language.specs.Flat.{FlatVariable, FlatModel}
 use Rattle.smv_flat_laws.specs.FlatTrace.{AreInDomains}
-use Rattle.smv_flat_laws.proofs.Lists.{get_within}
 use Rattle.cut_text_laws.specs.Lines.{Line, fed, IsLine}
 use Rattle.cut_text_laws.proofs.Cuts.{line_lies, length_more, fed_long, rest_shorter}
 use Rattle.cut_text_laws.specs.TraceText.{moment_line}
@@ -33,6 +32,7 @@ use Rattle.cut_report.proofs.Positions.{sound_are}
 use Rattle.cut_report.proofs.LookupLaws.{IsImage, image}
 use Rattle.cut_report.proofs.Steps.{IsEnded, moment_ended}
 use Rattle.cut_report.proofs.Collected.{IsTold, moments_collected}
+use Rattle.base_values.proofs.ListLaws.{get_within}
 
 -- Before the first line.
 pub before_all : (m : FlatModel) (r : TraceReading) → r.begun ≡ 0 → r.moments ≡ [] → length r.slots.items ≡ length m.variables → ((i : ℕ) (s : Slot) → slice_get r.slots.items i ≡ Some s → s.moment ≡ 0) → IsAfter m [] r

@@ -15,7 +15,8 @@ use Rattle.cut_tables.specs.Tables.{yes, absent_entry}
 use Rattle.cut_report_laws.specs.Tables.{Suffices, IsEntry, EntriesAreRight}
 use Rattle.cut_search_laws.proofs.Chains.{no_place}
 use Rattle.smv_language.proofs.BoolLaws.{or_cases}
-use Rattle.smv_language.proofs.ListLaws.{none_contained, contains_cases}
+use Rattle.smv_language.proofs.ListLaws.{contains_cases}
+use Rattle.base_values.proofs.ListLaws.{none_contained}
 
 record Within (row : List ℕ) (sets : List (List ℕ)) : Type 0 where
   place : ℕ

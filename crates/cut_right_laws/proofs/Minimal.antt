@@ -4,7 +4,8 @@ use Rattle.std.specs.Prelude.{slice_get, Contains}
 use native.Mathlib.Decide.{ℕ_discrete}
 use Rattle.cut_right_laws.specs.Right.{IsContained, HasAtMost, HasFailedAll, IsRight, IsCutSet, IsMinimalCutSet, IsListed}
 use Rattle.cut_right_laws.specs.Laws.{RightSetsAreMinimal}
-use Rattle.cut_right_laws.proofs.Places.{get_within, place_within, place_of_member, same_at}
+use Rattle.cut_right_laws.proofs.Places.{place_within, place_of_member, same_at}
+use Rattle.base_values.proofs.ListLaws.{get_within}
 
 module _ (T : Type 0) (is_trace reaches : T → Type 0) (has_failed : T → ℕ → Type 0) where
   -- the set of a place has its trace

@@ -3,11 +3,6 @@ use Rattle.std.proofs.Common.{◌≡◌, ℕ, zero, suc, ◌<◌, arith, List, [
 use Rattle.std.specs.Prelude.{slice_get, slice_index_or, Contains}
 use Rattle.cut_right_laws.specs.Laws.{AreBoth}
 
-pub get_within : {A : Type 0} (xs : List A) (i : ℕ) → i < length xs → (x : A) × (slice_get xs i ≡ Some x)
-get_within [] i h = absurd (omega (arith, h))
-get_within (y ∷ xs) zero h = (y, refl)
-get_within (y ∷ xs) (suc i) h = get_within xs i (omega (arith, h))
-
 -- a place that has a member is within the list
 pub place_within : {A : Type 0} (xs : List A) (i : ℕ) (x : A) → slice_get xs i ≡ Some x → i < length xs
 place_within [] i x e = cc

@@ -1,12 +1,7 @@
 -- The laws of sets that are right for a class.
-use Rattle.std.specs.Prelude.{◌↔◌, ℕ, List, [], ◌∷◌}
+use Rattle.std.specs.Prelude.{◌↔◌, ℕ, List}
+pub use Rattle.std.specs.List.{AllZip as AreBoth}
 use Rattle.cut_right_laws.specs.Right.{HasAtMost, IsRight, IsMinimalCutSet, IsListed}
-
--- each of the one list is related to that of the other at its place, and the lists are as long as each other
-abbrev pub AreBoth : {A B : Type 0} → (A → B → Type 0) → List A → List B → Type 0
-AreBoth R [] [] = Unit {0}
-AreBoth R (a ∷ more) (b ∷ others) = R a b × AreBoth R more others
-AreBoth R _ _ = ⊥
 
 module _ (T : Type 0) (is_trace reaches : T → Type 0) (has_failed : T → ℕ → Type 0) where
   -- sets that are right for all traces are exactly the minimal cut sets of at most so many faults

@@ -7,7 +7,7 @@ use Rattle.std.specs.List.{insert}
 use Rattle.cut_right_laws.specs.Sets.{is_contained, stands_before}
 use Rattle.cut_search_laws.specs.FoundSets.{Found, without, placed}
 use Rattle.cut_search.specs.Places.{place_of}
-use Rattle.cut_frames.proofs.AdvanceLemmas.{one_more as next}
+use Rattle.std.proofs.Math.Numerals.{suc-eq-add-one}
 
 module _ {T : Type 0} where
   pub placed_at : (new : Found T) (fs : List (Found T)) → insert fs (place_of new.set fs) new ≡ placed new fs
@@ -22,7 +22,7 @@ module _ {T : Type 0} where
   place_here set fs k d l e = rw (drop-cons fs k d l, e) refl
 
   pub place_later : (set : List ℕ) (fs : List (Found T)) (k : ℕ) (d : Found T) → k < length fs → stands_before set (get_or fs k d).set ≡ false → place_of set (drop k fs) ≡ suc (place_of set (drop (k + 1) fs))
-  place_later set fs k d l e = rw (drop-cons fs k d l, e) (ap (λ n. suc (place_of set (drop n fs))) (next k))
+  place_later set fs k d l e = rw (drop-cons fs k d l, e) (ap (λ n. suc (place_of set (drop n fs))) (suc-eq-add-one k))
 
   pub place_end : (set : List ℕ) (fs : List (Found T)) (k : ℕ) → length fs ≤ k → place_of set (drop k fs) ≡ 0
   place_end set fs k h = rw (drop_of_length-le fs h) refl

@@ -1,7 +1,7 @@
 -- The clause of a set, and what it says beside a list of bad states.
 use Rattle.std.proofs.Common.{◌≡◌, ℕ, zero, suc, ◌+◌, ◌-◌, ◌<◌, ◌≤◌, nat_eq, Bool, true, false, not, ◌&&◌, ◌||◌, List, [], ◌∷◌, ◌++◌, length, Some, refl, sym, ap, ◌∙◌, subst, arith, inl, inr, eqb-true}
 use Rattle.std.specs.Prelude.{slice_get, All}
-use Rattle.std.proofs.lemmas.Bool.{and_parts}
+use Rattle.std.proofs.lemmas.Bool.{and_parts, not-true}
 use Rattle.std.proofs.lemmas.List.Elements.{All-nil, All-cons}
 use Rattle.std.proofs.lemmas.Option.{same_Some}
 use Rattle.smv_language.specs.Values.{Value}
@@ -16,7 +16,7 @@ use Rattle.sat_clauses.proofs.ModelLemmas.{literal_value-opposite, Satisfies-fro
 use Rattle.cut_frames.specs.Chain.{State, IsBad, Makes, state_values}
 use Rattle.cut_frames.proofs.LookLemmas.{clause_over}
 use Rattle.cut_right_laws.specs.Sets.{has_number, is_contained}
-use Rattle.cut_right_laws.proofs.Places.{get_within, place_read}
+use Rattle.cut_right_laws.proofs.Places.{place_read}
 use Rattle.sat_encoding_laws.specs.Encodings.{bit_of, IsBadMoment}
 use Rattle.sat_encoding_laws.specs.Lists.{literal_at, unlisted_clause}
 use Rattle.sat_encoding_laws.specs.FlatTraces.{IsNumbered, history_of}
@@ -25,6 +25,7 @@ use Rattle.cut_search_laws.specs.FoundSets.{Found, sets_of, without, with_found}
 use Rattle.cut_search_laws.specs.FlatSearch.{IsBadFor, AreHistory, IsClauseOf, OppositesAreClause, ClauseListsSet}
 use Rattle.cut_search_laws.specs.Problem.{Problem}
 use Rattle.cut_search_laws.proofs.FoundLaws.{each_filtered, each_placed, still_contain, new_is_listed}
+use Rattle.base_values.proofs.ListLaws.{get_within}
 
 -- ---- sets
 
@@ -75,10 +76,6 @@ literal_got [] i l e = cc
 literal_got (x ∷ literals) zero l e = same_Some x l e
 literal_got (x ∷ literals) (suc i) l e = literal_got literals i l e
 
-not_true : (b : Bool) → not b ≡ true → b ≡ false
-not_true true h = cc
-not_true false h = refl
-
 module _ (problem : Problem) where
   open problem use {model as m, modes as fs, top, system, state_of}
 
@@ -128,7 +125,7 @@ module _ (problem : Problem) where
         where
           by_test : (b : Bool) → literal_value bits (opposite (literal_at literals (n - 1))) ≡ b → (b || clause_value bits (unlisted_clause literals set)) ≡ true →
               (clause_value bits (unlisted_clause literals set) ≡ true → AtSome (IsOpen v) set) → AtSome (IsOpen v) (n ∷ set)
-          by_test true e t more = inl (not_true (bit_of (history_of m fs) v n) (sym (one_tells n h.0) ∙ e))
+          by_test true e t more = inl (not-true (bit_of (history_of m fs) v n) (sym (one_tells n h.0) ∙ e))
           by_test false e t more = inr (more t)
 
       set_from : (set : List ℕ) → IsNumbered (length fs) set → AtSome (IsOpen v) set → clause_value bits (unlisted_clause literals set) ≡ true

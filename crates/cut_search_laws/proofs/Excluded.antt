@@ -28,8 +28,9 @@ use Rattle.sat_encoding_laws.proofs.Numbers.{count_where}
 use Rattle.sat_encoding_laws.proofs.HistoryFacts.{at_last, each_last, last_told, last_tells, unlisted_comes, failed_exactly, failed_small}
 use Rattle.smv_flat_laws.proofs.HistoryLaws.{length_told}
 use Rattle.smv_type_laws.proofs.ClosedLaws.{each_both}
-use Rattle.smv_language.proofs.ListLaws.{contains_here, contains_later}
+use Rattle.smv_language.proofs.ListLaws.{contains_later}
 use Rattle.cut_search_laws.specs.Problem.{Problem}
+use Rattle.base_values.proofs.ListLaws.{contains_here}
 
 -- under some inputs a step is a step
 pub any_inputs : (system : System) (inputs : List Bool) (s t : State) → IsStepUnder system inputs s t → IsStepOf system s t

@@ -1,18 +1,16 @@
 -- Steps of the loops over sets.
 use Rattle.std.proofs.Common.{◌≡◌, ℕ, zero, suc, ◌+◌, ◌-◌, ◌<◌, ◌≤◌, nat_eq, nat_lt, true, false, List, [], ◌∷◌, length, drop, get_or, refl, subst, length-drop, sym, ap, ◌∙◌, arith, eq-eqb}
 use Rattle.std.specs.Prelude.{◌&&◌}
-use Rattle.std.proofs.lemmas.Bool.{and_parts}
+use Rattle.std.proofs.lemmas.Bool.{and_parts, lt-ltb}
 use Rattle.std.proofs.Math.Seq.{drop-cons}
 use Rattle.std.proofs.Math.ListN.{drop_of_length-le}
 use Rattle.cut_right_laws.specs.Sets.{IsRising, is_before_in_order}
 use Rattle.cut_sets.specs.Tests.{is_rising}
+use Rattle.std.proofs.Math.Numerals.{suc-eq-add-one}
 
 nothing_before : (s : List ℕ) → is_before_in_order s [] ≡ false
 nothing_before [] = refl
 nothing_before (i ∷ is) = refl
-
-next : (k : ℕ) → suc k ≡ k + 1
-next k = omega arith
 
 -- the other has ended
 pub before_ended : (s t : List ℕ) (k : ℕ) → length t ≤ k → is_before_in_order (drop k s) (drop k t) ≡ false
@@ -29,7 +27,7 @@ before_differs s t k l l' e = rw (drop-cons s k 0 l, drop-cons t k 0 l', e) refl
 -- they are the same here
 pub before_same : (s t : List ℕ) (k : ℕ) → k < length s → k < length t → get_or s k 0 ≡ get_or t k 0 → is_before_in_order (drop k s) (drop k t) ≡ is_before_in_order (drop (k + 1) s) (drop (k + 1) t)
 before_same s t k l l' e =
-    rw (drop-cons s k 0 l, drop-cons t k 0 l', eq-eqb (get_or s k 0) (get_or t k 0) e) (ap (λ n. is_before_in_order (drop n s) (drop n t)) (next k))
+    rw (drop-cons s k 0 l, drop-cons t k 0 l', eq-eqb (get_or s k 0) (get_or t k 0) e) (ap (λ n. is_before_in_order (drop n s) (drop n t)) (suc-eq-add-one k))
 
 -- a number and the next one
 rising_two : (s : List ℕ) (k : ℕ) → suc k < length s → is_rising (drop k s) ≡ (nat_lt (get_or s k 0) (get_or s (suc k) 0) && is_rising (drop (suc k) s))
@@ -61,9 +59,6 @@ rising_none s k l h = rising_one s (k - 1) (omega (arith, l, h))
 less_then : (i j : ℕ) → nat_lt i j ≡ true → i < j
 less_then i j e = grind arith
 
-less_where : (i j : ℕ) → i < j → nat_lt i j ≡ true
-less_where i j h = grind arith
-
 pub rises_then : (s : List ℕ) → is_rising s ≡ true → IsRising s
 rises_then [] e = tt
 rises_then (i ∷ []) e = tt
@@ -72,6 +67,6 @@ rises_then (i ∷ j ∷ s) e = let both = and_parts (nat_lt i j) (is_rising (j �
 pub rises_where : (s : List ℕ) → IsRising s → is_rising s ≡ true
 rises_where [] h = refl
 rises_where (i ∷ []) h = refl
-rises_where (i ∷ j ∷ s) h = ap (λ b. b && is_rising (j ∷ s)) (less_where i j h.0) ∙ rises_where (j ∷ s) h.1
+rises_where (i ∷ j ∷ s) h = ap (λ b. b && is_rising (j ∷ s)) (lt-ltb i j h.0) ∙ rises_where (j ∷ s) h.1
 
 pub ruleset before_steps = (before_ended, before_shorter, before_differs, before_same)

@@ -1,5 +1,5 @@
 -- The instances of a program that breaks no rule of names are such as the weave takes.
-use Rattle.std.proofs.Common.{◌≡◌, ℕ, ◌+◌, arith, false, List, [], ◌∷◌, ◌++◌, flat_map, Option, Some, None, refl, sym, ◌∙◌, ap, subst}
+use Rattle.std.proofs.Common.{◌≡◌, ℕ, ◌+◌, false, List, [], ◌∷◌, ◌++◌, flat_map, Option, Some, None, refl, sym, ◌∙◌, ap, subst}
 use Rattle.std.specs.Prelude.{slice_get}
 use Rattle.smv_language.specs.declared.program.Moment.{Moment}
 use Rattle.smv_language.specs.declared.program.Moment.TheVariants.{Always, First, After}
@@ -27,9 +27,7 @@ use Rattle.smv_flat_laws.proofs.Listed.{root_written, ListedItem, listed_item, r
 use Rattle.smv_type_laws.proofs.ClosedLaws.{all_leaves}
 use Rattle.fault_extend.proofs.JudgedModes.{no_next}
 use Rattle.std.proofs.lemmas.Option.{some_pair_parts as both_parts}
-
-from_zero : (j : ℕ) → 0 + j ≡ j
-from_zero j = omega arith
+use Rattle.std.proofs.Math.Nat.{zero-add}
 
 module _ (p : ProgramTree) (accepted : IsAccepted p) (m : FlatModel) (is : IsFlatOf p m) (mean : ActualsMean p) where
   -- the names of a resolved expression mean something
@@ -82,7 +80,7 @@ module _ (p : ProgramTree) (accepted : IsAccepted p) (m : FlatModel) (is : IsFla
           let item : Item = a_declaration by.role by.decl in
           let l : ListedItem p at k item = listed_item p (accepted_walkable p accepted) at k here by.place item by.is in
           let root : In (record { key = actual_key (x ∷ at) j; item = l.numbered.number }) (roots_of_type (x ∷ at) l.numbered.number (instance n es)) =
-          subst (λ i. In (record { key = actual_key (x ∷ at) i; item = l.numbered.number }) (roots_of_type (x ∷ at) l.numbered.number (instance n es))) (from_zero j) (actual_root (x ∷ at) 0 l.numbered.number es j e nth q) in
+          subst (λ i. In (record { key = actual_key (x ∷ at) i; item = l.numbered.number }) (roots_of_type (x ∷ at) l.numbered.number (instance n es))) (zero-add j) (actual_root (x ∷ at) 0 l.numbered.number es j e nth q) in
           let listed : In (record { key = actual_key (x ∷ at) j; item = l.numbered.number }) (roots_of_type (by.decl.name ∷ at) l.numbered.number by.decl.what) =
           subst (λ y. In (record { key = actual_key (x ∷ at) j; item = l.numbered.number }) (roots_of_type (y ∷ at) l.numbered.number by.decl.what)) (sym by.name)
           (subst (λ t. In (record { key = actual_key (x ∷ at) j; item = l.numbered.number }) (roots_of_type (x ∷ at) l.numbered.number t)) (sym by.what) root) in

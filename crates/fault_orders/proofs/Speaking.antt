@@ -8,7 +8,7 @@ use Rattle.smv_language.specs.Evaluate.{evaluate}
 use Rattle.smv_language.specs.Flat.{FlatLeaf, FlatModel, FlatMay, one_of, leaves_at}
 use Rattle.smv_flat_laws.specs.History.{Mode, with_history}
 use Rattle.smv_flat_laws.specs.FlatTrace.{IsFlatMoment, IsFlatTrace, stands_in_some, bits_after, told_from}
-use Rattle.smv_flat_laws.proofs.Lists.{get_within, length_end}
+use Rattle.smv_flat_laws.proofs.Lists.{length_end}
 use Rattle.smv_flat_laws.proofs.Conditions.{MayBe, may_one}
 use Rattle.cut_right_laws.specs.Right.{HasFailedExactly}
 use Rattle.cut_right_laws.specs.Sets.{has_number}
@@ -33,7 +33,7 @@ use Rattle.sat_encoding_laws.proofs.HistoryPlaces.{get_past as get_after}
 use Rattle.std.proofs.lemmas.Bool.{and_parts, and_from}
 use Rattle.base_values.proofs.BoolLaws.{bool_same}
 use Rattle.smv_language.proofs.ListLaws.{get_map}
-use Rattle.base_values.proofs.ListLaws.{get_left}
+use Rattle.base_values.proofs.ListLaws.{get_left, get_within}
 
 -- the last valuation with one more value
 pub last_value : (value : ℕ → Value) (k : ℕ) (v : List Value) (vs : List (List Value)) → last_of (with_values value k (v ∷ vs)) ≡ last_of (v ∷ vs) ++ value (k + length vs) ∷ []

@@ -41,6 +41,19 @@ opposite-opposite l = ap (λ b. record { var = l.var; negated = b }) (not_not l.
 pub literal_is : (l m : Literal) → l.var ≡ m.var → l.negated ≡ m.negated → l ≡ m
 literal_is l m e f = ap (λ x. record { var = x; negated = l.negated }) e ∙ ap (λ b. record { var = m.var; negated = b }) f
 
+pub signed_not : (n : Bool) → signed n (not n) ≡ true
+signed_not true = refl
+signed_not false = refl
+
+pub same_or_opposite : (l m : Literal) → l.var ≡ m.var → (l ≡ m) ⊎ (l ≡ opposite m)
+same_or_opposite l m e = by_sign l.negated m.negated refl refl
+  where
+    by_sign : (a b : Bool) → l.negated ≡ a → m.negated ≡ b → (l ≡ m) ⊎ (l ≡ opposite m)
+    by_sign true true p q = inl (literal_is l m e (p ∙ sym q))
+    by_sign false false p q = inl (literal_is l m e (p ∙ sym q))
+    by_sign true false p q = inr (literal_is l (opposite m) e (p ∙ sym (ap not q)))
+    by_sign false true p q = inr (literal_is l (opposite m) e (p ∙ sym (ap not q)))
+
 -- what is true where a literal was made true was true, or is that literal
 pub made_true_true : (a : Assignment) (m l : Literal) → value_of (made_true a m) l ≡ Some true → (value_of a l ≡ Some true) ⊎ (l ≡ m)
 made_true_true a m l e =

@@ -1,11 +1,16 @@
 -- What literals, clauses and lists of clauses mean where every variable has a value.
-use Rattle.std.specs.Prelude.{◌≡◌, ℕ, ◌<◌, Bool, List, IsTrue, All}
+use Rattle.std.specs.Prelude.{◌≡◌, ℕ, ◌<◌, Bool, false, List, None, unwrap_or, slice_index_or, IsTrue, All}
 use Rattle.std.specs.List.{list_any, list_all}
 use Rattle.sat_clauses.specs.Literal.{Literal, signed}
+use Rattle.sat_clauses.specs.Assignment.{Assignment}
 
 -- a value for each variable
 abbrev pub TotalAssignment : Type 0
 TotalAssignment = ℕ → Bool
+
+-- the value of each variable, false where it has none
+abbrev pub values_of : Assignment → TotalAssignment
+values_of a v = unwrap_or (slice_index_or a v None) false
 
 -- what the literal is
 abbrev pub literal_value : TotalAssignment → Literal → Bool

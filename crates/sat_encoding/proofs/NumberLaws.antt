@@ -7,14 +7,15 @@ use Rattle.std.proofs.Math.Nat.{pow-succ', pow-le-pow_right}
 use Rattle.sat_clauses.specs.Assignment.{Assignment}
 use Rattle.sat_clauses.specs.Literal.{plain}
 use Rattle.sat_encoding_laws.specs.Layout.{literals_from}
-use Rattle.sat_encoding.specs.Values.{values_in, bits_at, last_digit, bits_number}
+use Rattle.sat_encoding.specs.Values.{bits_at, last_digit, bits_number}
+use Rattle.sat_clauses.specs.Models.{values_of}
 
 -- the bits from a place on, one place earlier
-bits_earlier : (a : Assignment) (place left width : ℕ) → 0 < left → left ≤ width → bits_at a (place + (left - 1)) (width - (left - 1)) ≡ values_in a (place + (left - 1)) ∷ bits_at a (place + left) (width - left)
+bits_earlier : (a : Assignment) (place left width : ℕ) → 0 < left → left ≤ width → bits_at a (place + (left - 1)) (width - (left - 1)) ≡ values_of a (place + (left - 1)) ∷ bits_at a (place + left) (width - left)
 bits_earlier a place left width some le =
     let size : width - (left - 1) ≡ suc (width - left) = omega (arith, some, le) in
     let next : (place + (left - 1)) + 1 ≡ place + left = omega (arith, some) in
-    ap (λ k. bits_at a (place + (left - 1)) k) size ∙ ap (λ n. values_in a (place + (left - 1)) ∷ bits_at a n (width - left)) next
+    ap (λ k. bits_at a (place + (left - 1)) k) size ∙ ap (λ n. values_of a (place + (left - 1)) ∷ bits_at a n (width - left)) next
 
 digit_first : (signed b : Bool) (bs : List Bool) → length bs ≡ 0 → bits_number signed (b ∷ bs) ≡ last_digit signed b
 digit_first signed b [] h = refl
@@ -29,19 +30,19 @@ length_at a n zero = refl
 length_at a n (suc k) = ap suc (length_at a (n + 1) k)
 
 -- one bit more
-pub number_next : (signed is_last : Bool) (a : Assignment) (place left width : ℕ) (n m : ℤ) (b : Bool) → 0 < left → left ≤ width → (is_last ≡ true → left ≡ width) → (is_last ≡ false → left ≢ width) → b ≡ values_in a (place + (left - 1))
+pub number_next : (signed is_last : Bool) (a : Assignment) (place left width : ℕ) (n m : ℤ) (b : Bool) → 0 < left → left ≤ width → (is_last ≡ true → left ≡ width) → (is_last ≡ false → left ≢ width) → b ≡ values_of a (place + (left - 1))
     → n ≡ bits_number signed (bits_at a (place + left) (width - left)) → m ≡ (if is_last then last_digit signed b else (if b then pos 1 else pos 0) +ℤ (n +ℤ n))
     → m ≡ bits_number signed (bits_at a (place + (left - 1)) (width - (left - 1)))
 number_next signed true a place left width n m b some le last more bit before is =
     let whole = last refl in
     let none : length (bits_at a (place + left) (width - left)) ≡ 0 = length_at a (place + left) (width - left) ∙ omega (arith, whole) in
-    is ∙ ap (last_digit signed) bit ∙ sym (ap (bits_number signed) (bits_earlier a place left width some le) ∙ digit_first signed (values_in a (place + (left - 1))) (bits_at a (place + left) (width - left)) none)
+    is ∙ ap (last_digit signed) bit ∙ sym (ap (bits_number signed) (bits_earlier a place left width some le) ∙ digit_first signed (values_of a (place + (left - 1))) (bits_at a (place + left) (width - left)) none)
 number_next signed false a place left width n m b some le last more bit before is =
     let bs = bits_at a (place + left) (width - left) in
     let less = more refl in
     let some_bits : 0 < length bs = omega (arith, length_at a (place + left) (width - left), le, less) in
-    is ∙ ap (λ x. (if x then pos 1 else pos 0) +ℤ (n +ℤ n)) bit ∙ ap (λ x. (if values_in a (place + (left - 1)) then pos 1 else pos 0) +ℤ (x +ℤ x)) before
-    ∙ sym (ap (bits_number signed) (bits_earlier a place left width some le) ∙ digit_more signed (values_in a (place + (left - 1))) bs some_bits)
+    is ∙ ap (λ x. (if x then pos 1 else pos 0) +ℤ (n +ℤ n)) bit ∙ ap (λ x. (if values_of a (place + (left - 1)) then pos 1 else pos 0) +ℤ (x +ℤ x)) before
+    ∙ sym (ap (bits_number signed) (bits_earlier a place left width some le) ∙ digit_more signed (values_of a (place + (left - 1))) bs some_bits)
 
 -- and it stays small
 pub number_small : (signed is_last b : Bool) (n m : ℤ) (k j : ℕ) → j ≡ suc k → neg_ℤ (pos (2 ^ k)) ≤ℤ n → n <ℤ pos (2 ^ k) → m ≡ (if is_last then last_digit signed b else (if b then pos 1 else pos 0) +ℤ (n +ℤ n))

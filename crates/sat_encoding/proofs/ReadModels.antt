@@ -21,11 +21,12 @@ use Rattle.sat_encoding_laws.specs.Encodable.{IsEncodable}
 use Rattle.sat_encoding_laws.proofs.MomentMeans.{model_types}
 use Rattle.sat_encoding_laws.proofs.StateBits.{bits_placed}
 use Rattle.sat_encoding.specs.Domains.{capped, domain_interval, domain_width}
-use Rattle.sat_encoding.specs.Values.{StandFor, HasState, HasMoment, values_in, least_in, domain_read, values_read}
+use Rattle.sat_encoding.specs.Values.{StandFor, HasState, HasMoment, least_in, domain_read, values_read}
 use Rattle.sat_encoding.proofs.ValueLaws.{expected, values_stand}
 use Rattle.smv_type_laws.proofs.SetRows.{or_false_second as second_false}
 use Rattle.base_values.proofs.ListLaws.{drop_there}
 use Rattle.base_values.specs.declared.limits.TheConstants.{MOST_BITS, MOST_COST}
+use Rattle.sat_clauses.specs.Models.{values_of}
 
 few_bits : (m : FlatModel) → IsTyped m → state_bits m ≤ MOST_BITS
 few_bits m t = ltb-false MOST_BITS (state_bits m) (second_false (nat_lt MOST_COST (model_cost m)) (nat_lt MOST_BITS (state_bits m)) t.small)
@@ -36,14 +37,14 @@ module _ (m : Model) (is : IsEncodable (model_tree m)) (a : Assignment) (long : 
 
   pub moment_read : read ≡ values_read m.symbols false a 2 (input_place (model_tree m)) m.variables → (values : List Value) → HasMoment (model_tree m) a values → StandFor m.symbols read values
   moment_read e values has =
-      let bits = bits_placed m.symbols is.symbols true (model_tree m).variables 2 (input_place (model_tree m)) values (values_in a) has.domains has.state (λ _. has.inputs) in
+      let bits = bits_placed m.symbols is.symbols true (model_tree m).variables 2 (input_place (model_tree m)) values (values_of a) has.domains has.state (λ _. has.inputs) in
       let stand = values_stand m.symbols is.symbols a long false m.variables (model_types (model_tree m) is) 2 (input_place (model_tree m)) values has.domains bits in
       subst (λ (vs : List AValue). StandFor m.symbols vs values) (ap (λ q. values_read m.symbols false a 2 q m.variables) place ∙ sym e) stand
 
   pub state_read : read ≡ values_read m.symbols true a 2 (input_place (model_tree m)) m.variables → (values : List Value) → HasState (model_tree m) a values
       → StandFor m.symbols read (with_inputs (model_tree m).variables values (least_values (model_tree m).symbols (model_tree m).variables))
   state_read e values has =
-      let bits = bits_placed m.symbols is.symbols false (model_tree m).variables 2 (input_place (model_tree m)) values (values_in a) has.domains has.state (λ q. cc) in
+      let bits = bits_placed m.symbols is.symbols false (model_tree m).variables 2 (input_place (model_tree m)) values (values_of a) has.domains has.state (λ q. cc) in
       let stand = values_stand m.symbols is.symbols a long true m.variables (model_types (model_tree m) is) 2 (input_place (model_tree m)) values has.domains bits in
       subst (λ (vs : List AValue). StandFor m.symbols vs (expected m.symbols is.symbols true m.variables values)) (ap (λ q. values_read m.symbols true a 2 q m.variables) place ∙ sym e) stand
 

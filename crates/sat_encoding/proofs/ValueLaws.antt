@@ -40,17 +40,18 @@ use Rattle.sat_encoding_laws.proofs.TypeMeans.{IsNumbers, numbers_of, symbol_fou
 use Rattle.sat_encoding_laws.proofs.VariableMeans.{numbers_width, class_of}
 use Rattle.sat_encoding_laws.proofs.Readings.{IsRightType, HasBits}
 use Rattle.sat_encoding.specs.Domains.{domain_interval, domain_width, capped}
-use Rattle.sat_encoding.specs.Values.{StandFor, values_in, bits_at, last_digit, bits_number, is_below, has_sign, as_symbol, is_nonzero, value_of, domain_read, least_in, values_read}
+use Rattle.sat_encoding.specs.Values.{StandFor, bits_at, last_digit, bits_number, is_below, has_sign, as_symbol, is_nonzero, value_of, domain_read, least_in, values_read}
 use Rattle.sat_encoding.proofs.DomainLaws.{interval_is, width_is}
 use Rattle.std.proofs.lemmas.Option.{slice_get_within as got_below}
+use Rattle.sat_clauses.specs.Models.{values_of}
 
 -- ---- bits that an assignment has
 
-bits_agree : (a : Assignment) (n : ℕ) (bs : List Bool) → Agrees (values_in a) n bs → bits_at a n (length bs) ≡ bs
+bits_agree : (a : Assignment) (n : ℕ) (bs : List Bool) → Agrees (values_of a) n bs → bits_at a n (length bs) ≡ bs
 bits_agree a n [] h = refl
 bits_agree a n (b ∷ bs) h = (λ i. h.0 i ∷ bits_agree a (n + 1) bs h.1 i)
 
-past_false : (a : Assignment) (x : ℕ) → length a ≤ x → values_in a x ≡ false
+past_false : (a : Assignment) (x : ℕ) → length a ≤ x → values_of a x ≡ false
 past_false a x h = ap (λ o. unwrap_or o false) (get_or_past a x None h)
 
 abbrev falses : ℕ → List Bool
@@ -140,14 +141,14 @@ module _ (symbols : List Text) (are : AreSymbols symbols) where
   number_stands (members (member.Symbol y ∷ ms)) e l never (truth b) h = absurd (class_of (members (member.Symbol y ∷ ms)) (truth b) e h)
   number_stands (members (member.Symbol y ∷ ms)) e l never (number n) h = absurd (class_of (members (member.Symbol y ∷ ms)) (number n) e h)
 
-  truth_stands : (a : Assignment) (n : ℕ) (u : Value) → in_domain boolean u ≡ true → Agrees (values_in a) n (value_bits symbols boolean u) → StandsFor symbols (domain_read domain.Boolean a n) u
+  truth_stands : (a : Assignment) (n : ℕ) (u : Value) → in_domain boolean u ≡ true → Agrees (values_of a) n (value_bits symbols boolean u) → StandsFor symbols (domain_read domain.Boolean a n) u
   truth_stands a n (truth true) h k = ap (λ b. is_nonzero (last_digit false b)) k.0
   truth_stands a n (truth false) h k = ap (λ b. is_nonzero (last_digit false b)) k.0
   truth_stands a n (number z) h k = cc
   truth_stands a n (symbol x) h k = cc
 
   -- a value of the domain is read from its bits
-  value_stands : (d : DeclaredTree) → (judged_declared d).broken ≡ [] → IsListedType symbols d → (a : Assignment) (n : ℕ) (u : Value) → in_domain d u ≡ true → Agrees (values_in a) n (value_bits symbols d u)
+  value_stands : (d : DeclaredTree) → (judged_declared d).broken ≡ [] → IsListedType symbols d → (a : Assignment) (n : ℕ) (u : Value) → in_domain d u ≡ true → Agrees (values_of a) n (value_bits symbols d u)
       → StandsFor symbols (domain_read (domain_of symbols d) a n) u
   value_stands d right listed a n u h k = by (numbers_of symbols are d right listed)
     where
@@ -162,7 +163,7 @@ module _ (symbols : List Text) (are : AreSymbols symbols) where
           let small = narrow i s.order s.small in
           let size : min (domain_width (domain_of symbols d)) 62 ≡ length (number_bits w z) = omega (arith, wide, small, length-number w z) in
           let bits : bits_at a n (min (domain_width (domain_of symbols d)) 62) ≡ number_bits w z =
-          ap (bits_at a n) size ∙ bits_agree a n (number_bits w z) (subst (λ (j : ℕ). Agrees (values_in a) n (number_bits j z)) (numbers_width symbols d s) k) in
+          ap (bits_at a n) size ∙ bits_agree a n (number_bits w z) (subst (λ (j : ℕ). Agrees (values_of a) n (number_bits j z)) (numbers_width symbols d s) k) in
           let is : bits_number (has_sign (domain_interval (domain_of symbols d))) (bits_at a n (min (domain_width (domain_of symbols d)) 62)) ≡ z =
           ap (λ o. bits_number (has_sign o) (bits_at a n (min (domain_width (domain_of symbols d)) 62))) known ∙ ap (bits_number (is_below i.lo)) bits
           ∙ interval_number i.lo i.hi z w (some_bits i s.order s.small) (bits_hold i s.order s.small) inside.above inside.below in
@@ -171,7 +172,7 @@ module _ (symbols : List Text) (are : AreSymbols symbols) where
       by : (d ≡ boolean) ⊎ IsNumbers symbols d → StandsFor symbols (domain_read (domain_of symbols d) a n) u
       by (inl b) =
           subst (λ (t : DeclaredTree). StandsFor symbols (domain_read (domain_of symbols t) a n) u) (sym b)
-          (truth_stands a n u (subst (λ (t : DeclaredTree). in_domain t u ≡ true) b h) (subst (λ (t : DeclaredTree). Agrees (values_in a) n (value_bits symbols t u)) b k))
+          (truth_stands a n u (subst (λ (t : DeclaredTree). in_domain t u ≡ true) b h) (subst (λ (t : DeclaredTree). Agrees (values_of a) n (value_bits symbols t u)) b k))
       by (inr s) = numbers s (λ b. cc (s.is, ap (declared_interval symbols) b))
 
   -- ---- least values
@@ -251,17 +252,17 @@ module _ (symbols : List Text) (are : AreSymbols symbols) where
 
   module _ (a : Assignment) (long : length a ≤ 2 ^ 62) where
     head_stands : (d : DeclaredTree) → (judged_declared d).broken ≡ [] → IsListedType symbols d → (p q : ℕ) (u : Value) → in_domain d u ≡ true → (least : Bool) (r : Role)
-        → ((is_input r && not (not least)) ≡ false → Agrees (values_in a) (place_of r p q) (value_bits symbols d u))
+        → ((is_input r && not (not least)) ≡ false → Agrees (values_of a) (place_of r p q) (value_bits symbols d u))
         → StandsFor symbols (if least && is_input r then least_in (domain_of symbols d) (domain_interval (domain_of symbols d)) else domain_read (domain_of symbols d) a (place_of r (capped p) (capped q)))
         (if least then by_role r u (least_value symbols d) else u)
     head_stands d right listed p q u h least r k = by least r k
       where
-        at : (n : ℕ) → Agrees (values_in a) n (value_bits symbols d u) → StandsFor symbols (domain_read (domain_of symbols d) a (capped n)) u
+        at : (n : ℕ) → Agrees (values_of a) n (value_bits symbols d u) → StandsFor symbols (domain_read (domain_of symbols d) a (capped n)) u
         at n agrees =
             subst (λ (bs : List Bool). StandsFor symbols (value_of (domain_of symbols d) (bits_number (has_sign (domain_interval (domain_of symbols d))) bs)) u)
             (sym (bits_capped a n (min (domain_width (domain_of symbols d)) 62) long)) (value_stands d right listed a n u h agrees)
 
-        by : (least : Bool) (r : Role) → ((is_input r && not (not least)) ≡ false → Agrees (values_in a) (place_of r p q) (value_bits symbols d u))
+        by : (least : Bool) (r : Role) → ((is_input r && not (not least)) ≡ false → Agrees (values_of a) (place_of r p q) (value_bits symbols d u))
             → StandsFor symbols (if least && is_input r then least_in (domain_of symbols d) (domain_interval (domain_of symbols d)) else domain_read (domain_of symbols d) a (place_of r (capped p) (capped q)))
             (if least then by_role r u (least_value symbols d) else u)
         by false state k = at p (k refl)
@@ -283,7 +284,7 @@ module _ (symbols : List Text) (are : AreSymbols symbols) where
 
     -- an assignment with the bits of values is read as these
     pub values_stand : (least : Bool) (xs : List Variable) → Each (IsRightType symbols) (map variable_tree xs) → (p q : ℕ) (us : List Value) → AreInDomains (map variable_tree xs) us
-        → HasBits symbols are (not least) (map variable_tree xs) p q us (values_in a) → StandFor symbols (values_read symbols least a (capped p) (capped q) xs) (expected least xs us)
+        → HasBits symbols are (not least) (map variable_tree xs) p q us (values_of a) → StandFor symbols (values_read symbols least a (capped p) (capped q) xs) (expected least xs us)
     values_stand false [] right p q [] h k = tt
     values_stand true [] right p q [] h k = tt
     values_stand least [] right p q (u ∷ us) h k = absurd h

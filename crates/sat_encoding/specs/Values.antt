@@ -1,6 +1,6 @@
 -- Values as the code has them beside those of the definitions, their bits in an assignment, and what is read and set.
 use Rattle.std.specs.Prelude.{◌≡◌, ◌⊎◌, ℕ, zero, suc, ◌+◌, ◌≤◌, ◌<◌, nat_lt, nat_eq, not, ◌&&◌, min, ℤ, pos, negsuc, ◌+ℤ◌, Bool, true}
-use Rattle.std.specs.Prelude.{false, Option, Some, None, unwrap_or, List, [], ◌∷◌, slice_index_or, slice_set, map, sum_by, if◌then◌else◌}
+use Rattle.std.specs.Prelude.{false, Option, Some, None, List, [], ◌∷◌, slice_index_or, slice_set, map, sum_by, if◌then◌else◌}
 use Rattle.smv_language.specs.ProgramTree.{Text}
 use Rattle.smv_language.specs.Values as told
 use Rattle.base_values.specs.declared.value.Value.{Value}
@@ -15,12 +15,12 @@ use Rattle.smv_language.specs.ModelTree.{role_of, variable_tree}
 use Rattle.smv_type_laws.specs.Intervals.{Interval}
 use Rattle.smv_type_laws.specs.Costs.{state_bits, role_width}
 use Rattle.sat_clauses.specs.Assignment.{Assignment}
-use Rattle.sat_clauses.specs.Models.{TotalAssignment}
 use Rattle.sat_clauses.specs.States.{Agrees}
 use Rattle.sat_encoding_laws.specs.Inputs.{is_input}
 use Rattle.sat_encoding_laws.specs.Layout.{state_width, input_width, input_bits, input_place, place_of, width_as_input}
 use Rattle.sat_encoding.specs.Domains.{domain_interval, domain_width, capped}
 use Rattle.sat_encoding_laws.specs.Bits.{natural_bits, number_bits, state_of, inputs_of}
+use Rattle.sat_clauses.specs.Models.{values_of}
 
 -- each value stands for that of the definitions, a symbol by its number
 abbrev pub StandFor : List Text → List Value → List told.Value → Type 0
@@ -28,20 +28,16 @@ StandFor symbols [] [] = Unit {0}
 StandFor symbols (v ∷ vs) (w ∷ ws) = StandsFor symbols v w × StandFor symbols vs ws
 StandFor symbols _ _ = ⊥
 
--- the value of each variable, FALSE where it has none
-abbrev pub values_in : Assignment → TotalAssignment
-values_in a x = unwrap_or (slice_index_or a x None) false
-
 -- the assignment has the bits of the state of these values, which lie in the domains
 pub record HasState (m : FlatModel) (a : Assignment) (values : List told.Value) : Type 0 where
   pub domains : AreInDomains m.variables values
-  pub state : Agrees (values_in a) 2 (state_of m values)
+  pub state : Agrees (values_of a) 2 (state_of m values)
 
 -- and the bits of their inputs
 pub record HasMoment (m : FlatModel) (a : Assignment) (values : List told.Value) : Type 0 where
   pub domains : AreInDomains m.variables values
-  pub state : Agrees (values_in a) 2 (state_of m values)
-  pub inputs : Agrees (values_in a) (input_place m) (inputs_of m values)
+  pub state : Agrees (values_of a) 2 (state_of m values)
+  pub inputs : Agrees (values_of a) (input_place m) (inputs_of m values)
 
 -- each of the k variables from n on is free
 abbrev pub AreFree : Assignment → ℕ → ℕ → Type 0
@@ -66,7 +62,7 @@ pub record IsFreeMoment (m : FlatModel) (a : Assignment) : Type 0 where
 -- the values of so many variables from n on
 abbrev pub bits_at : Assignment → ℕ → ℕ → List Bool
 bits_at a n zero = []
-bits_at a n (suc k) = values_in a n ∷ bits_at a (n + 1) k
+bits_at a n (suc k) = values_of a n ∷ bits_at a (n + 1) k
 
 -- the value of the last bit, which is a sign where numbers have one
 abbrev pub last_digit : Bool → Bool → ℤ

@@ -11,8 +11,9 @@ ghost use Rattle.sat_encoding_laws.specs.Inputs.{is_input};
 ghost use Rattle.sat_encoding_laws.specs.Layout.{input_place};
 ghost use Rattle.sat_encoding_laws.specs.Encodable.{IsEncodable};
 ghost use Rattle.sat_encoding.specs.Domains.{domain_interval};
-ghost use Rattle.sat_encoding.specs.Values.{StandFor, HasState, HasMoment, values_in, bits_at, bits_number, has_sign, value_of, as_symbol};
+ghost use Rattle.sat_encoding.specs.Values.{StandFor, HasState, HasMoment, bits_at, bits_number, has_sign, value_of, as_symbol};
 ghost use Rattle.sat_encoding.specs.Values.{last_digit, domain_read, least_in, values_read};
+ghost use Rattle.sat_clauses.specs.Models.{values_of};
 
 use crate::layout::{domain_width, ends_of, places_now};
 use base_values::{Domain, Valuation, Value};
@@ -170,7 +171,7 @@ fn with_digit(n: i64, left: u32, width: u32, signed: bool, bit: bool) -> i64
 fn is_true(a: &Assign, var: u64) -> bool
     requires least { 1 ≤ var }
     requires greatest { var < 2 ^ 63 }
-    ensures { result ≡ values_in a.now var }
+    ensures { result ≡ values_of a.now var }
 {
     if var > a.vars() {
         return false;

@@ -41,6 +41,7 @@ use Rattle.sat_encoding_laws.proofs.CopyMeans.{InsideCopy, copy_right, copy_insi
 use Rattle.sat_encoding_laws.proofs.StateBits.{agrees_one, agrees_same, with_bits, with_bits_truth, bits_first}
 use Rattle.sat_encoding_laws.proofs.InputsFree.{moment_free, top_free, count_free, sets_free}
 use Rattle.sat_encoding_laws.proofs.SystemMeans.{placed_now, defaults, states_long, copy_formulas, Now, state_says, now_reads, now_bits}
+use Rattle.std.proofs.Math.Nat.{zero-add}
 
 -- ---- history bits
 
@@ -68,9 +69,6 @@ Tells x v _ _ = ⊥
 one_more : (n : ℕ) → 1 + n ≡ suc n
 one_more n = omega arith
 
-no_more_here : (n : ℕ) → 0 + n ≡ n
-no_more_here n = omega arith
-
 tells_count : (x : List Value) (v : TotalAssignment) (is : List ℕ) (ls : List Literal) → Tells x v is ls → true_count v ls ≡ failed_count is x
 tells_count x v [] [] h = refl
 tells_count x v [] (l ∷ ls) h = absurd h
@@ -79,7 +77,7 @@ tells_count x v (i ∷ is) (l ∷ ls) h = (λ j. bit_value (h.0 j) + tells_count
   where
     by : (b : Bool) → bit_value b + length (filter (is_true_at x) is) ≡ length (cond b (i ∷ filter (is_true_at x) is) (filter (is_true_at x) is))
     by true = one_more (length (filter (is_true_at x) is))
-    by false = no_more_here (length (filter (is_true_at x) is))
+    by false = zero-add (length (filter (is_true_at x) is))
 
 tells_at : (x : List Value) (v : TotalAssignment) → v 1 ≡ true → (is : List ℕ) (ls : List Literal) → Tells x v is ls → (i : ℕ) → literal_value v (literal_at ls i) ≡ is_true_in x (slice_get is i)
 tells_at x v t [] [] h i = constant-value v false t

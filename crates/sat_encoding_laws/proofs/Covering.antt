@@ -19,7 +19,8 @@ use Rattle.sat_encoding_laws.specs.EncodedLaws.{AreOwn, IsEncoded, InvariantsCov
 use Rattle.sat_encoding_laws.proofs.SetLaws.{true_or_false, has_contains, contains_has, contained_has}
 use Rattle.sat_encoding_laws.proofs.Numbers.{count_where}
 use Rattle.sat_encoding_laws.proofs.HistoryFacts.{at_last, each_last, last_told, last_tells, range_length, unlisted_comes, failed_exactly, failed_small}
-use Rattle.smv_language.proofs.ListLaws.{contains_here, contains_later}
+use Rattle.smv_language.proofs.ListLaws.{contains_later}
+use Rattle.base_values.proofs.ListLaws.{contains_here}
 
 -- a set is within the numbers, or none is
 some_within : (numbers : List ℕ) (sets : List (List ℕ)) →

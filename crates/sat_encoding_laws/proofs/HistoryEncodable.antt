@@ -8,7 +8,7 @@ use Rattle.smv_language.specs.Flat.{FlatLeaf, flat_variable, flat_symbol, flat_d
 use Rattle.smv_flat_laws.specs.History.{Mode, bit_variables, bits_at_first, bits_at_step, with_history}
 use Rattle.smv_flat_laws.specs.NameResolution.{leaves_in}
 use Rattle.smv_flat_laws.specs.Rules.{leaves_under, trees_leaves_under, branches_leaves_under}
-use Rattle.smv_flat_laws.proofs.Lists.{get_within, each_more}
+use Rattle.smv_flat_laws.proofs.Lists.{each_more}
 use Rattle.smv_flat_laws.proofs.HistoryLaws.{length_bits}
 use Rattle.smv_type_laws.specs.Laws.{IsKnown, AreInOrder, ReadOwn}
 use Rattle.smv_type_laws.proofs.ModelLaws.{all_leaves_more}
@@ -19,7 +19,7 @@ use Rattle.sat_encoding_laws.proofs.NameMeans.{each_leaf, same_any}
 use Rattle.sat_encoding_laws.proofs.HistoryPlaces.{is_bit}
 use Rattle.std.proofs.lemmas.Option.{slice_get_within as got_below}
 use Rattle.smv_flat_laws.proofs.Conditions.{each_join}
-use Rattle.base_values.proofs.ListLaws.{get_left}
+use Rattle.base_values.proofs.ListLaws.{get_left, get_within}
 
 -- what holds of each leaf holds of those under `next`
 mutual

@@ -12,7 +12,7 @@ use Rattle.smv_language.specs.Flat.{FlatLeaf, flat_variable, flat_symbol, flat_d
 use Rattle.smv_flat_laws.specs.FlatTrace.{AreInDomains}
 use Rattle.smv_flat_laws.specs.NameResolution.{leaves_in, trees_leaves, branches_leaves, IsBefore}
 use Rattle.smv_flat_laws.specs.Rules.{leaves_under, trees_leaves_under, branches_leaves_under}
-use Rattle.smv_flat_laws.proofs.Lists.{get_end, length_end, get_within, each_more}
+use Rattle.smv_flat_laws.proofs.Lists.{get_end, length_end, each_more}
 use Rattle.smv_flat_laws.proofs.Table.{definition_law}
 use Rattle.smv_type_laws.specs.ExpressionKinds.{judge}
 use Rattle.smv_type_laws.specs.Models.{kind_of_leaf, judged_variables}
@@ -42,7 +42,7 @@ use Rattle.sat_encoding_laws.proofs.Choices.{word_fitted}
 use Rattle.sat_encoding_laws.proofs.ExpressionMeans.{IsNaming, IsFit, encoded-means}
 use Rattle.std.proofs.lemmas.Option.{slice_get_within as got_below}
 use Rattle.smv_flat_laws.proofs.Conditions.{each_at, each_join}
-use Rattle.base_values.proofs.ListLaws.{get_left}
+use Rattle.base_values.proofs.ListLaws.{get_left, get_within}
 
 -- ---- what a tree reads
 

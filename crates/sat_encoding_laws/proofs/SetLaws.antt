@@ -5,7 +5,8 @@ use Rattle.std.specs.Prelude.{Contains, if◌then◌else◌}
 use Rattle.std.proofs.lemmas.Bool.{cases_eq, cases_lt, or_left, or_right, and_parts, and_from as and_both}
 use Rattle.cut_right_laws.specs.Sets.{has_number, is_contained, is_before_in_order, stands_before}
 use Rattle.smv_language.proofs.BoolLaws.{or_cases, not_both}
-use Rattle.smv_language.proofs.ListLaws.{contains_here, contains_later, none_contained, contains_cases}
+use Rattle.smv_language.proofs.ListLaws.{contains_later, contains_cases}
+use Rattle.base_values.proofs.ListLaws.{none_contained, contains_here}
 
 -- what follows from each of two follows from either
 pub either_of : {A B C : Type 0} → (A → C) → (B → C) → A ⊎ B → C

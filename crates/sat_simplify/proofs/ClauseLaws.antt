@@ -1,5 +1,5 @@
 -- What resolvents and tautologies are worth where every variable has a value.
-use Rattle.std.proofs.Common.{◌≡◌, ◌⊎◌, inl, inr, ⊎_elim, ℕ, Bool, true, false, not, cond, List, [], ◌∷◌, Contains, eqb, refl, sym, ap, ◌∙◌, subst, eq-eqb}
+use Rattle.std.proofs.Common.{◌≡◌, ◌⊎◌, inl, inr, ⊎_elim, ℕ, true, false, not, cond, List, [], ◌∷◌, Contains, eqb, refl, sym, ap, ◌∙◌, subst, eq-eqb}
 use Rattle.std.specs.Prelude.{Any}
 use Rattle.std.proofs.lemmas.Bool.{cases_Bool, cases_eq, cond-true, cond-false, both_ways, ne_eqb, not_from_true, not_from_false, false_from_ne_true}
 use Rattle.std.proofs.lemmas.List.Folds.{Any-from_list_any, list_any-from_Any}
@@ -7,11 +7,12 @@ use Rattle.sat_clauses.specs.Literal.{Literal, opposite, signed}
 use Rattle.sat_clauses.specs.Models.{TotalAssignment, literal_value, clause_value}
 use Rattle.sat_clauses.specs.Truth.{is_same}
 use Rattle.sat_clauses.proofs.ModelLemmas.{literal_value-opposite}
-use Rattle.sat_clauses.proofs.FalseLemmas.{literal_is, opposite-opposite}
+use Rattle.sat_clauses.proofs.FalseLemmas.{opposite-opposite, signed_not, same_or_opposite}
 use Rattle.sat_clauses.proofs.ListLemmas.{Contains-cons}
 use Rattle.sat_simplify.specs.Resolution.{has_literal, without, each_once, resolvent, is_tautology}
 use Rattle.sat_simplify.specs.Elimination.{unless_tautology, resolvents_with, resolvents}
-use Rattle.sat_simplify.proofs.Members.{Contains-nil, Contains-first, cons_cases, from_flat_map, in_flat_map, is_same-refl, same_literal, contains_from_has, from_without, in_without, from_joined, joined_left, joined_right, from_once, in_once}
+use Rattle.sat_simplify.proofs.Members.{cons_cases, from_flat_map, in_flat_map, is_same-refl, same_literal, contains_from_has, from_without, in_without, from_joined, joined_left, joined_right, from_once, in_once}
+use Rattle.base_values.proofs.ListLaws.{none_contained, contains_here}
 
 -- a clause is true exactly where one of its literals is
 pub true_literal : (v : TotalAssignment) (c : List Literal) → clause_value v c ≡ true → (m : Literal) × Contains c m × (literal_value v m ≡ true)
@@ -72,14 +73,14 @@ AreTrue v cs = (c : List Literal) → Contains cs c → clause_value v c ≡ tru
 pub unless_true : (v : TotalAssignment) (c : List Literal) → clause_value v c ≡ true → AreTrue v (unless_tautology c)
 unless_true v c e d has = by_test (cases_Bool (is_tautology c)) where
   by_test : (is_tautology c ≡ true) ⊎ (is_tautology c ≡ false) → clause_value v d ≡ true
-  by_test (inl always) = absurd (Contains-nil d (subst (λ r. Contains r d) (cond-true (is_tautology c) [] (c ∷ []) always) has))
-  by_test (inr open') = ⊎_elim (λ same. subst (λ x. clause_value v x ≡ true) same e) (λ none. absurd (Contains-nil d none)) (cons_cases c [] d (subst (λ r. Contains r d) (cond-false (is_tautology c) [] (c ∷ []) open') has))
+  by_test (inl always) = absurd (none_contained d (subst (λ r. Contains r d) (cond-true (is_tautology c) [] (c ∷ []) always) has))
+  by_test (inr open') = ⊎_elim (λ same. subst (λ x. clause_value v x ≡ true) same e) (λ none. absurd (none_contained d none)) (cons_cases c [] d (subst (λ r. Contains r d) (cond-false (is_tautology c) [] (c ∷ []) open') has))
 
 pub true_unless : (v : TotalAssignment) (c : List Literal) → AreTrue v (unless_tautology c) → clause_value v c ≡ true
 true_unless v c all = by_test (cases_Bool (is_tautology c)) where
   by_test : (is_tautology c ≡ true) ⊎ (is_tautology c ≡ false) → clause_value v c ≡ true
   by_test (inl always) = tautology_true v c always
-  by_test (inr open') = all c (subst (λ r. Contains r c) (sym (cond-false (is_tautology c) [] (c ∷ []) open')) (Contains-first c []))
+  by_test (inr open') = all c (subst (λ r. Contains r c) (sym (cond-false (is_tautology c) [] (c ∷ []) open')) (contains_here c []))
 
 -- all resolvents follow
 pub resolvents_follow : (v : TotalAssignment) (l : Literal) (cs ds : List (List Literal)) → AreTrue v cs → AreTrue v ds → AreTrue v (resolvents l cs ds)
@@ -99,21 +100,8 @@ turned v l x = cond (eqb x l.var) (not l.negated) (v x)
 pub turned_other : (v : TotalAssignment) (l : Literal) (x : ℕ) → (x ≡ l.var → ⊥) → turned v l x ≡ v x
 turned_other v l x other = cond-false (eqb x l.var) (not l.negated) (v x) (ne_eqb x l.var other)
 
-signed_on : (n : Bool) → signed n (not n) ≡ true
-signed_on true = refl
-signed_on false = refl
-
 pub turned_true : (v : TotalAssignment) (l : Literal) → literal_value (turned v l) l ≡ true
-turned_true v l = ap (signed l.negated) (cond-true (eqb l.var l.var) (not l.negated) (v l.var) (eq-eqb l.var l.var refl)) ∙ signed_on l.negated
-
--- two literals of one variable are the same or opposites
-same_or_opposite : (l m : Literal) → l.var ≡ m.var → (l ≡ m) ⊎ (l ≡ opposite m)
-same_or_opposite l m e = by_sign l.negated m.negated refl refl where
-  by_sign : (a b : Bool) → l.negated ≡ a → m.negated ≡ b → (l ≡ m) ⊎ (l ≡ opposite m)
-  by_sign true true p q = inl (literal_is l m e (p ∙ sym q))
-  by_sign false false p q = inl (literal_is l m e (p ∙ sym q))
-  by_sign true false p q = inr (literal_is l (opposite m) e (p ∙ sym (ap not q)))
-  by_sign false true p q = inr (literal_is l (opposite m) e (p ∙ sym (ap not q)))
+turned_true v l = ap (signed l.negated) (cond-true (eqb l.var l.var) (not l.negated) (v l.var) (eq-eqb l.var l.var refl)) ∙ signed_not l.negated
 
 -- a true literal that is not the opposite stays true
 pub stays_true : (v : TotalAssignment) (l m : Literal) → literal_value v m ≡ true → is_same m (opposite l) ≡ false → literal_value (turned v l) m ≡ true
@@ -147,10 +135,10 @@ pub record HasTurn (v : TotalAssignment) (l : Literal) (cs ds : List (List Liter
   pub right : AreTrue (turned v literal) ds
 
 first_false : (v : TotalAssignment) (l : Literal) (cs : List (List Literal)) → ((c : List Literal) → Contains cs c → clause_value v (without l c) ≡ true) ⊎ ((c : List Literal) × Contains cs c × (clause_value v (without l c) ≡ false))
-first_false v l [] = inl (λ c has. absurd (Contains-nil c has))
+first_false v l [] = inl (λ c has. absurd (none_contained c has))
 first_false v l (c ∷ cs) = by_value (cases_Bool (clause_value v (without l c))) (first_false v l cs) where
   by_value : (clause_value v (without l c) ≡ true) ⊎ (clause_value v (without l c) ≡ false) → ((d : List Literal) → Contains cs d → clause_value v (without l d) ≡ true) ⊎ ((d : List Literal) × Contains cs d × (clause_value v (without l d) ≡ false)) → ((d : List Literal) → Contains (c ∷ cs) d → clause_value v (without l d) ≡ true) ⊎ ((d : List Literal) × Contains (c ∷ cs) d × (clause_value v (without l d) ≡ false))
-  by_value (inr off) more = inr (c, Contains-first c cs, off)
+  by_value (inr off) more = inr (c, contains_here c cs, off)
   by_value (inl on) (inl all) = inl (λ d has. ⊎_elim (λ same. subst (λ x. clause_value v (without l x) ≡ true) same on) (λ h. all d h) (cons_cases c cs d has))
   by_value (inl on) (inr one) = inr (one.0, Contains-cons c cs one.0 one.1, one.2)
 

@@ -9,11 +9,11 @@ use Rattle.sat_clauses.proofs.FalseLemmas.{opposite-opposite}
 use Rattle.sat_simplify.specs.SamePlaces.{IsMet, IsOwn, AreMetAlike}
 use Rattle.sat_simplify.specs.Elimination.{resolvents, IsElimination}
 use Rattle.sat_simplify.proofs.ClauseLaws.{AreTrue, HasTurn, has_turn, turned, turned_other, lacking_stays, resolvents_follow}
-use Rattle.sat_simplify.proofs.SimplerLaws.{all_from_members}
+use Rattle.base_values.proofs.ListLaws.{all_from}
 
 -- each clause true makes the list true
 pub all_of : (w : TotalAssignment) (cs : List (List Literal)) → AreTrue w cs → Satisfies w cs
-all_of w cs each = Satisfies-from_All w cs (all_from_members (λ c. clause_value w c ≡ true) cs each)
+all_of w cs each = Satisfies-from_All w cs (all_from (λ c. clause_value w c ≡ true) cs each)
 
 -- all resolvents on a variable that is no place stand for all its clauses
 pub elimination_alike : (places : ℕ) (l : Literal) (old new : List (List Literal)) → IsOwn places l.var → IsElimination l old new → AreMetAlike places old new

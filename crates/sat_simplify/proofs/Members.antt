@@ -11,9 +11,7 @@ use Rattle.sat_clauses.specs.Truth.{is_same}
 use Rattle.sat_clauses.proofs.CodeLemmas.{code_of-injective}
 use Rattle.sat_clauses.proofs.ListLemmas.{Contains-cons}
 use Rattle.sat_simplify.specs.Resolution.{has_literal, without, with_literal, joined, each_once}
-
-pub Contains-nil : {X : Type 0} (x : X) → Contains [] x → ⊥
-Contains-nil x has = absurd (omega (arith, has.1))
+use Rattle.base_values.proofs.ListLaws.{none_contained, contains_here}
 
 -- a member of a list is its first, or one of the rest
 pub cons_cases : {X : Type 0} (y : X) (ys : List X) (x : X) → Contains (y ∷ ys) x → (y ≡ x) ⊎ Contains ys x
@@ -22,19 +20,16 @@ cons_cases {X} y ys x has = by_place has.0 has.1 has.2 where
   by_place zero lt e = inl e
   by_place (suc k) lt e = inr (k, omega (arith, lt), e)
 
-pub Contains-first : {X : Type 0} (x : X) (xs : List X) → Contains (x ∷ xs) x
-Contains-first x xs = (zero, omega arith, refl)
-
 -- what stands in a list that is joined of lists
 pub from_flat_map : {X Y : Type 0} (f : X → List Y) (xs : List X) (y : Y) → Contains (flat_map f xs) y → (x : X) × Contains xs x × Contains (f x) y
-from_flat_map {X} {Y} f [] y has = absurd (Contains-nil y has)
+from_flat_map {X} {Y} f [] y has = absurd (none_contained y has)
 from_flat_map {X} {Y} f (x ∷ xs) y has = by_part (Contains-append_cases (f x) (flat_map f xs) y has) (λ h. from_flat_map f xs y h) where
   by_part : Contains (f x) y ⊎ Contains (flat_map f xs) y → (Contains (flat_map f xs) y → (x : X) × Contains xs x × Contains (f x) y) → (z : X) × Contains (x ∷ xs) z × Contains (f z) y
-  by_part (inl h) more = (x, Contains-first x xs, h)
+  by_part (inl h) more = (x, contains_here x xs, h)
   by_part (inr h) more = let r = more h in (r.0, Contains-cons x xs r.0 r.1, r.2)
 
 pub in_flat_map : {X Y : Type 0} (f : X → List Y) (xs : List X) (x : X) (y : Y) → Contains xs x → Contains (f x) y → Contains (flat_map f xs) y
-in_flat_map {X} {Y} f [] x y has h = absurd (Contains-nil x has)
+in_flat_map {X} {Y} f [] x y has h = absurd (none_contained x has)
 in_flat_map {X} {Y} f (z ∷ xs) x y has h = by_part (cons_cases z xs x has) (λ r. in_flat_map f xs x y r h) where
   by_part : (z ≡ x) ⊎ Contains xs x → (Contains xs x → Contains (flat_map f xs) y) → Contains (flat_map f (z ∷ xs)) y
   by_part (inl e) more = Contains-append_left (f z) (flat_map f xs) y (subst (λ w. Contains (f w) y) (sym e) h)
@@ -63,10 +58,10 @@ from_without l c m has = (
 )
 
 pub in_without : (l : Literal) (c : List Literal) (m : Literal) → Contains c m → is_same m l ≡ false → Contains (without l c) m
-in_without l [] m has other = absurd (Contains-nil m has)
+in_without l [] m has other = absurd (none_contained m has)
 in_without l (k ∷ c) m has other = by_part (cons_cases k c m has) (cases_Bool (not (is_same k l))) (λ r. in_without l c m r other) where
   by_part : (k ≡ m) ⊎ Contains c m → (not (is_same k l) ≡ true) ⊎ (not (is_same k l) ≡ false) → (Contains c m → Contains (without l c) m) → Contains (without l (k ∷ c)) m
-  by_part (inl e) (inl kept) more = subst (λ r. Contains r m) (sym (cond-true (not (is_same k l)) (k ∷ without l c) (without l c) kept)) (subst (λ x. Contains (x ∷ without l c) m) (sym e) (Contains-first m (without l c)))
+  by_part (inl e) (inl kept) more = subst (λ r. Contains r m) (sym (cond-true (not (is_same k l)) (k ∷ without l c) (without l c) kept)) (subst (λ x. Contains (x ∷ without l c) m) (sym e) (contains_here m (without l c)))
   by_part (inl e) (inr gone) more = absurd (both_ways (not (is_same k l)) gone (ap (λ x. not (is_same x l)) e ∙ not_from_false (is_same m l) other))
   by_part (inr r) (inl kept) more = subst (λ r. Contains r m) (sym (cond-true (not (is_same k l)) (k ∷ without l c) (without l c) kept)) (Contains-cons k (without l c) m (more r))
   by_part (inr r) (inr gone) more = subst (λ r. Contains r m) (sym (cond-false (not (is_same k l)) (k ∷ without l c) (without l c) gone)) (more r)
@@ -95,7 +90,7 @@ pub from_joined : (c d : List Literal) (m : Literal) → Contains (joined c d) m
 from_joined c [] m has = inl has
 from_joined c (l ∷ d) m has = by_part (from_joined (with_literal c l) d m has) where
   by_part : Contains (with_literal c l) m ⊎ Contains d m → Contains c m ⊎ Contains (l ∷ d) m
-  by_part (inl h) = ⊎_elim (λ r. inl r) (λ e. inr (subst (λ x. Contains (l ∷ d) x) e (Contains-first l d))) (from_with c l m h)
+  by_part (inl h) = ⊎_elim (λ r. inl r) (λ e. inr (subst (λ x. Contains (l ∷ d) x) e (contains_here l d))) (from_with c l m h)
   by_part (inr h) = inr (Contains-cons l d m h)
 
 pub joined_left : (c d : List Literal) (m : Literal) → Contains c m → Contains (joined c d) m
@@ -103,14 +98,14 @@ joined_left c [] m has = has
 joined_left c (l ∷ d) m has = joined_left (with_literal c l) d m (in_with c l m has)
 
 pub joined_right : (c d : List Literal) (m : Literal) → Contains d m → Contains (joined c d) m
-joined_right c [] m has = absurd (Contains-nil m has)
+joined_right c [] m has = absurd (none_contained m has)
 joined_right c (l ∷ d) m has = by_part (cons_cases l d m has) (λ r. joined_right (with_literal c l) d m r) where
   by_part : (l ≡ m) ⊎ Contains d m → (Contains d m → Contains (joined (with_literal c l) d) m) → Contains (joined c (l ∷ d)) m
   by_part (inl e) more = joined_left (with_literal c l) d m (subst (Contains (with_literal c l)) e (in_with_itself c l))
   by_part (inr r) more = more r
 
 pub from_once : (c : List Literal) (m : Literal) → Contains (each_once c) m → Contains c m
-from_once c m has = ⊎_elim (λ h. absurd (Contains-nil m h)) (λ h. h) (from_joined [] c m has)
+from_once c m has = ⊎_elim (λ h. absurd (none_contained m h)) (λ h. h) (from_joined [] c m has)
 
 pub in_once : (c : List Literal) (m : Literal) → Contains c m → Contains (each_once c) m
 in_once c m has = joined_right [] c m has

@@ -15,9 +15,10 @@ use Rattle.sat_simplify.specs.Elimination.{unless_tautology, resolvents_with, re
 use Rattle.sat_simplify.specs.Slots.{Slot, IsMade, Makes, IsOver, IsSlotOver, IsSimpler, AreNoted}
 use Rattle.sat_simplify.specs.Changes.{slot_at, changed, dropped, shrunk, picked, gathered, taken_out, resolvents_in, eliminated, assigned, covered, covered_by}
 use Rattle.sat_simplify.specs.OccurrenceLists.{noted_at}
-use Rattle.sat_simplify.proofs.Members.{Contains-nil, cons_cases, from_flat_map, in_flat_map, contains_from_has, has_from_contains, from_without, from_once, from_joined}
+use Rattle.sat_simplify.proofs.Members.{cons_cases, from_flat_map, in_flat_map, contains_from_has, has_from_contains, from_without, from_once, from_joined}
 use Rattle.sat_simplify.proofs.ClauseLaws.{AreTrue, turned, turned_other, lacking_stays, HasTurn, has_turn, resolvents_follow, true_literal}
 use Rattle.sat_simplify.proofs.SlotLaws.{all_after, all_before, dropped_cases, dropped_made, dropped_back, dropped_over, shrunk_made, shrunk_back, shrunk_over, covered_made, covered_back, covered_over, slot_to}
+use Rattle.base_values.proofs.ListLaws.{all_from, none_contained}
 
 -- a list is as simple as itself, and changes follow one another
 pub simpler_itself : (places : ℕ) (a : List Slot) → IsSimpler places a a
@@ -34,13 +35,9 @@ simpler_same places old new to back over = record {
   over = over;
 }
 
--- what each member meets all meet
-pub all_from_members : {X : Type 0} (P : X → Type 0) (xs : List X) → ((x : X) → Contains xs x → P x) → All P xs
-all_from_members P xs each k d lt = each (get_or xs k d) (k, lt, get_or_default xs k (get_or xs k d) d lt)
-
 -- a clause of one literal is true where the literal is
 one_true : (v : TotalAssignment) (l : Literal) → clause_value v (l ∷ []) ≡ true → literal_value v l ≡ true
-one_true v l e = let t = true_literal v (l ∷ []) e in ⊎_elim (λ same. subst (λ x. literal_value v x ≡ true) (sym same) t.2) (λ none. absurd (Contains-nil t.0 none)) (cons_cases l [] t.0 t.1)
+one_true v l e = let t = true_literal v (l ∷ []) e in ⊎_elim (λ same. subst (λ x. literal_value v x ≡ true) (sym same) t.2) (λ none. absurd (none_contained t.0 none)) (cons_cases l [] t.0 t.1)
 
 -- what all slots meet the slot of a place meets
 pub at_slot : (P : Slot → Type 0) (slots : List Slot) (i : ℕ) (c : List Literal) → slot_at slots i ≡ Some c → All P slots → P (Some c)
@@ -50,10 +47,10 @@ pub in_map : {X Y : Type 0} (f : X → Y) (xs : List X) (x : X) → Contains xs 
 in_map f xs x has = (has.0, omega (arith, has.1, length-map xs f), get_or-map f xs has.0 x (f x) has.1 ∙ ap f has.2)
 
 front : (P : Slot → Type 0) (xs ys : List Slot) → All P (xs ++ ys) → All P xs
-front P xs ys all = all_from_members P xs (λ x has. All-contains P (xs ++ ys) x all (Contains-append_left xs ys x has))
+front P xs ys all = all_from P xs (λ x has. All-contains P (xs ++ ys) x all (Contains-append_left xs ys x has))
 
 back_of : (P : Slot → Type 0) (xs ys : List Slot) → All P (xs ++ ys) → All P ys
-back_of P xs ys all = all_from_members P ys (λ x has. All-contains P (xs ++ ys) x all (Contains-append_right xs ys x has))
+back_of P xs ys all = all_from P ys (λ x has. All-contains P (xs ++ ys) x all (Contains-append_right xs ys x has))
 
 -- where a clause of one literal stands, the clauses that have the literal go, and its opposite goes out of clauses
 pub unit_law : (places : ℕ) (slots : List Slot) (occurrences : List (List ℕ)) (l : Literal) (i : ℕ) → slot_at slots i ≡ Some (l ∷ []) → IsSimpler places slots (assigned occurrences l slots)
@@ -90,13 +87,13 @@ gathered_all l slots at i c noted is has =
     in_flat_map (λ i. picked l (slot_at slots i)) at i c noted (subst (λ o. Contains (picked l o) c) (sym is) (subst (λ r. Contains r c) (sym (cond-true (has_literal l c) (c ∷ []) [] (has_from_contains l c has))) (Contains-push [] c)))
 
 picked_is : (l : Literal) (o : Slot) (c : List Literal) → Contains (picked l o) c → (o ≡ Some c) × Contains c l
-picked_is l None c has = absurd (Contains-nil c has)
+picked_is l None c has = absurd (none_contained c has)
 picked_is l (Some d) c has = by_test (cases_Bool (has_literal l d)) where
   by_test : (has_literal l d ≡ true) ⊎ (has_literal l d ≡ false) → (Some d ≡ Some c) × Contains c l
   by_test (inl there) =
-      let same : d ≡ c = ⊎_elim (λ e. e) (λ none. absurd (Contains-nil c none)) (cons_cases d [] c (subst (λ r. Contains r c) (cond-true (has_literal l d) (d ∷ []) [] there) has)) in
+      let same : d ≡ c = ⊎_elim (λ e. e) (λ none. absurd (none_contained c none)) (cons_cases d [] c (subst (λ r. Contains r c) (cond-true (has_literal l d) (d ∷ []) [] there) has)) in
       (ap Some same, subst (λ x. Contains x l) same (contains_from_has l d there))
-  by_test (inr lacks) = absurd (Contains-nil c (subst (λ r. Contains r c) (cond-false (has_literal l d) (d ∷ []) [] lacks) has))
+  by_test (inr lacks) = absurd (none_contained c (subst (λ r. Contains r c) (cond-false (has_literal l d) (d ∷ []) [] lacks) has))
 
 pub gathered_is : (l : Literal) (slots : List Slot) (at : List ℕ) (c : List Literal) → Contains (gathered l slots at) c → (i : ℕ) × (slot_at slots i ≡ Some c) × Contains c l
 gathered_is l slots at c has = let from = from_flat_map (λ i. picked l (slot_at slots i)) at c has in let is = picked_is l (slot_at slots from.0) c from.2 in (from.0, is.0, is.1)
@@ -114,8 +111,8 @@ resolvent_over test l c d left right k e lt =
 pub unless_is : (c d : List Literal) → Contains (unless_tautology c) d → c ≡ d
 unless_is c d has = by_test (cases_Bool (is_tautology c)) where
   by_test : (is_tautology c ≡ true) ⊎ (is_tautology c ≡ false) → c ≡ d
-  by_test (inl always) = absurd (Contains-nil d (subst (λ r. Contains r d) (cond-true (is_tautology c) [] (c ∷ []) always) has))
-  by_test (inr open') = ⊎_elim (λ same. same) (λ none. absurd (Contains-nil d none)) (cons_cases c [] d (subst (λ r. Contains r d) (cond-false (is_tautology c) [] (c ∷ []) open') has))
+  by_test (inl always) = absurd (none_contained d (subst (λ r. Contains r d) (cond-true (is_tautology c) [] (c ∷ []) always) has))
+  by_test (inr open') = ⊎_elim (λ same. same) (λ none. absurd (none_contained d none)) (cons_cases c [] d (subst (λ r. Contains r d) (cond-false (is_tautology c) [] (c ∷ []) open') has))
 
 pub resolvents_over : (test : ℕ → Bool) (l : Literal) (cs ds : List (List Literal)) → ((c : List Literal) → Contains cs c → IsOver test c) → ((d : List Literal) → Contains ds d → IsOver test d) → (r : List Literal) → Contains (resolvents l cs ds) r → IsOver test r
 resolvents_over test l cs ds left right r has =
@@ -142,13 +139,13 @@ module _ (places : ℕ) (slots : List Slot) (occurrences : List (List ℕ)) (l :
   stays_made w made =
       All-append (IsMade w) (taken_out occurrences l slots) (map Some (resolvents_in occurrences l slots))
       (all_after (IsMade w) (dropped (opposite l)) tt (dropped_made w (opposite l)) (changed (dropped l) slots (noted_at occurrences (code_of l))) (noted_at occurrences (code_of (opposite l))) (all_after (IsMade w) (dropped l) tt (dropped_made w l) slots (noted_at occurrences (code_of l)) made))
-      (All-map (IsMade w) Some (resolvents_in occurrences l slots) (all_from_members (λ c. IsMade w (Some c)) (resolvents_in occurrences l slots) (resolvents_follow w l (gathered l slots (noted_at occurrences (code_of l))) (gathered (opposite l) slots (noted_at occurrences (code_of (opposite l)))) (gathered_true w l slots (noted_at occurrences (code_of l)) made) (gathered_true w (opposite l) slots (noted_at occurrences (code_of (opposite l))) made))))
+      (All-map (IsMade w) Some (resolvents_in occurrences l slots) (all_from (λ c. IsMade w (Some c)) (resolvents_in occurrences l slots) (resolvents_follow w l (gathered l slots (noted_at occurrences (code_of l))) (gathered (opposite l) slots (noted_at occurrences (code_of (opposite l)))) (gathered_true w l slots (noted_at occurrences (code_of l)) made) (gathered_true w (opposite l) slots (noted_at occurrences (code_of (opposite l))) made))))
 
   stays_over : (test : ℕ → Bool) → All (IsSlotOver test) slots → All (IsSlotOver test) (eliminated occurrences l slots)
   stays_over test over =
       All-append (IsSlotOver test) (taken_out occurrences l slots) (map Some (resolvents_in occurrences l slots))
       (all_after (IsSlotOver test) (dropped (opposite l)) tt (dropped_over test (opposite l)) (changed (dropped l) slots (noted_at occurrences (code_of l))) (noted_at occurrences (code_of (opposite l))) (all_after (IsSlotOver test) (dropped l) tt (dropped_over test l) slots (noted_at occurrences (code_of l)) over))
-      (All-map (IsSlotOver test) Some (resolvents_in occurrences l slots) (all_from_members (λ c. IsSlotOver test (Some c)) (resolvents_in occurrences l slots) (resolvents_over test l (gathered l slots (noted_at occurrences (code_of l))) (gathered (opposite l) slots (noted_at occurrences (code_of (opposite l))))
+      (All-map (IsSlotOver test) Some (resolvents_in occurrences l slots) (all_from (λ c. IsSlotOver test (Some c)) (resolvents_in occurrences l slots) (resolvents_over test l (gathered l slots (noted_at occurrences (code_of l))) (gathered (opposite l) slots (noted_at occurrences (code_of (opposite l))))
       (λ c has. let is = gathered_is l slots (noted_at occurrences (code_of l)) c has in at_slot (IsSlotOver test) slots is.0 c is.1 over)
       (λ c has. let is = gathered_is (opposite l) slots (noted_at occurrences (code_of (opposite l))) c has in at_slot (IsSlotOver test) slots is.0 c is.1 over))))
 

@@ -4,7 +4,7 @@ use Rattle.std.specs.Prelude.{Any}
 use Rattle.std.specs.List.{list_all, filter}
 use Rattle.std.proofs.lemmas.Bool.{cases_Bool, cases_lt, cond-true, cond-false, both_ways, not_from_false, false_from_ne_true}
 use Rattle.std.proofs.lemmas.List.{append-nil, append_assoc, take_all, take_more, take-append-drop, reverse-append, get_or_default, get_or_append_left, get_or_push, get_or-map, length-map, length-append}
-use Rattle.std.proofs.lemmas.List.Elements.{All-contains, All-more, All-filter, All-contains_itself, All-nil, All-cons, All-head, All-tail, All-weaker, Contains-append_left, Contains-append_right, Contains-append_cases, filter_passes}
+use Rattle.std.proofs.lemmas.List.Elements.{All-contains, All-more, All-nil, All-cons, All-head, All-tail, All-weaker, Contains-append_left, Contains-append_right, Contains-append_cases, filter_passes}
 use Rattle.std.proofs.lemmas.List.Folds.{Any-from_list_any}
 use Rattle.sat_clauses.specs.Literal.{Literal, opposite}
 use Rattle.sat_clauses.specs.Derivation.{IsUpTo}
@@ -13,7 +13,6 @@ use Rattle.sat_clauses.specs.Truth.{is_same}
 use Rattle.sat_clauses.proofs.ModelLemmas.{literal_value-opposite}
 use Rattle.sat_clauses.proofs.FalseLemmas.{opposite-opposite}
 use Rattle.sat_clauses.proofs.ClauseLists.{member_true}
-use Rattle.sat_clauses.proofs.ListLemmas.{Contains-cons}
 use Rattle.sat_simplify.specs.SamePlaces.{IsMet, AreMetAlike, HasNoHigherVariable}
 use Rattle.sat_simplify.specs.Resolution.{has_literal, without, each_once, resolvent}
 use Rattle.sat_simplify.specs.Elimination.{unless_tautology, resolvents_with, resolvents}
@@ -22,13 +21,13 @@ use Rattle.sat_simplify.specs.ClauseBase.{Becomes, IsEntered, AddsAll}
 use Rattle.sat_simplify.specs.Slots.{standing}
 use Rattle.sat_simplify.specs.declared.base.Base.{Base}
 use Rattle.sat_simplify.specs.Unread.{is_clash, clash, clashes, is_closed_at, is_closed, AreTops, chosen, IsPlaceIn, IsLeft, CanGo, compacted_at, HasRead}
-use Rattle.sat_simplify.proofs.Members.{Contains-nil, Contains-first, cons_cases, from_flat_map, is_same-refl, same_literal, contains_from_has, in_without, joined_left, joined_right, in_once}
+use Rattle.sat_simplify.proofs.Members.{cons_cases, from_flat_map, is_same-refl, same_literal, contains_from_has, in_without, joined_left, joined_right, in_once}
 use Rattle.sat_simplify.proofs.ClauseLaws.{AreTrue, true_by, unless_true, turned, turned_other, lacking_stays, HasTurn, has_turn}
-use Rattle.sat_simplify.proofs.SimplerLaws.{all_from_members}
 use Rattle.sat_simplify.proofs.EliminationLaw.{all_of}
 use Rattle.sat_simplify.proofs.CompactMarks.{kept_mark}
 use Rattle.sat_simplify.proofs.CompactLaws.{compact_same, compact_low}
 use Rattle.sat_simplify.proofs.BaseLaws.{entered_next, entered_all, simplified_same, simplified_low}
+use Rattle.base_values.proofs.ListLaws.{all_from, none_contained, contains_here, from_filter, to_filter}
 
 -- a resolvent that is a tautology is true
 clash_follows : (v : TotalAssignment) (l : Literal) (c d : List Literal) → clash l c d ≡ true → clause_value v (resolvent l c d) ≡ true
@@ -54,20 +53,8 @@ resolvents_true v l cs ds each r has =
 filter_has : {X : Type 0} (p : X → Bool) (xs : List X) (x : X) → Contains (filter p xs) x → p x ≡ true
 filter_has p xs x has = All-contains (λ x. p x ≡ true) (filter p xs) x (filter_passes p xs) has
 
-filter_from : {X : Type 0} (p : X → Bool) (xs : List X) (x : X) → Contains (filter p xs) x → Contains xs x
-filter_from p xs x has = All-contains (Contains xs) (filter p xs) x (All-filter p (Contains xs) xs (All-contains_itself xs)) has
-
-filter_in : {X : Type 0} (p : X → Bool) (xs : List X) (x : X) → Contains xs x → p x ≡ true → Contains (filter p xs) x
-filter_in {X} p [] x has is = absurd (Contains-nil x has)
-filter_in {X} p (y ∷ xs) x has is = by_part (cons_cases y xs x has) (cases_Bool (p y)) (λ r. filter_in p xs x r is) where
-  by_part : (y ≡ x) ⊎ Contains xs x → (p y ≡ true) ⊎ (p y ≡ false) → (Contains xs x → Contains (filter p xs) x) → Contains (filter p (y ∷ xs)) x
-  by_part (inl e) (inl kept) more = subst (λ r. Contains r x) (sym (cond-true (p y) (y ∷ filter p xs) (filter p xs) kept)) (subst (λ z. Contains (z ∷ filter p xs) x) (sym e) (Contains-first x (filter p xs)))
-  by_part (inl e) (inr gone) more = absurd (both_ways (p y) gone (ap p e ∙ is))
-  by_part (inr r) (inl kept) more = subst (λ r. Contains r x) (sym (cond-true (p y) (y ∷ filter p xs) (filter p xs) kept)) (Contains-cons y (filter p xs) x (more r))
-  by_part (inr r) (inr gone) more = subst (λ r. Contains r x) (sym (cond-false (p y) (y ∷ filter p xs) (filter p xs) gone)) (more r)
-
 each_of : {X : Type 0} (p : X → Bool) (xs : List X) (x : X) → list_all p xs ≡ true → Contains xs x → p x ≡ true
-each_of {X} p [] x e has = absurd (Contains-nil x has)
+each_of {X} p [] x e has = absurd (none_contained x has)
 each_of {X} p (y ∷ xs) x e has = by_part (cons_cases y xs x has) (cases_Bool (p y)) (λ rest later. each_of p xs x rest later) where
   by_part : (y ≡ x) ⊎ Contains xs x → (p y ≡ true) ⊎ (p y ≡ false) → (list_all p xs ≡ true → Contains xs x → p x ≡ true) → p x ≡ true
   by_part (inl same) (inl on) more = subst (λ z. p z ≡ true) same on
@@ -85,9 +72,9 @@ closed_turn v l group closed = (turn.literal, turn.is, each) where
 
   meets : (c d : List Literal) → Contains with c → Contains against d → clash l c d ≡ true
   meets c d left right =
-      let at : is_closed_at l group c ≡ true = each_of (is_closed_at l group) group c closed (filter_from (has_literal l) group c left) in
+      let at : is_closed_at l group c ≡ true = each_of (is_closed_at l group) group c closed (from_filter (has_literal l) group c left) in
       let all : list_all (clashes l c) group ≡ true = sym (cond-true (has_literal l c) (list_all (clashes l c) group) (has_literal (opposite l) c) (filter_has (has_literal l) group c left)) ∙ at in
-      let one : clashes l c d ≡ true = each_of (clashes l c) group d all (filter_from (has_literal (opposite l)) group d right) in
+      let one : clashes l c d ≡ true = each_of (clashes l c) group d all (from_filter (has_literal (opposite l)) group d right) in
       sym (cond-true (has_literal (opposite l) d) (clash l c d) true (filter_has (has_literal (opposite l)) group d right)) ∙ one
 
   turn : HasTurn v l with against
@@ -96,8 +83,8 @@ closed_turn v l group closed = (turn.literal, turn.is, each) where
   each : AreTrue (turned v turn.literal) group
   each c has = by_test (cases_Bool (has_literal l c)) where
     by_test : (has_literal l c ≡ true) ⊎ (has_literal l c ≡ false) → clause_value (turned v turn.literal) c ≡ true
-    by_test (inl with_it) = turn.left c (filter_in (has_literal l) group c has with_it)
-    by_test (inr lacks) = turn.right c (filter_in (has_literal (opposite l)) group c has (sym (cond-false (has_literal l c) (list_all (clashes l c) group) (has_literal (opposite l) c) lacks) ∙ each_of (is_closed_at l group) group c closed has))
+    by_test (inl with_it) = turn.left c (to_filter (has_literal l) group c has with_it)
+    by_test (inr lacks) = turn.right c (to_filter (has_literal (opposite l)) group c has (sym (cond-false (has_literal l c) (list_all (clashes l c) group) (has_literal (opposite l) c) lacks) ∙ each_of (is_closed_at l group) group c closed has))
 
 -- no literal of the clause has the variable
 abbrev pub Avoids : ℕ → List Literal → Type 0
@@ -211,7 +198,7 @@ left_goes places list left begin kept marks f g = record {
 
 -- the clauses of places are clauses of the list
 chosen_from : (list : List (List Literal)) (at : List ℕ) (c : List Literal) → All (IsPlaceIn list) at → Contains (map (λ i. get_or list i []) at) c → Contains list c
-chosen_from list [] c all has = absurd (Contains-nil c has)
+chosen_from list [] c all has = absurd (none_contained c has)
 chosen_from list (i ∷ at) c all has = ⊎_elim (λ same. subst (Contains list) same (i, All-head (IsPlaceIn list) i at all, get_or_default list i (get_or list i []) [] (All-head (IsPlaceIn list) i at all))) (λ later. chosen_from list at c (All-tail (IsPlaceIn list) i at all) later) (cons_cases (get_or list i []) (map (λ i. get_or list i []) at) c has)
 
 -- to choose and then to bring down is to choose what is brought down
@@ -227,7 +214,7 @@ has_read places left list kept at marks gs b none f is from entered = record {
   alike = both_alike places list (chosen list kept) (compacted_list places gs (chosen list kept)) (subst (λ (n : ℕ). AreMetAlike places list (take n list ++ chosen list kept)) none f.alike) (compact_same places (chosen list kept) (compacted_list places gs (chosen list kept)) marks gs f.marked from refl);
   low = record {
     at = λ top up. (compact_low places (chosen list kept) (compacted_list places gs (chosen list kept)) gs refl).at top
-        (all_from_members (All (IsUpTo top)) (chosen list kept) (λ c has. All-contains (All (IsUpTo top)) list c up (chosen_from list (reverse kept) c f.inside has)));
+        (all_from (All (IsUpTo top)) (chosen list kept) (λ c has. All-contains (All (IsUpTo top)) list c up (chosen_from list (reverse kept) c f.inside has)));
   };
 }
 
@@ -243,7 +230,7 @@ tops_more list tops top f up = record { at = λ i lt. by_place i (cases_lt i (le
 pub all_raised : (n m : ℕ) (xs : List Literal) → n ≤ m → All (IsUpTo n) xs → All (IsUpTo m) xs
 all_raised n m xs le a = λ k d lt. omega (arith, a k d lt, le)
 
-lists_raised : (n m : ℕ) (xs : List (List Literal)) → n ≤ m → All (All (IsUpTo n)) xs → All (All (IsUpTo m)) xs
+pub lists_raised : (n m : ℕ) (xs : List (List Literal)) → n ≤ m → All (All (IsUpTo n)) xs → All (All (IsUpTo m)) xs
 lists_raised n m xs le a = λ k d lt. all_raised n m (get_or xs k d) le (a k d lt)
 
 pub raised_more : (list : List (List Literal)) (i n m : ℕ) (c : List Literal) → i < length list → c ≡ get_or list i c → n ≤ m → All (All (IsUpTo n)) (take i list) → All (IsUpTo m) c → All (All (IsUpTo m)) (take (i + 1) list)

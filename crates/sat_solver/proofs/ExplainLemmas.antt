@@ -37,10 +37,6 @@ made_true_here a l inside = get_or-set_same a l.var _ None inside
 pub made_true_else : (a : Assignment) (l : Literal) (x : ℕ) → x ≢ l.var → get_or (made_true a l) x None ≡ get_or a x None
 made_true_else a l x other = get_or-set_other a l.var x _ None other
 
-pub signed_not : (n : Bool) → signed n (not n) ≡ true
-signed_not true = refl
-signed_not false = refl
-
 pub signed_opposite : (n : Bool) → signed (not n) (not n) ≡ false
 signed_opposite true = refl
 signed_opposite false = refl

@@ -40,7 +40,7 @@ added_append (c ∷ cs) ds (true ∷ ms) ns e = added_append cs ds ms ns (omega 
 added_append (c ∷ cs) ds (false ∷ ms) ns e = ap (λ (xs : List (List Literal)). c ∷ xs) (added_append cs ds ms ns (omega (arith, e)))
 
 -- learned clauses are none of those that were added
-added_learned : (cs : List (List Literal)) (ms : List Bool) (ls : List Step) → length ms ≡ length cs → added_of (with_steps cs ls) (ms ++ replicate (length ls) true) ≡ added_of cs ms
+pub added_learned : (cs : List (List Literal)) (ms : List Bool) (ls : List Step) → length ms ≡ length cs → added_of (with_steps cs ls) (ms ++ replicate (length ls) true) ≡ added_of cs ms
 added_learned cs ms [] e = ap (added_of cs) (append-nil ms)
 added_learned cs ms (l ∷ ls) e =
     ap (added_of (with_steps (cs ++ l.clause ∷ []) ls)) (sym (append_assoc ms (true ∷ []) (replicate (length ls) true)))

@@ -14,7 +14,8 @@ use Rattle.sat_clauses.proofs.DeriveTrailLemmas.{None-from_value}
 use Rattle.sat_solver.specs.Watch.{IsWatch, HasTrue, HasCode, OthersFalse, IsReady, IsWatched}
 use Rattle.sat_solver.specs.Pass.{is_hit, CanVisit, IsKept, IsNewList}
 use Rattle.sat_solver.proofs.VisitLemmas.{not_hit_true, not_hit_free}
-use Rattle.sat_solver.proofs.ExplainLemmas.{signed_opposite, signed_not as signed_itself}
+use Rattle.sat_solver.proofs.ExplainLemmas.{signed_opposite}
+use Rattle.sat_clauses.proofs.FalseLemmas.{same_or_opposite, signed_not as signed_itself}
 
 pub swap_watch : (f s : ℕ) (m : Literal) → IsWatch f s m → IsWatch s f m
 swap_watch f s m (inl e) = inr e
@@ -33,17 +34,6 @@ swap_watched vars t c f s w = record {
   other_side = w.one_side;
   ready = λ k. record { ready = λ m listed is false_m. ⊎_elim (λ h. inl h) (λ all. inr (swap_others (assigned_by vars (take k t)) c f s all)) ((w.ready k).ready m listed (swap_watch s f m is) false_m) };
 }
-
-one_or_other : (m l : Literal) → m.var ≡ l.var → (m ≡ l) ⊎ (m ≡ opposite l)
-one_or_other m l e = by_sign m.negated l.negated where
-  same : (v w : ℕ) (b d : Bool) → v ≡ w → b ≡ d → ◌≡◌ {A = Literal} (record { var = v; negated = b }) (record { var = w; negated = d })
-  same v w b d e f = cc
-
-  by_sign : (b d : Bool) → ◌⊎◌ (◌≡◌ {A = Literal} (record { var = m.var; negated = b }) (record { var = l.var; negated = d })) (◌≡◌ {A = Literal} (record { var = m.var; negated = b }) (record { var = l.var; negated = not d }))
-  by_sign true true = inl (same m.var l.var true true e refl)
-  by_sign true false = inr (same m.var l.var true true e refl)
-  by_sign false true = inr (same m.var l.var false false e refl)
-  by_sign false false = inl (same m.var l.var false false e refl)
 
 -- the place of the literal that was just made true
 set_place : (vars : ℕ) (t : List Literal) (l : Literal) → IsTrail vars (t ++ l ∷ []) → get_or (assigned_by vars (t ++ l ∷ [])) l.var None ≡ Some (not l.negated)
@@ -67,7 +57,7 @@ itself_true vars t l trail = ap (option_map (signed l.negated)) (set_place vars 
 -- a literal other than the opposite that is false was false before
 pub was_false : (vars : ℕ) (t : List Literal) (l : Literal) → IsTrail vars (t ++ l ∷ []) → (m : Literal) → m ≢ opposite l → value_of (assigned_by vars (t ++ l ∷ [])) m ≡ Some false → value_of (assigned_by vars t) m ≡ Some false
 was_false vars t l trail m other e = ⊎_elim
-    (λ same. ⊎_elim (λ is. absurd (differ (sym (itself_true vars t l trail) ∙ (ap (value_of (assigned_by vars (t ++ l ∷ []))) (sym is) ∙ e)))) (λ is. absurd (other is)) (one_or_other m l same))
+    (λ same. ⊎_elim (λ is. absurd (differ (sym (itself_true vars t l trail) ∙ (ap (value_of (assigned_by vars (t ++ l ∷ []))) (sym is) ∙ e)))) (λ is. absurd (other is)) (same_or_opposite m l same))
     (λ ne. ap (option_map (signed m.negated)) (sym (ap (λ (a : Assignment). get_or a m.var None) (assigned_from_push (all_free vars) t l) ∙ get_or-set_other (assigned_by vars t) l.var m.var (Some (not l.negated)) None ne)) ∙ e)
     (cases_eq m.var l.var)
   where

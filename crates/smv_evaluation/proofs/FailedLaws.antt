@@ -10,7 +10,6 @@ use Rattle.base_values.specs.declared.value.Value.TheVariants.{Bool as truth, Nu
 use Rattle.smv_language.specs.Flat.{FlatModel}
 use Rattle.smv_flat_laws.specs.FlatTrace.{is_symbol_value, stands, stands_in_some}
 use Rattle.smv_flat_laws.specs.History.{Mode}
-use Rattle.smv_flat_laws.proofs.Lists.{get_within}
 use Rattle.smv_evaluation.specs.SymbolTests.{is_symbol, has_symbol}
 use Rattle.smv_evaluation.specs.EvaluableModels.{IsNumbered, IsEvaluable, IsLawful}
 use Rattle.smv_evaluation.proofs.FilledLaws.{lawful_length}
@@ -18,6 +17,7 @@ use Rattle.smv_evaluation.proofs.Rows.{same_symbol}
 use Rattle.smv_flat_laws.proofs.Conditions.{each_at}
 use Rattle.smv_language.proofs.ListLaws.{get_map}
 use Rattle.smv_language.specs.NumberedValues.{told_trace, told_moment, told_value}
+use Rattle.base_values.proofs.ListLaws.{get_within}
 
 module _ (m : FlatModel) (able : IsEvaluable m) (f : Mode) (variable : f.variable < length m.variables) (symbol : f.symbol < length m.symbols) where
   symbol_is : (y : Text) → slice_get m.symbols f.symbol ≡ Some y → (v : Value) → IsNumbered m.symbols v → is_symbol f.symbol v ≡ is_symbol_value (Some y) (Some (told_value m.symbols v))

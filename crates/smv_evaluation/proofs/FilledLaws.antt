@@ -12,7 +12,7 @@ use Rattle.smv_language.specs.ExpressionTree.{tree_of}
 use Rattle.base_values.specs.declared.value.Value.{Value}
 use Rattle.smv_language.specs.Flat.{FlatLeaf, flat_variable, flat_symbol, flat_definition, FlatVariable, FlatModel as ModelTree, flat_leaves, table_after}
 use Rattle.smv_flat_laws.specs.FlatTrace.{AreInDomains}
-use Rattle.smv_flat_laws.proofs.Lists.{get_within, length_end, map_joined}
+use Rattle.smv_flat_laws.proofs.Lists.{length_end, map_joined}
 use Rattle.smv_language.specs.declared.model.Formula.{Formula}
 use Rattle.smv_language.specs.declared.model.FlatModel.{FlatModel}
 use Rattle.smv_language.specs.ModelTree.{leaf_of, flat_tree, formula_tree, variable_tree, model_tree}
@@ -38,6 +38,7 @@ use Rattle.smv_language.proofs.ListLaws.{get_map, map_length}
 use Rattle.smv_flat_laws.proofs.BothLaws.{both_push, both_size}
 use Rattle.smv_language.specs.Texts.{AreApart}
 use Rattle.smv_language.specs.NumberedValues.{told_moment, told_value}
+use Rattle.base_values.proofs.ListLaws.{get_within}
 
 pub domains_length : (xs : List FlatVariable) (v : List told.Value) → AreInDomains xs v → length xs ≡ length v
 domains_length [] [] h = refl

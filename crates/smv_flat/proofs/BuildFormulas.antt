@@ -32,10 +32,11 @@ use Rattle.smv_flat.specs.ResolverOf.{leaf_found, leaf_at, leaf_by, resolver}
 use Rattle.smv_flat.specs.FormulaLists.{Told, told, conditions_asked, asked_condition, is_variable_within, IsConditionKnown, AreConditionsKnown, asked_conditions, asked_item, asked_items, asked_from}
 use Rattle.smv_scope.proofs.SceneFound.{scene_found}
 use Rattle.smv_flat.proofs.BuildAccepted.{kept_at, item_at, target_means, declared_means}
-use Rattle.smv_flat.proofs.BuildLeaves.{less_is, bounds_with, value_known}
+use Rattle.smv_flat.proofs.BuildLeaves.{bounds_with, value_known}
 use Rattle.smv_flat.proofs.BuildSound.{definitions, leaf_means, resolver_at}
 use Rattle.smv_flat_laws.proofs.LookLaws.{meets_loop_nothing}
 use Rattle.std.proofs.lemmas.Option.{slice_get_within as get_less}
+use Rattle.std.proofs.lemmas.Bool.{lt-ltb}
 
 -- A tree whose leaves are all told is one of a shape only if the tree is.
 pub record IsBinary (o : Op) (left right : Tree (Option FlatLeaf)) (t : Tree FlatLeaf) : Type 0 where
@@ -180,7 +181,7 @@ module _ (p : ProgramTree) where
   variable_meaning : (places : List ℕ) (bound : ℕ) (f : Found) (at : Place) (y : Text) (m : Meaning) → Denotes p f m → m ≡ a_variable_at at y → is_variable_within (bounds_with p bound) (leaf_found places f) ≡ true
   variable_meaning places bound (found.Variable i role) at y m d same =
       let v : (v : Visit) × (slice_get (variables_of p) i ≡ Some v) × (v.place ≡ at) × (v.decl.name ≡ y) × (v.role ≡ role_of role) = subst (Denotes p (found.Variable i role)) same d in
-      less_is i (length (variables_of p)) (get_less (variables_of p) i v.0 v.1)
+      lt-ltb i (length (variables_of p)) (get_less (variables_of p) i v.0 v.1)
   variable_meaning places bound (found.Definition k) at y m d same = absurd (subst (Denotes p (found.Definition k)) same d)
   variable_meaning places bound (found.Instance k) at y m d same = absurd (subst (Denotes p (found.Instance k)) same d)
   variable_meaning places bound (found.Symbol k) at y m d same = absurd (subst (Denotes p (found.Symbol k)) same d)

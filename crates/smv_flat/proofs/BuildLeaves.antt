@@ -1,7 +1,7 @@
 -- Each name of an accepted program has a leaf, which is what the name means, and which stands before.
 use Rattle.std.proofs.Common.{◌≡◌, ℕ, suc, ◌<◌, Bool, true, false, List, [], ◌∷◌, ◌++◌, length, Some, None, refl, sym, ◌∙◌, ap, subst, arith, inl, inr}
-use Rattle.std.specs.Prelude.{◌⊎◌, slice_get, map, nat_lt}
-use Rattle.std.proofs.lemmas.Bool.{ltb-false}
+use Rattle.std.specs.Prelude.{◌⊎◌, slice_get, map}
+use Rattle.std.proofs.lemmas.Bool.{lt-ltb}
 use Rattle.smv_language.specs.Tree.{Tree, Trees, Branches, truth, number, leaf, not_of, negate, next_of, binary, choice, case_of, set_of, span, no_tree, tree_then, no_branch, branch_then}
 use Rattle.smv_language.specs.ProgramTree.{Path, Formula, ProgramTree}
 use Rattle.smv_language.specs.ExpressionTree.{tree_of}
@@ -32,18 +32,12 @@ use Rattle.smv_flat.proofs.BuildOrder.{AllAfter, ordered_after, needs_before, on
 use Rattle.smv_flat.proofs.BuildAccepted.{IsGoodRoot}
 use Rattle.smv_flat.proofs.BuildRoots.{good_roots, no_come_back}
 use Rattle.smv_flat.proofs.BuildUnique.{one_written}
-use Rattle.smv_flat_laws.proofs.Lists.{each_more, get_within}
+use Rattle.smv_flat_laws.proofs.Lists.{each_more}
 use Rattle.smv_flat_laws.proofs.Listed.{key_equal}
 use Rattle.std.proofs.lemmas.Option.{slice_get_within as get_less}
 use Rattle.smv_language.proofs.ListLaws.{get_mapped, get_map}
 use Rattle.smv_language.proofs.EachLaws.{some_at, each_not}
-
-pub less_is : (i n : ℕ) → i < n → nat_lt i n ≡ true
-less_is i n h = by_test (nat_lt i n) refl
-  where
-    by_test : (b : Bool) → nat_lt i n ≡ b → nat_lt i n ≡ true
-    by_test true e = e
-    by_test false e = absurd (omega (arith, h, ltb-false i n e))
+use Rattle.base_values.proofs.ListLaws.{get_within}
 
 key_among : (ks : List Key) (k : Key) → is_key_among ks k ≡ true → (i : ℕ) × (slice_get ks i ≡ Some k)
 key_among [] k h = cc
@@ -141,11 +135,11 @@ module _ (p : ProgramTree) where
 
   leaf_of_meaning : (places : List ℕ) (bound : ℕ) (at : Place) (name : Path) (f : Found) (m : Meaning) → Means p at name m → Denotes p f m → (HasNoValue p at name → ⊥) →
       StandsWithin places bound at name f → is_leaf_within (bounds_with p bound) (leaf_found places f) ≡ true
-  leaf_of_meaning places bound at name (found.Variable i role) (a_variable_at bt x) means d value within = less_is i (length (variables_of p)) (get_less (variables_of p) i d.0 d.1)
+  leaf_of_meaning places bound at name (found.Variable i role) (a_variable_at bt x) means d value within = lt-ltb i (length (variables_of p)) (get_less (variables_of p) i d.0 d.1)
   leaf_of_meaning places bound at name (found.Variable i role) (an_expression_at key bt e) means d value within = absurd d
   leaf_of_meaning places bound at name (found.Variable i role) (an_instance_at bt) means d value within = absurd d
   leaf_of_meaning places bound at name (found.Variable i role) (a_symbol x) means d value within = absurd d
-  leaf_of_meaning places bound at name (found.Symbol i) (a_symbol x) means d value within = less_is i (length (symbols_of p)) (get_less (symbols_of p) i x d)
+  leaf_of_meaning places bound at name (found.Symbol i) (a_symbol x) means d value within = lt-ltb i (length (symbols_of p)) (get_less (symbols_of p) i x d)
   leaf_of_meaning places bound at name (found.Symbol i) (a_variable_at bt x) means d value within = absurd d
   leaf_of_meaning places bound at name (found.Symbol i) (an_expression_at key bt e) means d value within = absurd d
   leaf_of_meaning places bound at name (found.Symbol i) (an_instance_at bt) means d value within = absurd d
@@ -156,7 +150,7 @@ module _ (p : ProgramTree) where
   leaf_of_meaning places bound at name (found.Definition k) (an_expression_at key bt e) means d value within =
       let at_key : slice_get (keys_of p) k ≡ Some key = get_map (λ (r : Root). r.key) (roots_of p) k d.0 d.1 ∙ ap Some d.2 in
       let w : (i : ℕ) × (slice_get places k ≡ Some i) × (i < bound) = within k refl key bt e means at_key in
-      ap (λ o. is_leaf_within (bounds_with p bound) (leaf_placed o)) w.1 ∙ less_is w.0 bound w.2
+      ap (λ o. is_leaf_within (bounds_with p bound) (leaf_placed o)) w.1 ∙ lt-ltb w.0 bound w.2
   leaf_of_meaning places bound at name (found.Definition k) (a_variable_at bt x) means d value within = absurd d
   leaf_of_meaning places bound at name (found.Definition k) (an_instance_at bt) means d value within = absurd d
   leaf_of_meaning places bound at name (found.Definition k) (a_symbol x) means d value within = absurd d

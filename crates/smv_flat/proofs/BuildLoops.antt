@@ -12,8 +12,7 @@ use Rattle.smv_scope.specs.declared.needs.Needs.{Needs}
 use Rattle.smv_scope.specs.SceneTree.{program_of, IsScene, IsSpot, items_of_instance, items_at}
 use Rattle.smv_flat.specs.ResolverOf.{leaf_at}
 use Rattle.smv_flat.specs.FormulaLists.{asked_item, asked_items, asked_from, item_listed, instance_in, instance_told}
-use Rattle.smv_flat_laws.proofs.Lists.{get_within}
-use Rattle.base_values.proofs.ListLaws.{drop_there}
+use Rattle.base_values.proofs.ListLaws.{drop_there, get_within}
 use Rattle.smv_language.proofs.ListLaws.{drop_past}
 use Rattle.smv_flat_laws.proofs.BothLaws.{both_size}
 

@@ -16,7 +16,6 @@ use Rattle.smv_flat_laws.specs.Rules.{IsAccepted, expression_of}
 use Rattle.smv_flat_laws.specs.Model.{Root, roots_of, symbols_of, AddsAll, IsInstanceNumber, IsVariableOf, IsDefinitionOf, IsFlatOf}
 use Rattle.smv_flat_laws.proofs.Conditions.{each_at, each_join}
 use Rattle.smv_flat_laws.proofs.Variables.{both_at, both_at_second}
-use Rattle.smv_flat_laws.proofs.Lists.{get_within}
 use Rattle.smv_scope.specs.declared.bounds.Bounds.{Bounds}
 use Rattle.smv_language.specs.declared.model.Flat.{Flat}
 use Rattle.smv_language.specs.declared.model.Flat.TheVariants.{Var, Symbol, Definition as DefinitionOf}
@@ -50,6 +49,7 @@ use Rattle.smv_language.proofs.ListLaws.{get_mapped, get_map}
 use Rattle.smv_language.proofs.BoolLaws.{left_true, right_true}
 use Rattle.smv_language.proofs.ProgramLaws.{found_named}
 use Rattle.smv_flat_laws.proofs.BothLaws.{both_size}
+use Rattle.base_values.proofs.ListLaws.{get_within}
 
 abbrev pub bounds_made : ℕ → ℕ → ℕ → Bounds
 bounds_made v t d = record { variables = v; symbols = t; definitions = d }

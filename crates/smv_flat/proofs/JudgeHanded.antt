@@ -10,7 +10,7 @@ use Rattle.smv_language.specs.Flat.{FlatInstance}
 use Rattle.smv_flat_laws.specs.Items.{a_declaration, NumberedItem}
 use Rattle.smv_flat_laws.specs.NameResolution.{has_next}
 use Rattle.smv_flat_laws.specs.Rules.{ActualHasNoMeaning, SomeActualLoops, LoopsInside, some_has_next, a_use}
-use Rattle.smv_flat_laws.proofs.Lists.{get_end, get_within}
+use Rattle.smv_flat_laws.proofs.Lists.{get_end}
 use Rattle.smv_scope.specs.Faults.{first_of}
 use Rattle.smv_scope.specs.TableLookUps.{formal_at}
 use Rattle.smv_scope.specs.SceneTree.{IsKnown, IsScene, program_of}
@@ -29,7 +29,7 @@ use Rattle.smv_flat.proofs.JudgePlaces.{formal_is}
 use Rattle.smv_flat.proofs.JudgeValues.{one_more}
 use Rattle.std.proofs.lemmas.Option.{slice_get_within as get_less, none-some as none_some}
 use Rattle.smv_scope.proofs.NamingItems.{tree_there as mapped_at}
-use Rattle.base_values.proofs.ListLaws.{push_get, get_left}
+use Rattle.base_values.proofs.ListLaws.{push_get, get_left, get_within}
 
 -- each actual has a formal
 formal_there : (actuals : List Formula) (formals : List Text) (index : ℕ) (e : Formula) → slice_get actuals index ≡ Some e → length actuals ≡ length formals → (x : Text) × (slice_get formals index ≡ Some x)

@@ -10,7 +10,7 @@ use Rattle.smv_flat_laws.specs.Rules as rules
 use Rattle.smv_flat_laws.specs.Rules.{Site, the_program, a_use, use_sites, module_sites, visit_sites, IsKept, IsWalkable, IsFirstBroken}
 use Rattle.smv_flat_laws.proofs.Conditions.{each_join}
 use Rattle.smv_flat_laws.proofs.FaultLaws.{IsFirstOf, first_broken, in_part, after_part}
-use Rattle.smv_flat_laws.proofs.Lists.{get_within, map_joined}
+use Rattle.smv_flat_laws.proofs.Lists.{map_joined}
 use Rattle.smv_flat.specs.Assignments.{times_of, AreTimes, IsItemTold, IsFaultAt, IsPlaceTold}
 use Rattle.smv_scope.specs.Faults.{rule_of, IsFaultOf}
 use Rattle.smv_scope.specs.SceneTree.{number_and_item, items_of_instance, items_at, IsScene, program_of}
@@ -23,6 +23,7 @@ use Rattle.smv_flat.proofs.JudgePlaces.{HasSpot, has_spot}
 use Rattle.smv_flat.proofs.BuildLoops.{many_spots}
 use Rattle.std.proofs.lemmas.Option.{none-some as none_some, same_Some as some_same}
 use Rattle.smv_language.proofs.ListLaws.{take_next}
+use Rattle.base_values.proofs.ListLaws.{get_within}
 
 split_at : {A : Type 0} (xs : List A) (k : ℕ) (x : A) → slice_get xs k ≡ Some x → (after : List A) × (xs ≡ take k xs ++ x ∷ after)
 split_at [] k x e = absurd (none_some x e)

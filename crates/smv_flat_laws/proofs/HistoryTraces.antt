@@ -11,12 +11,12 @@ use Rattle.smv_language.specs.Flat.{FlatLeaf, flat_variable, flat_symbol, flat_d
 use Rattle.smv_flat_laws.specs.NameResolution.{leaves_in}
 use Rattle.smv_flat_laws.specs.History.{Mode, bit_variables, bit_at_first, bit_at_step, bits_at_first, bits_at_step, with_history}
 use Rattle.smv_flat_laws.specs.FlatTrace.{AreInDomains, IsFlatMoment, IsFlatStep, IsFlatTrace, is_symbol_value, stands, stands_in_some, bits_after, told_from, IsOwnName, IsOwnFormula, NamesOwn, IsModeOf}
-use Rattle.smv_flat_laws.proofs.Lists.{length_end, get_within, each_more}
+use Rattle.smv_flat_laws.proofs.Lists.{length_end, each_more}
 use Rattle.smv_flat_laws.proofs.Reaches.{each_left, each_right}
 use Rattle.smv_flat_laws.proofs.Conditions.{each_join, MayBe, within_iff, may_one}
 use Rattle.smv_flat_laws.proofs.Now.{BothSame, same_on}
 use Rattle.smv_language.proofs.BoolLaws.{iff_trans, or_false, or_grouped}
-use Rattle.base_values.proofs.ListLaws.{get_left}
+use Rattle.base_values.proofs.ListLaws.{get_left, get_within}
 
 -- More values change nothing for formulas that do not read them.
 pub get_before : {A : Type 0} (xs ys : List A) (i : ℕ) → i < length xs → slice_get (xs ++ ys) i ≡ slice_get xs i

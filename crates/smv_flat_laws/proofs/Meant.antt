@@ -9,7 +9,7 @@ use Rattle.smv_language.specs.Trace.{Each, AtSome, IsInstance}
 use Rattle.smv_flat_laws.specs.Items.{Item, a_declaration, a_definition, an_assignment, some_constants, an_init, an_invar, a_trans, items_of, items_of_section, NumberedModule, modules_from, modules_of, numbered_items}
 use Rattle.smv_flat_laws.specs.Looks.{Look, at_actual, plain_of, step_formal, step_kind, step_of, look_after, ComesBack, MeetsLoop, MeansNothing}
 use Rattle.smv_flat_laws.specs.Rules.{no_such_name, define_loop, double_name, has_twice, a_header, an_item, ActualHasNoMeaning, BreaksNames, ActualLoops, SomeActualLoops, LoopsInside, BreaksLoops, IsKept, IsWalkable, IsAccepted}
-use Rattle.smv_flat_laws.proofs.Lists.{get_within, each_more}
+use Rattle.smv_flat_laws.proofs.Lists.{each_more}
 use Rattle.smv_flat_laws.proofs.Conditions.{each_flat}
 use Rattle.smv_flat_laws.proofs.KindLaws.{DeclaredBy, kind_in_items, sections_kind}
 use Rattle.smv_flat_laws.proofs.Places.{Above, above}
@@ -20,6 +20,7 @@ use Rattle.smv_flat_laws.proofs.Kept.{KeptItem, kept_at, declared_there, as_many
 use Rattle.smv_language.proofs.OneTree.{same_text_equal}
 use Rattle.std.proofs.lemmas.Option.{slice_get_within as got_below}
 use Rattle.std.proofs.lemmas.Bool.{false_from_ne_true as not_true, or_parts as neither}
+use Rattle.base_values.proofs.ListLaws.{get_within}
 
 nth_got : (es : List Formula) (k : ℕ) (e : Formula) → nth_formula es k ≡ Some e → slice_get es k ≡ Some e
 nth_got [] k e h = cc

@@ -7,9 +7,9 @@ use Rattle.smv_language.specs.Evaluate.{evaluate}
 use Rattle.smv_language.specs.Trace.{Each}
 use Rattle.smv_language.specs.Flat.{FlatLeaf, flat_variable, flat_symbol, flat_definition, FlatFormula, FlatModel, given, flat_leaves, definition_gives, table_after, leaves_at}
 use Rattle.smv_flat_laws.specs.NameResolution.{leaves_in, IsBefore}
-use Rattle.smv_flat_laws.proofs.Lists.{get_end, length_end, get_within, each_more}
+use Rattle.smv_flat_laws.proofs.Lists.{get_end, length_end, each_more}
 use Rattle.smv_flat_laws.proofs.Now.{BothSame, same_on}
-use Rattle.base_values.proofs.ListLaws.{get_left}
+use Rattle.base_values.proofs.ListLaws.{get_left, get_within}
 
 -- a table that has all of another's places
 abbrev pub Holds : List (Option Values) → List (Option Values) → Type 0

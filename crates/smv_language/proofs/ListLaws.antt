@@ -49,14 +49,8 @@ take_next {A = A} xs i x e = ap (λ n. take n xs) (plus i) ∙ by_place xs i e
         first y x e = cc
     by_place (y ∷ xs) (suc i) e = ap (λ more. y ∷ more) (by_place xs i e)
 
-pub contains_here : {A : Type 0} (x : A) (xs : List A) → Contains (x ∷ xs) x
-contains_here x xs = (0, grind arith, refl)
-
 pub contains_later : {A : Type 0} (x y : A) (ys : List A) → Contains ys x → Contains (y ∷ ys) x
 contains_later x y ys m = (suc m.0, grind (arith, m.1), m.2)
-
-pub none_contained : {A : Type 0} (x : A) → Contains [] x → ⊥
-none_contained x m = absurd (omega (arith, m.1))
 
 pub contains_cases : {A : Type 0} (x y : A) (xs : List A) → Contains (y ∷ xs) x → (y ≡ x) ⊎ Contains xs x
 contains_cases x y xs c = by c.0 c.1 c.2

@@ -6,7 +6,8 @@ use Rattle.std.specs.Option.{option_map}
 use Rattle.std.specs.Str.{bytes_eq}
 use Rattle.std.proofs.lemmas.List.{take-append-le}
 use Rattle.smv_lexer.specs.Runs.{block_len}
-use Rattle.smv_lexer.proofs.SignLemmas.{chosen_by, is_false, starts_with-begins, starts_with-append}
+use Rattle.smv_lexer.proofs.SignLemmas.{chosen_by, starts_with-begins, starts_with-append}
+use Rattle.std.proofs.lemmas.Bool.{false_from_ne_true}
 
 abbrev pub block_end : List ℕ
 block_end = codes "--/"
@@ -26,7 +27,7 @@ ends_first_tail : (b : ℕ) (inner : List ℕ) → EndsFirst (b ∷ inner) → E
 ends_first_tail b inner first front back e = first (b ∷ front) back (ap (λ t. b ∷ t) e)
 
 no_end_yet : (b : ℕ) (inner after : List ℕ) → EndsFirst (b ∷ inner) → starts_with nat_eq (((b ∷ inner) ++ block_end) ++ after) block_end ≡ false
-no_end_yet b inner after first = is_false _ (λ starts.
+no_end_yet b inner after first = false_from_ne_true _ (λ starts.
     let text = (b ∷ inner) ++ block_end in
     let long : 3 ≤ length ((b ∷ inner) ++ block_end) = omega (arith, length-append (b ∷ inner) block_end) in
     let here : starts_with nat_eq ((b ∷ inner) ++ block_end) block_end ≡ true = ap (bytes_eq block_end) (sym (take-append-le 3 ((b ∷ inner) ++ block_end) after long)) ∙ starts in

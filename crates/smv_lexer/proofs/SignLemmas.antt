@@ -5,7 +5,7 @@ use Rattle.std.specs.List.{starts_with, list_all}
 use Rattle.std.specs.Str.{bytes_eq}
 use Rattle.std.specs.Char.{is_ascii_digit}
 use Rattle.std.proofs.lemmas.Bool.Decides.{Decides-eqb}
-use Rattle.std.proofs.lemmas.Bool.{leb-true}
+use Rattle.std.proofs.lemmas.Bool.{leb-true, false_from_ne_true}
 use Rattle.std.proofs.lemmas.Slice.Eq.{starts_is, bytes_eq-Decides}
 use Rattle.std.proofs.Math.Seq.{take-append_seam}
 use Rattle.smv_lexer.specs.declared.token.TokenKind.{TokenKind}
@@ -18,10 +18,6 @@ use Rattle.smv_lexer.specs.Scan.{sign_at}
 pub chosen_by : {A : Type 0} (test : Bool) (x y z : A) → cond test x y ≡ z → ((test ≡ true) × (x ≡ z)) ⊎ ((test ≡ false) × (y ≡ z))
 chosen_by true x y z e = inl (refl, e)
 chosen_by false x y z e = inr (refl, e)
-
-pub is_false : (test : Bool) → (test ≡ true → ⊥) → test ≡ false
-is_false true never = absurd (never refl)
-is_false false never = refl
 
 pub both_true : (a b : Bool) → (a && b) ≡ true → (a ≡ true) × (b ≡ true)
 both_true true b e = (refl, e)

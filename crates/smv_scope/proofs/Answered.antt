@@ -20,7 +20,8 @@ use Rattle.smv_scope.proofs.Naming.{program_same}
 use Rattle.smv_scope.proofs.Frames.{formal_by_rows}
 use Rattle.smv_scope.proofs.Turns.{not_open}
 use Rattle.std.proofs.lemmas.Option.{same_Some as of_some, slice_get_past as get_past, slice_get_within as get_less}
-use Rattle.smv_flat_laws.proofs.Lists.{get_within}
+use Rattle.base_values.proofs.ListLaws.{get_within}
+use Rattle.base_values.proofs.NumberLaws.{one_more}
 
 pub settled_then : (a b c : List (List Formal)) → AreSettled a b → AreSettled b c → AreSettled a c
 settled_then a b c h g k i is = h k i (g k i is)
@@ -28,16 +29,6 @@ settled_then a b c h g k i is = h k i (g k i is)
 -- the formals of an instance
 abbrev pub AnsweredTo : Scene → ℕ → ℕ → Type 0
 AnsweredTo s spot n = (i : ℕ) → i < n → IsOpen (formal_of (rows s) spot i) → ⊥
-
-one_more : (P : ℕ → Type 0) (n : ℕ) → ((i : ℕ) → i < n → P i) → P n → (i : ℕ) → i < n + 1 → P i
-one_more P n before here i lt = by_order (ltb i n) refl
-  where
-    by_order : (b : Bool) → ltb i n ≡ b → P i
-    by_order true o = before i (ltb-true i n o)
-    by_order false o =
-        let after : n ≤ i = ltb-false i n o in
-        let same : n ≡ i = omega (arith, lt, after) in
-        subst P same here
 
 pub answered_more : (mid new : Scene) (spot n : ℕ) → AnsweredTo mid spot n → AreSettled (rows mid) (rows new) → (IsOpen (formal_of (rows new) spot n) → ⊥) → AnsweredTo new spot (n + 1)
 answered_more mid new spot n before settled here = one_more (λ i. IsOpen (formal_of (rows new) spot i) → ⊥) n (λ i lt is. before i lt (settled spot i is)) here

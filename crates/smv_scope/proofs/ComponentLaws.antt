@@ -6,7 +6,6 @@ use Rattle.std.proofs.lemmas.Option.{same_Some as some_same}
 use Rattle.std.specs.Prelude.{slice_get, ◌↔◌}
 use Rattle.std.specs.List.{list_any}
 use Rattle.smv_language.specs.Trace.{Each}
-use Rattle.smv_flat_laws.proofs.Lists.{get_within}
 use Rattle.smv_scope.specs.declared.circles.CircleMember.{CircleMember}
 use Rattle.smv_scope.specs.Links.{Graph, Has, Reaches, start, further, IsWithin, IsCircle}
 use Rattle.smv_scope.specs.WorkLeft.{open_work}
@@ -14,6 +13,7 @@ use Rattle.smv_scope.specs.Components.{Leads, IsEnded, IsFinished, component_at,
 use Rattle.smv_scope.proofs.LayLaws.{same_or}
 use Rattle.smv_scope.proofs.LeftLaws.{work_taken, work_not_more, unlinked}
 use Rattle.smv_scope.proofs.LeadLaws.{leads_self, leads_to, leads_on, leads_after, leads_split}
+use Rattle.base_values.proofs.ListLaws.{get_within}
 
 -- components after one is set
 set_same : (cs : List (Option ℕ)) (k n : ℕ) → k < length cs → component_at (set cs k (Some n)) k ≡ Some n

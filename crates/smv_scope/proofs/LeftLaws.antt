@@ -4,7 +4,6 @@ use Rattle.std.proofs.lemmas.Bool.{cases_lt}
 use Rattle.std.proofs.lemmas.List.{length-append, length-map}
 use Rattle.std.specs.Prelude.{slice_get}
 use Rattle.smv_language.specs.Trace.{Each}
-use Rattle.smv_flat_laws.proofs.Lists.{get_within}
 use Rattle.smv_scope.specs.declared.needs.WalkMark.{WalkMark}
 use Rattle.smv_scope.specs.declared.needs.WalkMark.TheVariants.{Unmet, Begun, Ended}
 use Rattle.smv_scope.specs.declared.needs.Task.{Task}
@@ -14,6 +13,7 @@ use Rattle.smv_scope.specs.DefinitionOrder.{Lay, mark_or, mark_at, visits, visit
 use Rattle.smv_scope.specs.WorkLeft.{open_work, left_to_spread, is_unmet, left_to_lay}
 use Rattle.std.proofs.lemmas.Option.{same_Some as some_same}
 use Rattle.smv_language.specs.Values.{opposite}
+use Rattle.base_values.proofs.ListLaws.{get_within}
 
 -- an open mark is closed
 pub work_taken : {M : Type 0} (is_open : M → Bool) (work : ℕ → ℕ) (marks : List M) (k : ℕ) (old new : M) → slice_get marks k ≡ Some old → is_open old ≡ true → is_open new ≡ false →

@@ -12,7 +12,6 @@ use Rattle.smv_language.specs.Texts.{is_among}
 use Rattle.smv_language.specs.ExpressionTree.{tree_of}
 use Rattle.smv_language.specs.Flat.{FlatVariable}
 use Rattle.smv_flat_laws.specs.Items.{Item as ItemOf, a_declaration, Visit}
-use Rattle.smv_flat_laws.proofs.Lists.{get_within}
 use Rattle.smv_scope.specs.declared.items.Item.{Item}
 use Rattle.smv_scope.specs.declared.items.Item.TheVariants as code
 use Rattle.smv_language.specs.declared.model.Variable.{Variable}
@@ -32,6 +31,7 @@ use Rattle.smv_scope.proofs.WalkLaws.{walked_none}
 use Rattle.smv_language.proofs.ListLaws.{get_map}
 use Rattle.smv_language.proofs.ProgramLaws.{found_named}
 use Rattle.smv_language.specs.Trace.{EachBoth}
+use Rattle.base_values.proofs.ListLaws.{get_within}
 
 -- An instance.
 pub calls_met : (ms : Modules) (calls : List Call) (vars : List FlatVariable) (cs : List Call) (spots : List Spot) → EachBoth (IsSpotOf ms calls vars) cs spots → map (call_of ms) spots ≡ cs

@@ -40,10 +40,10 @@ use Rattle.smv_scope.proofs.HeadKinds.{definition_kind, declaration_kind}
 use Rattle.smv_scope.proofs.Naming.{program_same, naming_at, naming_pushed, left_number}
 use Rattle.smv_scope.proofs.Frames.{actual_there}
 use Rattle.std.proofs.lemmas.Option.{same_Some as of_some, slice_get_within as get_less}
-use Rattle.smv_flat_laws.proofs.Lists.{get_within}
 use Rattle.smv_language.proofs.ListLaws.{take_there, get_there, drop_item}
 use Rattle.smv_flat_laws.proofs.BothLaws.{both_push, both_long}
 use Rattle.smv_language.specs.Trace.{EachBoth}
+use Rattle.base_values.proofs.ListLaws.{get_within}
 
 -- the item that the tables have is the program's
 pub record Listed (n : Numbered) (y : NumberedItem) : Type 0 where

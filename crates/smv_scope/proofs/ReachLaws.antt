@@ -3,10 +3,10 @@ use Rattle.std.proofs.Common.{◌≡◌, ℕ, zero, suc, ◌<◌, arith, Bool, t
 use Rattle.std.proofs.lemmas.List.{length-replicate, length-set}
 use Rattle.std.specs.Prelude.{slice_get, Vec}
 use Rattle.std.specs.declared.alloc.Global.{Global}
-use Rattle.smv_flat_laws.proofs.Lists.{get_within}
 use Rattle.smv_scope.specs.declared.links.Links.{Links}
 use Rattle.smv_scope.specs.Links.{Has, Graph, graph_of, row_of, Reaches, start, further, IsWithin, AreReached, is_marked, told_mark, spread_by, IsSpreading}
 use Rattle.smv_scope.proofs.LinkLaws.{has_left, has_right, has_either}
+use Rattle.base_values.proofs.ListLaws.{get_within}
 
 row_within : (vs : List (Vec ℕ Global)) (a b : ℕ) → Has (row_of (slice_get vs a)) b → a < length vs
 row_within [] a b h = absurd h

@@ -9,7 +9,6 @@ use Rattle.smv_language.specs.Trace.{Each, EachBoth}
 use Rattle.smv_flat_laws.specs.Rules.{NeedsItself}
 use Rattle.smv_flat_laws.specs.Model.{Root, roots_of, AddsAll}
 use Rattle.smv_flat_laws.proofs.Conditions.{each_at}
-use Rattle.smv_flat_laws.proofs.Lists.{get_within}
 use Rattle.smv_scope.specs.declared.names.Scene.{Scene}
 use Rattle.smv_scope.specs.declared.links.Links.{Links}
 use Rattle.smv_scope.specs.declared.needs.Named.{Named}
@@ -26,6 +25,7 @@ use Rattle.smv_scope.proofs.KeyLaws.{key_at}
 use Rattle.smv_scope.proofs.NeedLaws.{IsLinked, linked, circle_is, circle_from, reads_is, reads_from_input}
 use Rattle.smv_scope.proofs.AddLaws.{AreKeyed, keys_upto, keyed_each, adds_from}
 use Rattle.smv_flat_laws.proofs.BothLaws.{both_size}
+use Rattle.base_values.proofs.ListLaws.{get_within}
 
 pub both_from : {A B : Type 0} (R : A → B → Type 0) (xs : List A) (ys : List B) → length xs ≡ length ys →
     ((k : ℕ) (x : A) (y : B) → slice_get xs k ≡ Some x → slice_get ys k ≡ Some y → R x y) → EachBoth R xs ys

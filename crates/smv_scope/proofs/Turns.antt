@@ -35,8 +35,8 @@ use Rattle.smv_scope.proofs.Work.{SameShape, shape_same, shape_with, shape_circl
 use Rattle.smv_scope.proofs.Starting.{symbols_by}
 use Rattle.std.proofs.lemmas.Option.{same_Some as of_some, slice_get_within as get_less}
 use Rattle.std.proofs.lemmas.Bool.{false_from_ne_true as not_true}
-use Rattle.smv_flat_laws.proofs.Lists.{get_within}
 use Rattle.smv_language.proofs.BoolLaws.{not_both}
+use Rattle.base_values.proofs.ListLaws.{get_within}
 
 pub set_same : (old new : Scene) → IsSameButFormals old new → IsSet old → IsSet new
 set_same old new same set = record {

@@ -6,7 +6,6 @@ use Rattle.smv_language.specs.ProgramTree.{Text, DeclaredTree, boolean, range, m
 use Rattle.smv_language.specs.Scope.{Place, Role}
 use Rattle.smv_language.specs.Flat.{FlatVariable}
 use Rattle.smv_flat_laws.specs.Items.{Item as ItemOf, a_declaration, a_definition, an_assignment, some_constants, an_init, an_invar, a_trans, NumberedItem, items_named, Visit, variable_declared}
-use Rattle.smv_flat_laws.proofs.Lists.{get_within}
 use Rattle.smv_scope.specs.declared.modules.Modules.{Modules}
 use Rattle.smv_scope.specs.declared.walk.Meaning.{Meaning as Found}
 use Rattle.smv_scope.specs.declared.walk.Spot.{Spot}
@@ -16,7 +15,7 @@ use Rattle.smv_scope.specs.ModuleFaults.{Told, told_first}
 use Rattle.smv_language.specs.BorrowedTexts.{texts}
 use Rattle.smv_scope.specs.InstanceWalk.{Call, calls_declared, calls_in, variables_in, visit_told, visits_told, program_in, call_of, calls_of, variables_of_walk, on_path_of, place_of_spot, place_at, IsInstanceIn, IsVariableIn, IsDeclarationIn, IsOwnIn, IsCaller, IsSpotOf, IsDeclaredIn, HasWalked}
 use Rattle.smv_scope.proofs.SceneItems.{both_more}
-use Rattle.base_values.proofs.ListLaws.{get_left}
+use Rattle.base_values.proofs.ListLaws.{get_left, get_within}
 use Rattle.smv_flat_laws.proofs.BothLaws.{both_long}
 use Rattle.smv_language.specs.Trace.{EachBoth}
 

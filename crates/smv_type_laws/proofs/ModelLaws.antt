@@ -8,14 +8,14 @@ use Rattle.smv_language.specs.Values.{Value, symbol, Values, one}
 use Rattle.smv_language.specs.Evaluate.{evaluate}
 use Rattle.smv_language.specs.Laws.{AllLeaves, AllLeavesOfTrees, AllLeavesOfBranches}
 use Rattle.smv_language.specs.Flat.{FlatLeaf, flat_variable, flat_symbol, flat_definition, FlatFormula, flat_leaves, definition_gives, table_after}
-use Rattle.smv_flat_laws.proofs.Lists.{get_within, length_end}
+use Rattle.smv_flat_laws.proofs.Lists.{length_end}
 use Rattle.smv_type_laws.specs.ExpressionKinds.{Kind, Judged, judge, judge_trees, judge_conditions, judge_values}
 use Rattle.smv_type_laws.specs.Models.{leaf_kind, judged_after}
 use Rattle.smv_type_laws.specs.Laws.{IsKnown, AreInOrder}
 use Rattle.smv_type_laws.proofs.Parts.{Alone}
 use Rattle.smv_type_laws.proofs.TreeLaws.{AtLeaf, Hold, sound, single}
 use Rattle.smv_flat_laws.proofs.BothLaws.{both_push}
-use Rattle.base_values.proofs.ListLaws.{get_left}
+use Rattle.base_values.proofs.ListLaws.{get_left, get_within}
 
 -- Lists by place.
 pub record Both {A B : Type 0} (R : A → B → Type 0) (as' : List A) (bs : List B) (i : ℕ) : Type 0 where

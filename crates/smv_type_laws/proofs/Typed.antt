@@ -4,7 +4,7 @@ use Rattle.smv_language.specs.Trace.{Each, AtSome, EachBoth}
 use Rattle.smv_language.specs.Values.{Value, Values, has}
 use Rattle.smv_language.specs.Laws.{AllLeaves}
 use Rattle.smv_language.specs.Flat.{FlatLeaf, flat_variable, flat_symbol, flat_definition, FlatVariable, FlatFormula, FlatModel, table_after, leaves_at}
-use Rattle.smv_flat_laws.proofs.Lists.{get_within, length_end}
+use Rattle.smv_flat_laws.proofs.Lists.{length_end}
 use Rattle.smv_flat_laws.specs.FlatTrace.{AreInDomains}
 use Rattle.smv_type_laws.specs.ExpressionKinds.{KindRule, number_of, truth_class, not_boolean, unless_class, Judged, judge}
 use Rattle.smv_type_laws.specs.DeclaredKinds.{judged_declared}
@@ -16,6 +16,7 @@ use Rattle.smv_type_laws.proofs.TreeLaws.{Hold, sound, single}
 use Rattle.smv_type_laws.proofs.SafeLaws.{safe}
 use Rattle.smv_type_laws.proofs.VariableLaws.{variable_holds}
 use Rattle.smv_type_laws.proofs.ModelLaws.{after_keeps, after_length, each_before, each_end, judge_agrees, all_leaves_more, ValueHolds, IsRight, names_hold, table_holds}
+use Rattle.base_values.proofs.ListLaws.{get_within}
 
 pub none_at : (number item : ℕ) (rules : List KindRule) → breaches_at number item rules ≡ [] → rules ≡ []
 none_at number item [] e = refl

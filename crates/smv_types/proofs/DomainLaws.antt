@@ -28,7 +28,8 @@ use Rattle.smv_language.proofs.OneTree.{same_text_equal}
 use Rattle.std.proofs.lemmas.Bool.{or_left, or_right as or_true}
 use Rattle.smv_type_laws.proofs.Typed.{none_at as no_rules}
 use Rattle.smv_type_laws.proofs.LeastLaws.{same_int_self as int_itself}
-use Rattle.smv_language.proofs.ListLaws.{contains_here, contains_later, none_contained, contains_cases}
+use Rattle.smv_language.proofs.ListLaws.{contains_later, contains_cases}
+use Rattle.base_values.proofs.ListLaws.{none_contained, contains_here}
 
 -- Numbers among members.
 number_there : (ms : List Member) (n : ℤ) → Contains (numbers_in ms) n → is_member ms (number n) ≡ true

@@ -41,6 +41,7 @@ use Rattle.test_encoding.specs.Values.{IsKnownSymbol, HasAt}
 use Rattle.std.proofs.lemmas.Option.{slice_get_within as got_below}
 use Rattle.smv_language.proofs.BoolLaws.{left_true, right_true}
 use Rattle.smv_language.specs.NumberedValues.{told_moment, told_value}
+use Rattle.base_values.proofs.ListLaws.{get_within}
 
 -- Types that have members.
 members_by : (xs : List Variable) → AllByRecursion (λ x. HasMember (declared_tree x.declared)) xs → Each (λ x. HasMember x.declared) (map variable_tree xs)
@@ -53,23 +54,17 @@ each_has_member xs h = members_by xs (recursion_from_All (λ x. HasMember (decla
 pub many : (n : ℕ) → n < 1000 → n < 2 ^ 31
 many n h = omega (arith, h)
 
--- Values that lie in their domains.
-some_at : {A : Type 0} (xs : List A) (i : ℕ) → i < length xs → (x : A) × (slice_get xs i ≡ Some x)
-some_at [] i h = absurd (omega (arith, h))
-some_at (x ∷ xs) zero h = (x, refl)
-some_at (x ∷ xs) (suc i) h = some_at xs i (omega (arith, h))
-
 stands : (symbols : List Text) → AreSymbols symbols → (v : Value) → IsKnownSymbol (length symbols) v → StandsFor symbols v (told_value symbols v)
 stands symbols are (truth b) k = refl
 stands symbols are (Num n) k = refl
 stands symbols are (Sym i) k =
-    let at = some_at symbols i k in
+    let at = get_within symbols i k in
     rw at.1 (refl, are.apart _ i at.0 (symbol_found symbols at.0 i at.1) at.1)
 
 numbered : (symbols : List Text) (v : Value) → IsKnownSymbol (length symbols) v → IsNumbered symbols v
 numbered symbols (truth b) k = tt
 numbered symbols (Num n) k = tt
-numbered symbols (Sym i) k = let at = some_at symbols i k in record { text = at.0; there = at.1 }
+numbered symbols (Sym i) k = let at = get_within symbols i k in record { text = at.0; there = at.1 }
 
 listed_type : (symbols : List Text) (d : DeclaredTree) → IsListedType symbols d → IsType d
 listed_type symbols boolean h = tt

@@ -2,7 +2,7 @@
 use Rattle.std.proofs.Common.{◌≡◌, ◌≢◌, inl, inr, ℕ, ◌+◌, ◌&&◌, Bool, true, false, List, [], ◌∷◌, ◌++◌, length, Some, None, if◌then◌else◌, sym, subst, ap, ◌∙◌, refl, arith, append_assoc}
 use Rattle.std.specs.Str.{bytes_eq}
 use Rattle.std.proofs.lemmas.List.{append-nil}
-use Rattle.std.proofs.lemmas.Bool.{and_parts, and_from, or_left, or_right}
+use Rattle.std.proofs.lemmas.Bool.{and_parts, and_from, or_left, or_right, false_from_ne_true}
 use Rattle.verb_command_line.specs.declared.choice.OptionKind.{OptionKind}
 use Rattle.verb_command_line.specs.declared.fault.WordFault.{WordFault}
 use Rattle.verb_command_line.specs.declared.fault.WordFault.TheVariants as fault
@@ -11,10 +11,11 @@ use Rattle.verb_command_line.specs.Table.{Choice, kind_in, Fits}
 use Rattle.verb_command_line.specs.Meaning.{Each, Gives, IsNotGiven, IsLawful, AreLawful, IsThere, AreThere, IsFile, SameFile, AreDifferent, option_place, BreaksOption, unknown_option, comes_twice, no_value, bad_number, missing, same_name}
 use Rattle.verb_command_line.specs.WordReading.{fits, pairs_of, value_in, first_of, fault_by, fault_here, pair_fault, missing_by, missing_from, is_file_of, is_file_in, has_file, same_here, same_from, option_fault}
 use Rattle.verb_command_line.specs.CommandView.{rule_of, place_of}
-use Rattle.verb_command_line.proofs.ListLemmas.{same_bytes, Each-back, EachTwo-at, is_false}
+use Rattle.verb_command_line.proofs.ListLemmas.{Each-back, EachTwo-at}
 use Rattle.verb_command_line.proofs.FitLemmas.{fits-Fits, Fits-fits}
 use Rattle.verb_command_line.proofs.PairLemmas.{pairs_of-spread, not-none, given-some}
 use Rattle.verb_command_line.proofs.SoundLemmas.{next_of, has_sound, file_sound}
+use Rattle.base_values.proofs.ListLaws.{same_bytes}
 
 -- An option that fits is no fault.
 here_clear : (options : List Choice) (before : List Given) (option value : Text) (k : OptionKind) → kind_in options option ≡ Some k → Fits k value → IsNotGiven before option →
@@ -88,7 +89,7 @@ given_pair P (p ∷ ps) q f (inr more) = given_pair P ps q f.1 more
 
 different_clear : (options : List Choice) (before : List Given) (p : Given) → Each (λ q. SameFile options q p → ⊥) before → same_here options before p ≡ None
 different_clear options before p different =
-    let off : (is_file_in options p.option && has_file options before p.value) ≡ false = is_false (is_file_in options p.option && has_file options before p.value) clash in
+    let off : (is_file_in options p.option && has_file options before p.value) ≡ false = false_from_ne_true (is_file_in options p.option && has_file options before p.value) clash in
     ap (λ t. if t then Some (fault.SameName (option_place before + 1)) else None) off where
       clash : (is_file_in options p.option && has_file options before p.value) ≡ true → ⊥
       clash e =
@@ -152,7 +153,7 @@ option_complete options words rule place (bad_number before option value after k
   found = found_at options words before option (value ∷ after) (fault.BadNumber (option_place before + 1)) spelled law
       (ap (λ o. fault_by o (value_in before option) (Some value) (option_place before)) known
       ∙ ap (λ e. fault_by (Some k) e (Some value) (option_place before)) (not-none before option new)
-      ∙ ap (λ t. if t then None else Some (fault.BadNumber (option_place before + 1))) (is_false (fits k value) (λ e. unfit (fits-Fits k value e))));
+      ∙ ap (λ t. if t then None else Some (fault.BadNumber (option_place before + 1))) (false_from_ne_true (fits k value) (λ e. unfit (fits-Fits k value e))));
   rule_is = refl;
   place_is = refl;
 }

@@ -3,7 +3,7 @@ use Rattle.std.proofs.Common.{◌≡◌, ◌⊎◌, inl, inr, ⊎_elim, ℕ, ◌
 use Rattle.std.specs.Prelude.{nat_eq}
 use Rattle.std.proofs.lemmas.Bool.Decides.{nat_tests}
 use Rattle.std.proofs.lemmas.List.{append-nil}
-use Rattle.std.proofs.lemmas.Bool.{false≢true, and_parts, and_from, or_cases, or_left, or_right}
+use Rattle.std.proofs.lemmas.Bool.{false≢true, and_parts, and_from, or_cases, or_left, or_right, not-true, false_from_ne_true}
 use Rattle.base_values.specs.declared.limits.TheConstants.{MOST_FAULTS}
 use Rattle.verb_command_line.specs.declared.choice.OptionKind.TheVariants as kind
 use Rattle.verb_command_line.specs.declared.fault.WordFault.{WordFault}
@@ -13,13 +13,14 @@ use Rattle.verb_command_line.specs.Sets.{Each, number_of, IsNumeral, words_of, I
 use Rattle.verb_command_line.specs.Table.{Choice, kind_in, IsWithin, Fits, options_of}
 use Rattle.verb_command_line.specs.Meaning.{Gives, IsGiven, IsLawful, AreLawful, AreThere, option_place, IsOneOf, IsOfPair, IsOutside, not_of_set, both_one, IsInside, AreInside}
 use Rattle.verb_command_line.specs.WordReading.{number_in, value_in, text_in, first_of, same_number, has_number, is_second, is_of_pair, is_outside, outside_here, outside_from, set_fault_by, set_fault}
-use Rattle.verb_command_line.proofs.ListLemmas.{bytes_same, same_bytes, Each-append, is_false}
+use Rattle.verb_command_line.proofs.ListLemmas.{bytes_same, Each-append}
 use Rattle.verb_command_line.proofs.NumberLemmas.{numbered, true-is_numeral}
 use Rattle.verb_command_line.proofs.PairLemmas.{value-given, given-value}
 use Rattle.verb_command_line.proofs.SoundLemmas.{first_none, different_by}
 use Rattle.verb_command_line.proofs.ValueLemmas.{fits_given, text_given, text_is}
 use Rattle.verb_command_line.specs.declared.verb.Verb.{Verb}
 use Rattle.verb_command_line.specs.declared.verb.Verb.TheVariants as verb
+use Rattle.base_values.proofs.ListLaws.{same_bytes}
 
 number_is : (w : Text) → IsNumeral w → number_in w ≡ Some (number_of w)
 number_is w n = numbered w (true-is_numeral w n)
@@ -53,10 +54,6 @@ pair_complete : (option : Text) → IsOfPair option → is_of_pair option ≡ tr
 pair_complete option (inl e) = or_left _ _ (same_bytes option (codes "--first") e)
 pair_complete option (inr e) = or_right _ _ (same_bytes option (codes "--second") e)
 
-not_true : (t : Bool) → not t ≡ true → t ≡ false
-not_true true e = absurd (false≢true e)
-not_true false e = refl
-
 true_not : (t : Bool) → t ≡ false → not t ≡ true
 true_not t e = ap not e
 
@@ -70,7 +67,7 @@ module _ (set first : Text) (ns : Each IsNumeral (words_of set)) (n : IsNumeral 
       ⊎_elim
       (λ h. let both = and_parts (is_of_pair p.option) (not (has_number (words_of set) (number_in p.value))) h in
       let pair = pair_sound p.option both.0 in
-      not_of_set pair (λ has. false≢true (sym (not_true (has_number (words_of set) (number_in p.value)) both.1) ∙ has_complete (words_of set) p.value ns (is pair) has)))
+      not_of_set pair (λ has. false≢true (sym (not-true (has_number (words_of set) (number_in p.value)) both.1) ∙ has_complete (words_of set) p.value ns (is pair) has)))
       (λ h. let both = and_parts (is_second p.option) (same_number (number_in first) (number_in p.value)) h in
       let second : p.option ≡ codes "--second" = bytes_same p.option (codes "--second") both.0 in
       both_one second (equal_tests (number_of first) (number_of p.value) (sym (same_is first p.value n (is (inr second))) ∙ both.1)))
@@ -79,13 +76,13 @@ module _ (set first : Text) (ns : Each IsNumeral (words_of set)) (n : IsNumeral 
   outside_complete : (p : Given) → IsNumbered p → IsOutside set first p → is_outside set first p.option p.value ≡ true
   outside_complete p is (not_of_set pair none) =
       or_left _ _ (and_from _ _ (pair_complete p.option pair)
-      (true_not (has_number (words_of set) (number_in p.value)) (is_false (has_number (words_of set) (number_in p.value)) (λ e. none (has_sound (words_of set) p.value ns (is pair) e)))))
+      (true_not (has_number (words_of set) (number_in p.value)) (false_from_ne_true (has_number (words_of set) (number_in p.value)) (λ e. none (has_sound (words_of set) p.value ns (is pair) e)))))
   outside_complete p is (both_one second same) =
       or_right _ _ (and_from _ _ (same_bytes p.option (codes "--second") second) (same_is first p.value n (is (inr second)) ∙ tests_equal (number_of first) (number_of p.value) same))
 
   here_none : (before : List Given) (p : Given) → IsNumbered p → IsInside set first p → outside_here set first before p ≡ None
   here_none before p is inside =
-      ap (λ t. if t then Some (fault.NotInSet (option_place before + 1)) else None) (is_false (is_outside set first p.option p.value) (λ e. inside (outside_sound p is e)))
+      ap (λ t. if t then Some (fault.NotInSet (option_place before + 1)) else None) (false_from_ne_true (is_outside set first p.option p.value) (λ e. inside (outside_sound p is e)))
 
   from_none : (before ps : List Given) → Each IsNumbered ps → outside_from set first before ps ≡ None → Each (IsInside set first) ps
   from_none before [] is e = tt

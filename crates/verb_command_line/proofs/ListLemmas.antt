@@ -1,15 +1,12 @@
 -- Lists, texts and tests.
 use Rattle.std.proofs.Common.{◌≡◌, ◌≢◌, ℕ, Bool, true, false, List, [], ◌∷◌, ◌++◌, sym, ◌∙◌, refl}
 use Rattle.std.specs.Str.{bytes_eq}
-use Rattle.std.proofs.lemmas.Bool.{false≢true}
+use Rattle.std.proofs.lemmas.Bool.{false≢true, false_from_ne_true}
 use Rattle.std.proofs.lemmas.Slice.Eq.{bytes_eq-Decides}
 use Rattle.verb_command_line.specs.Meaning.{Each, EachTwo}
 
 pub bytes_same : (a b : List ℕ) → bytes_eq a b ≡ true → a ≡ b
 bytes_same a b e = (bytes_eq-Decides a b).0 e
-
-pub same_bytes : (a b : List ℕ) → a ≡ b → bytes_eq a b ≡ true
-same_bytes a b same = (bytes_eq-Decides a b).1 same
 
 pub bytes_differ : (a b : List ℕ) → bytes_eq a b ≡ false → a ≢ b
 bytes_differ a b e same = false≢true (sym e ∙ (bytes_eq-Decides a b).1 same)
@@ -37,7 +34,3 @@ EachTwo-push R (x ∷ xs) y f g = (Each-append (R x) xs (y ∷ []) f.0 (g.0, tt)
 pub EachTwo-at : {A : Type 0} (R : A → A → Type 0) (xs : List A) (y : A) (ys : List A) → EachTwo R (xs ++ y ∷ ys) → Each (λ x. R x y) xs
 EachTwo-at R [] y ys f = tt
 EachTwo-at R (x ∷ xs) y ys f = ((Each-back (R x) xs (y ∷ ys) f.0).0, EachTwo-at R xs y ys f.1)
-
-pub is_false : (t : Bool) → (t ≡ true → ⊥) → t ≡ false
-is_false true f = absurd (f refl)
-is_false false f = refl

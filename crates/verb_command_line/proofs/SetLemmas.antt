@@ -14,8 +14,9 @@ use Rattle.verb_command_line.specs.Commands.{Text}
 use Rattle.verb_command_line.specs.Sets.{Each, number_of, IsNumeral, words_of, numbers_of, AreRising, IsSet}
 use Rattle.verb_command_line.specs.Table.{IsClaim}
 use Rattle.verb_command_line.specs.WordReading.{is_numeral, number_in, if_small, rises_by, is_rising, is_set_text, is_claim, words_left, smalls, small_then}
-use Rattle.verb_command_line.proofs.ListLemmas.{bytes_same, same_bytes}
+use Rattle.verb_command_line.proofs.ListLemmas.{bytes_same}
 use Rattle.verb_command_line.proofs.NumberLemmas.{is_numeral-true, true-is_numeral, numbered}
+use Rattle.base_values.proofs.ListLaws.{same_bytes}
 
 rises_sound : (last : ℕ) (w : Text) (t : Bool) → is_numeral w ≡ t → rises_by last (if t then Some (number_of w) else None) ≡ true → IsNumeral w × (last < number_of w) × (number_of w ≤ MOST_FAULTS)
 rises_sound last w true is e =

@@ -12,9 +12,10 @@ use Rattle.verb_command_line.specs.Table.{Choice, kind_in}
 use Rattle.verb_command_line.specs.Meaning.{Each, Gives, IsNotGiven, IsLawful, AreLawful, IsThere, AreThere, IsFile, SameFile, AreDifferent, option_place, BreaksOption, unknown_option, comes_twice, no_value, bad_number, missing, same_name}
 use Rattle.verb_command_line.specs.WordReading.{fits, pairs_of, value_in, first_of, fault_by, fault_here, pair_fault, missing_by, missing_from, is_file_of, is_file_in, has_file, same_here, same_from, option_fault}
 use Rattle.verb_command_line.specs.CommandView.{rule_of, place_of}
-use Rattle.verb_command_line.proofs.ListLemmas.{bytes_same, same_bytes, Each-append, EachTwo-push}
+use Rattle.verb_command_line.proofs.ListLemmas.{bytes_same, Each-append, EachTwo-push}
 use Rattle.verb_command_line.proofs.FitLemmas.{fits-Fits, Fits-fits}
 use Rattle.verb_command_line.proofs.PairLemmas.{spread-append, value-given, none-not}
+use Rattle.base_values.proofs.ListLaws.{same_bytes}
 
 -- Two outcomes one after another.
 pub first_cases : (a b : Option WordFault) (f : WordFault) → first_of a b ≡ Some f → (a ≡ Some f) ⊎ ((a ≡ None) × (b ≡ Some f))

@@ -1,6 +1,6 @@
 -- Words, commands, faults and options of the program as contracts see them.
-use Rattle.std.specs.Prelude.{ℕ, List, map, Result, Ok, Err}
-use Rattle.std.specs.Borrow.{Bor}
+use Rattle.std.specs.Prelude.{ℕ, Result, Ok, Err}
+pub use Rattle.base_values.specs.BorrowedTexts.{texts}
 use Rattle.verb_command_line.specs.declared.choice.Choice.{Choice}
 use Rattle.verb_command_line.specs.declared.fault.WordFault.{WordFault}
 use Rattle.verb_command_line.specs.declared.fault.WordFault.TheVariants as fault
@@ -8,9 +8,6 @@ use Rattle.verb_command_line.specs.declared.command.Command.{Command}
 use Rattle.verb_command_line.specs.declared.command.Command.TheVariants as command
 use Rattle.verb_command_line.specs.Commands as meant
 use Rattle.verb_command_line.specs.Table as table
-
-abbrev pub texts : List (Bor (List ℕ)) → List (List ℕ)
-texts words = map (λ w. w.now) words
 
 abbrev pub viewed : Choice → table.Choice
 viewed c = record { name = c.name.now; kind = c.kind; required = c.required }

@@ -2,12 +2,9 @@
 use Rattle.std.specs.Prelude.{◌≡◌, ℕ, ◌+◌, ◌*◌, ◌-◌, ◌^◌, ◌≤◌, ◌<◌, ◌==◌, true, List, [], ◌∷◌, length, map}
 use Rattle.std.specs.Char.{is_ascii_digit}
 use Rattle.std.specs.List.{list_all, slice_split}
+pub use Rattle.std.specs.List.{AllByRecursion as Each}
 use Rattle.base_values.specs.declared.limits.TheConstants.{MOST_FAULTS}
 use Rattle.verb_command_line.specs.Commands.{Text}
-
-abbrev pub Each : {A : Type 0} → (A → Type 0) → List A → Type 0
-Each P [] = Unit {0}
-Each P (x ∷ xs) = P x × Each P xs
 
 -- the number that decimal digits stand for: each counts as often as its place says
 abbrev pub number_of : Text → ℕ

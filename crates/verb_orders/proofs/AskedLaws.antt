@@ -16,7 +16,6 @@ use Rattle.fault_weave.specs.WovenProgram.{woven}
 use Rattle.fault_weave.specs.Faults.{Fault}
 use Rattle.fault_weave.specs.ExtensionTraces.{Moment}
 use Rattle.sat_encoding_laws.specs.FlatTraces.{IsNumbered}
-use Rattle.smv_flat_laws.proofs.Lists.{get_within}
 use Rattle.cert_laws.specs.ExtendedTraces.{IsExtensionModel}
 use Rattle.cut_search.specs.declared.answer.End.{End}
 use Rattle.cut_search.specs.declared.answer.End.TheVariants.{Complete, Bounded}
@@ -41,6 +40,7 @@ use Rattle.verb_orders.specs.Pairs.{IsStagedCase, HoldsPair}
 use Rattle.verb_orders.specs.Orders.{AreFaults, IsOfEnding, IsClaimed, staged_of, against_of}
 use Rattle.verb_orders.specs.ClaimSearch.{SpeaksFor}
 use Rattle.verb_orders.proofs.PairLaws.{count_of_faults}
+use Rattle.base_values.proofs.ListLaws.{get_within}
 
 -- two faults of a case, with their modes
 pub record TheFaults (c : Case) (tree : Tree FlatLeaf) (set : List ℕ) (first second : ℕ) : Type 0 where

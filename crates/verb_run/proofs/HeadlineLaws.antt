@@ -21,6 +21,7 @@ use Rattle.cut_model_search.specs.CaseAnalysis.{size_for, HasChain, EndsBy}
 use Rattle.verb_run.specs.Analyses.{ended_with, Certifies, AreWritten, HasAnalysed}
 use Rattle.verb_run.specs.Headline.{IsAnalysed, AreMinimal, IsComplete, IsBounded, AnswersAreTheHeadline}
 use Rattle.verb_loading.proofs.WovenSpells.{woven_text_spells}
+use Rattle.std.proofs.lemmas.Option.{same_Some}
 
 different : (a b : Text) → (a ≡ b → ⊥) → bytes_eq a b ≡ false
 different a b n = by (bytes_eq a b) refl
@@ -42,9 +43,6 @@ other_file (file ∷ files) name other bytes n = by_name (bytes_eq file.name nam
         by_other : (t : Bool) → (if t then Some file.bytes else file_of (with_file files name bytes) other) ≡ (if t then Some file.bytes else file_of files other)
         by_other true = refl
         by_other false = h
-
-some_same : (a b : List NamedFile) → Some a ≡ Some b → a ≡ b
-some_same a b e = cc
 
 -- the sets of a complete analysis are the minimal cut sets
 sets_are_minimal : (c : Case) (event : Formula) (size : ℕ) (a : Analysis) → a.ending ≡ complete → IsAnalysisOf c.program c.instructions c.faults c.flat event size a → AreMinimal c event size a.sets
@@ -85,7 +83,7 @@ module _ (before after : List NamedFile) (said now : Said) (model faults top ext
       by_ending : (ending : Ending) → h.analysis.ending ≡ ending → status.Done ≡ ended_with ending → AreWritten c h.event (size_for size (length c.faults)) h.analysis extended cert (Some before) (Some after) ending →
           IsComplete before after said now model faults top extended cert size
       by_ending complete is ends w =
-          let files : after ≡ with_file (with_file before extended (extension_text c)) cert w.0 = some_same after (with_file (with_file before extended (extension_text c)) cert w.0) w.2 in
+          let files : after ≡ with_file (with_file before extended (extension_text c)) cert w.0 = same_Some after (with_file (with_file before extended (extension_text c)) cert w.0) w.2 in
           record {
             analysed =
                 analysed status.Done h complete is
@@ -105,7 +103,7 @@ module _ (before after : List NamedFile) (said now : Said) (model faults top ext
           EndsBy c h.event (size_for size (length c.faults)) depth h.analysis.sets ending → (k ≡ depth) × IsBounded before after said now model faults top extended cert depth size
       by_ending complete is ends w by = absurd (never_bounded k (sym ends))
       by_ending (bounded j) is ends w by =
-          let files : after ≡ with_file before extended (extension_text c) = some_same after (with_file before extended (extension_text c)) w in (
+          let files : after ≡ with_file before extended (extension_text c) = same_Some after (with_file before extended (extension_text c)) w in (
             same_bound k j ends ∙ by.0,
             record {
               analysed = analysed (status.Bounded k) h (bounded depth) (is ∙ ap bounded by.0) (ap (λ fs. file_of fs extended) files ∙ file_of-with_file before extended (extension_text c));

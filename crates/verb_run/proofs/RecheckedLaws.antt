@@ -53,6 +53,7 @@ use Rattle.verb_run.specs.Runs.{Outcome, CheckComesTo, refuses_check, is_checked
 use Rattle.verb_run.specs.LaterChecks.{AnalysesAreAccepted, CausesAreAccepted, OrdersAreAccepted}
 use Rattle.verb_run.proofs.ExtensionLemmas.{refused_not_asked}
 use Rattle.verb_run.proofs.OneEvent.{event_not_refused}
+use Rattle.std.proofs.lemmas.Option.{same_Some}
 
 -- ---- what both runs have
 
@@ -130,9 +131,6 @@ analyses_are_accepted before after files said now model faults top extended cert
 not_bounded : {A : Type 0} (k : ℕ) → status.Done ≡ status.Bounded k → A
 not_bounded k e = cc
 
-same_files : (a b : List NamedFile) → Some a ≡ Some b → a ≡ b
-same_files a b e = cc
-
 -- the certificate of a search that is complete
 module _ (m : FlatModel) (es : List Mode) (tree : Tree FlatLeaf) (a : Certificate) (certified : IsCertified m es tree (GivesTrace m) (subject_of (with_history m es) m es tree) a) where
   breaks_no_line : BreaksNoLine m es tree a
@@ -179,7 +177,7 @@ causes_are_accepted before after files said now model faults file top cert other
     by_end (Bounded k) ends text certified written = not_bounded k ends
     by_end (Complete clauses) ends None certified written = absurd certified
     by_end (Complete clauses) ends (Some bytes) certified written =
-        by_bytes bytes certified (ap (λ fs. file_of fs cert) (same_files after (with_file before cert bytes) written) ∙ file_of-with_file before cert bytes)
+        by_bytes bytes certified (ap (λ fs. file_of fs cert) (same_Some after (with_file before cert bytes) written) ∙ file_of-with_file before cert bytes)
 
 -- ---- orders
 
@@ -225,4 +223,4 @@ orders_are_accepted before after files said now model faults top set cert other_
     by_ending : (ending : Ending) → status.Done ≡ ended_with ending → IsClaimWritten h.c (numbers_of set) first second h.found.tree (claimed claim) ending cert (Some before) (Some after) → s ≡ status.Done
     by_ending (bounded k) ends written = not_bounded k ends
     by_ending complete ends (bytes, certifies, left) =
-        by_bytes bytes certifies (ap (λ fs. file_of fs cert) (same_files after (with_file before cert bytes) left) ∙ file_of-with_file before cert bytes)
+        by_bytes bytes certifies (ap (λ fs. file_of fs cert) (same_Some after (with_file before cert bytes) left) ∙ file_of-with_file before cert bytes)

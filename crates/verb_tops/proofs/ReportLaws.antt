@@ -1,7 +1,7 @@
 -- Events that were analysed one after the other: one more, and all of them.
 use Rattle.std.proofs.Common.{arith, ◌≡◌, Bool, true, false, ℕ, zero, suc, ◌+◌, ◌<◌, ◌≤◌, ◌++◌, List, [], ◌∷◌, Option, Some, None, length, map, take, get_or, refl, sym, ap, subst, ◌∙◌}
 use Rattle.std.specs.Prelude.{nat_eq}
-use Rattle.std.proofs.lemmas.List.{take_more, take_all, length-take-le}
+use Rattle.std.proofs.lemmas.List.{take_more, take_all, length-take-le, map-append, nil_from_length}
 use Rattle.base_files.specs.Desk.{said_more}
 use Rattle.smv_language.specs.Trace.{EachBoth}
 use Rattle.smv_language.specs.ProgramTree.{Text, Formula}
@@ -25,10 +25,6 @@ ends_more [] complete = refl
 ends_more [] (bounded k) = refl
 ends_more (complete ∷ es) e = ends_more es e
 ends_more (bounded k ∷ es) e = refl
-
-map_more : {A B : Type 0} (f : A → B) (xs : List A) (x : A) → map f (xs ++ x ∷ []) ≡ map f xs ++ f x ∷ []
-map_more f [] x = refl
-map_more f (y ∷ xs) x = ap (λ t. f y ∷ t) (map_more f xs x)
 
 -- The files and what was said.
 certified_by : (c : Case) (e : Formula) (size : ℕ) (a : Analysis) (name : Text) (before after : Told) (ending : Ending) (cert : Option (List ℕ)) →
@@ -70,7 +66,7 @@ has_reported_more c es depth size stem s before mid after said mid_said now had 
       ends =
           ends ∙ ap (λ r. joined_with r (told_ending f.ending)) had.ends ∙ ap (joined_with (ended_with_all (map (λ (x : Analysis). x.ending) had.analyses))) it.ends
           ∙ sym (ends_more (map (λ (x : Analysis). x.ending) had.analyses) it.analysis.ending)
-          ∙ ap ended_with_all (sym (map_more (λ (x : Analysis). x.ending) had.analyses it.analysis));
+          ∙ ap ended_with_all (sym (map-append (λ (x : Analysis). x.ending) had.analyses (it.analysis ∷ [])));
     }
 
 -- none
@@ -120,11 +116,6 @@ module _ {A B C : Type 0} (R : A → C → Type 0) (g : B → C) where
   no_events [] (b ∷ ts) h none = absurd h
   no_events (e ∷ es) [] h none = absurd h
   no_events (e ∷ es) (b ∷ ts) h none = cc
-
--- whether a list has an element
-pub none_there : {A : Type 0} (xs : List A) → length xs ≡ 0 → xs ≡ []
-none_there [] none = refl
-none_there (x ∷ xs) none = absurd (omega (arith, none))
 
 pub some_there : {A : Type 0} (xs : List A) (b : Bool) → b ≡ nat_eq (length xs) 0 → b ≡ false → 0 < length xs
 some_there [] b e is = absurd (never (sym e ∙ is))

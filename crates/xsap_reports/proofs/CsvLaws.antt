@@ -2,7 +2,7 @@
 use Rattle.std.proofs.Common.{◌≡◌, ℕ, zero, suc, ◌-◌, ◌/◌, ◌%◌, ◌+◌, ◌<◌, ◌≤◌, Bool, true, false, List, [], ◌∷◌, ◌++◌, length, refl, sym, ◌∙◌, ap, arith}
 use Rattle.std.specs.Borrow.{Bor}
 use Rattle.std.specs.Prelude.{cond, if◌then◌else◌, nat_eq, nat_lt, ◌==◌, ◌||◌, ◌&&◌, map, slice_get, All}
-use Rattle.std.proofs.lemmas.Bool.{eqb-true, ltb-true}
+use Rattle.std.proofs.lemmas.Bool.{eqb-true, ltb-true, false_from_ne_true}
 use Rattle.std.specs.List.{list_any, list_all, AllByRecursion}
 use Rattle.std.specs.Fmt.{decimal, digits, digits_onto, digit_glyph}
 use Rattle.std.proofs.lemmas.List.{append_assoc, append-nil}
@@ -33,12 +33,8 @@ and_right false b e = cc
 
 -- digits are not special
 
-pub is_false : (t : Bool) → (t ≡ true → ⊥) → t ≡ false
-is_false true f = absurd (f refl)
-is_false false f = refl
-
 pub apart : (c k : ℕ) → k < c → nat_eq c k ≡ false
-apart c k less = is_false (nat_eq c k) (λ e. let same : c ≡ k = eqb-true c k e in omega (arith, less, same))
+apart c k less = false_from_ne_true (nat_eq c k) (λ e. let same : c ≡ k = eqb-true c k e in omega (arith, less, same))
 
 above : (c : ℕ) → 44 < c → is_special c ≡ false
 above c high =

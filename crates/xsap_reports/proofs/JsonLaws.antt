@@ -1,12 +1,12 @@
 -- What stands under `sets` in a report's JSON are its sets.
 use Rattle.std.proofs.Common.{◌≡◌, ℕ, zero, suc, ◌/◌, ◌%◌, ◌+◌, ◌<◌, Bool, true, false, List, [], ◌∷◌, ◌++◌, length, refl, sym, ◌∙◌, ap, arith, codes}
 use Rattle.std.specs.Prelude.{cond, if◌then◌else◌, nat_eq, nat_lt, ◌==◌, ◌||◌, ◌&&◌, map, All}
-use Rattle.std.proofs.lemmas.Bool.{eqb-true, lt-ltb}
+use Rattle.std.proofs.lemmas.Bool.{eqb-true, lt-ltb, false_from_ne_true}
 use Rattle.std.specs.List.{list_any, list_all, AllByRecursion}
 use Rattle.std.specs.Fmt.{decimal, digits, digits_onto, digit_glyph}
 use Rattle.std.proofs.lemmas.List.{append_assoc, append-nil}
 use Rattle.std.proofs.lemmas.List.Elements.{recursion_from_All}
-use Rattle.xsap_reports.proofs.CsvLaws.{or_false, or_left, or_right, and_left, and_right, is_false, all_plain, sets_named}
+use Rattle.xsap_reports.proofs.CsvLaws.{or_false, or_left, or_right, and_left, and_right, all_plain, sets_named}
 use Rattle.xsap_reports.specs.Json.{Token, sign, string, plain, is_blank, is_sign, between, within, inside, behind, tokens_from, tokens, items_from, characters, names_of, sets_in_json}
 use Rattle.xsap_reports.specs.JsonText.{escaped_byte, escaped, quoted_string, more_strings, strings, more_numbers, numbers, set_object, behind_commas, with_commas, json_text}
 use Rattle.xsap_reports.specs.Reports.{is_plain, is_word, IsListed, names_in, set_names, HasNames}
@@ -65,10 +65,10 @@ abbrev ends : ℕ → Bool
 ends b = nat_eq b 34 || (is_blank b || is_sign b)
 
 low : (c k : ℕ) → 47 < c → k < 48 → nat_eq c k ≡ false
-low c k l m = is_false (nat_eq c k) (λ e. let s : c ≡ k = eqb-true c k e in omega (arith, l, m, s))
+low c k l m = false_from_ne_true (nat_eq c k) (λ e. let s : c ≡ k = eqb-true c k e in omega (arith, l, m, s))
 
 high : (c k : ℕ) → c < 58 → 57 < k → nat_eq c k ≡ false
-high c k l m = is_false (nat_eq c k) (λ e. let s : c ≡ k = eqb-true c k e in omega (arith, l, m, s))
+high c k l m = false_from_ne_true (nat_eq c k) (λ e. let s : c ≡ k = eqb-true c k e in omega (arith, l, m, s))
 
 digit_inside : (c : ℕ) → 47 < c → c < 58 → ends c ≡ false
 digit_inside c l m =

@@ -5,12 +5,12 @@ use Rattle.std.specs.Prelude.{cond, nat_eq, ◌||◌, ◌&&◌, map, slice_get, 
 use Rattle.std.specs.Fmt.{decimal}
 use Rattle.std.specs.List.{list_any, AllByRecursion}
 use Rattle.std.specs.Str.{bytes_eq}
-use Rattle.std.proofs.lemmas.Bool.{eqb-true}
+use Rattle.std.proofs.lemmas.Bool.{eqb-true, false_from_ne_true}
 use Rattle.std.proofs.lemmas.Fmt.{decimal_injective}
 use Rattle.std.proofs.lemmas.List.{append_assoc, append-nil}
 use Rattle.std.proofs.lemmas.List.Elements.{recursion_from_All}
 use Rattle.std.proofs.lemmas.Slice.Eq.{bytes_eq-Decides}
-use Rattle.xsap_reports.proofs.CsvLaws.{or_false, or_left, or_right, is_false, apart, decimal_lacks}
+use Rattle.xsap_reports.proofs.CsvLaws.{or_false, or_left, or_right, apart, decimal_lacks}
 use Rattle.xsap_reports.specs.Mef.{Sets, Open, fed, ended, formula, gate_sets, label_in, label_of, sets_in_tree}
 use Rattle.xsap_reports.specs.MefText.{xml_byte, xml_text, event_of, events_of, all_of, set_gate, set_gates, gate_begin, gate_end, gate_of, gates_of, any_of, definition_begin, definition_end, definition, definitions, head, middle, end_of_events, set_numbers, fault_names, tree_text}
 use Rattle.xsap_reports.specs.Reports.{IsListed, HasNames, name_at, name_or_none, names_in, set_names}

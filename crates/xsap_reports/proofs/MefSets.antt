@@ -9,24 +9,22 @@ use Rattle.std.proofs.lemmas.Fmt.{decimal_injective}
 use Rattle.std.proofs.lemmas.List.{append_assoc, append-nil, length-map}
 use Rattle.std.proofs.lemmas.List.Elements.{recursion_from_All}
 use Rattle.std.proofs.lemmas.Slice.Eq.{bytes_eq-Decides}
-use Rattle.xsap_reports.proofs.CsvLaws.{is_false}
 use Rattle.xsap_reports.proofs.MefLaws.{line, nl, event, gate, named, events_tokens, all_tokens, set_gate_tokens, set_gates_tokens, gates_tokens, any_tokens, definitions_tokens, events_part, document, text_lexed}
 use Rattle.xsap_reports.specs.Mef.{Sets, Open, fed, ended, formula, gate_sets, label_in, label_of, sets_in_tree}
 use Rattle.xsap_reports.specs.MefText.{set_numbers, fault_names, tree_text}
 use Rattle.xsap_reports.specs.Reports.{IsListed, HasNames, name_at, name_or_none, names_in, set_names}
 use Rattle.xsap_reports.specs.Xml.{Token, start, end, letters, tokens, behind_start}
 use Rattle.xsap_reports.specs.declared.report.Report.{Report}
+use Rattle.std.proofs.lemmas.Bool.{false_from_ne_true}
+use Rattle.base_values.proofs.ListLaws.{same_bytes}
 
 -- names of gates and of events are as different as their numbers
 
 tail_same : (c : ℕ) (xs ys : List ℕ) → c ∷ xs ≡ c ∷ ys → xs ≡ ys
 tail_same c xs ys e = cc
 
-found : (xs ys : List ℕ) → xs ≡ ys → bytes_eq xs ys ≡ true
-found xs ys e = (bytes_eq-Decides xs ys).1 e
-
 passed : (c j k : ℕ) → j < k → k < 2 ^ 64 → bytes_eq (c ∷ decimal j) (c ∷ decimal k) ≡ false
-passed c j k less bound = is_false (bytes_eq (c ∷ decimal j) (c ∷ decimal k)) (λ e.
+passed c j k less bound = false_from_ne_true (bytes_eq (c ∷ decimal j) (c ∷ decimal k)) (λ e.
     let texts : decimal j ≡ decimal k = tail_same c (decimal j) (decimal k) ((bytes_eq-Decides (c ∷ decimal j) (c ∷ decimal k)).0 e) in
     let numbers : j ≡ k = decimal_injective j k (omega (arith, less, bound)) bound texts in
     omega (arith, less, numbers))
@@ -133,7 +131,7 @@ gates_are d j (set ∷ sets) whole ts bound h =
     let body : List Token = all_tokens set (nl ∷ end (codes "define-gate") ∷ more) in
     let here : behind_start (codes "define-gate") (gate j) whole ≡ body
     = h j (omega arith) (omega (arith, bound))
-    ∙ chosen (bytes_eq (gate j) (gate j)) body (behind_start (codes "define-gate") (gate j) body) (found (gate j) (gate j) refl) in (
+    ∙ chosen (bytes_eq (gate j) (gate j)) body (behind_start (codes "define-gate") (gate j) body) (same_bytes (gate j) (gate j) refl) in (
       ap (λ b. formula (gate_sets d whole) ((false, []) ∷ []) b) here ∙ set_formula (gate_sets d whole) set more,
       gates_are d (suc j) sets whole ts (omega (arith, bound)) (λ k least most.
           h k (omega (arith, least)) most ∙ skip_set_gate j set (gate k) more (passed 115 j k (omega (arith, least)) most)),
@@ -153,7 +151,7 @@ label_found (name ∷ names) zero j k ts e less most =
     let more : List Token = definitions_tokens (suc j) (map (λ it. it.now) names) ts in
     let body : List Token = nl ∷ start (codes "label") [] ∷ letters name.now ∷ end (codes "label") ∷ nl ∷ end (codes "define-basic-event") ∷ more in
     let same : j ≡ k = omega (arith, e) in
-    ap label_in (chosen (bytes_eq (event j) (event k)) body (behind_start (codes "define-basic-event") (event k) body) (found (event j) (event k) (ap event same)))
+    ap label_in (chosen (bytes_eq (event j) (event k)) body (behind_start (codes "define-basic-event") (event k) body) (same_bytes (event j) (event k) (ap event same)))
 label_found (name ∷ names) (suc i) j k ts e less most =
     let more : List Token = definitions_tokens (suc j) (map (λ it. it.now) names) ts in
     let body : List Token = nl ∷ start (codes "label") [] ∷ letters name.now ∷ end (codes "label") ∷ nl ∷ end (codes "define-basic-event") ∷ more in

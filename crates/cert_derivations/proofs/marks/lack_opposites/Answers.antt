@@ -1,8 +1,9 @@
 use Rattle.std.proofs.Common.{◌≡◌, ◌≤◌, IsTrue, All, false, refl, arith}
 use Rattle.std.proofs.lemmas.Bool.{false≢true, both_ways}
 use Rattle.cert_derivations.specs.Marks.{LacksIn}
-use Rattle.cert_derivations.proofs.MarkLaws.{one_more, lacks_in_each, lacks_in_all}
+use Rattle.cert_derivations.proofs.MarkLaws.{lacks_in_each, lacks_in_all}
 use Rattle.cert_derivations.proofs.marks.lack_opposites.Goals as goal
+use Rattle.base_values.proofs.NumberLaws.{one_more}
 
 pub returns-then-not-lack_opposites_in : goal.returns-then-not-lack_opposites_in
 returns-then-not-lack_opposites_in c =

@@ -3,8 +3,8 @@ use Rattle.std.proofs.lemmas.List.{take_all}
 use Rattle.std.proofs.lemmas.List.Elements.{All-more}
 use Rattle.sat_clauses.specs.Literal.{Literal}
 use Rattle.sat_clauses.specs.Derivation.{IsUpTo}
-use Rattle.cut_frames.proofs.AnswerLemmas.{all_raised, lists_raised}
 use Rattle.cut_frames.proofs.highest.highest.Goals as goal
+use Rattle.sat_simplify.proofs.UnreadLaws.{all_raised, lists_raised}
 
 pub loop-clause-preserved : goal.loop-clause-preserved
 loop-clause-preserved c =

@@ -3,8 +3,8 @@ use Rattle.std.proofs.lemmas.List.{take_all}
 use Rattle.std.proofs.lemmas.List.Elements.{All-more}
 use Rattle.sat_clauses.specs.Literal.{Literal}
 use Rattle.sat_clauses.specs.Derivation.{IsUpTo}
-use Rattle.cut_frames.proofs.AnswerLemmas.{all_raised}
 use Rattle.cut_frames.proofs.highest.highest_of.Goals as goal
+use Rattle.sat_simplify.proofs.UnreadLaws.{all_raised}
 
 pub loop-lit-preserved : goal.loop-lit-preserved
 loop-lit-preserved c =

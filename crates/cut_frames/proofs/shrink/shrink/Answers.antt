@@ -1,12 +1,12 @@
 use Rattle.std.proofs.Common.{◌≡◌, ◌+◌, ◌++◌, ◌∷◌, [], All, sym, subst, arith, take, get_or}
-use Rattle.cut_frames.specs.Bits.{values_of}
 use Rattle.cut_frames.specs.Levels.{frames_of}
 use Rattle.cut_frames.specs.Minimal.{IsNeeded}
 use Rattle.cut_frames.proofs.ShrinkLemmas.{all_less}
 use Rattle.cut_frames.proofs.PartLemmas.{one_all, take_part}
-use Rattle.std.proofs.lemmas.List.{get_or_default, take_more, take_all}
+use Rattle.std.proofs.lemmas.List.{take_more, take_all, get_or_default}
 use Rattle.std.proofs.lemmas.List.Elements.{All-append}
 use Rattle.cut_frames.proofs.shrink.shrink.Goals as goal
+use Rattle.sat_clauses.specs.Models.{values_of}
 
 pub literals-init : goal.literals-init
 literals-init g c = (c.in_ok-fewer.ensures.values, (λ k d lt. absurd (omega (arith, lt))), c.in_ok-fewer.ensures.kept)

@@ -2,11 +2,11 @@
 use Rattle.std.proofs.Common.{take}
 use Rattle.std.specs.Prelude.{All}
 use Rattle.cut_frames.specs.OwnVariables.{IsKept}
-use Rattle.cut_frames.specs.Bits.{values_of}
 use Rattle.cut_frames.specs.Levels.{frames_of}
 use Rattle.cut_frames.specs.Minimal.{IsNeeded}
 use Rattle.cut_frames.specs.Problem.{IsBadFound}
 use Rattle.cut_frames.proofs.shrink.shrink.Given as goal
+use Rattle.sat_clauses.specs.Models.{values_of}
 
 abbrev pub invariant-literals : goal.invariant-literals
 invariant-literals g l =

@@ -3,7 +3,6 @@ use Rattle.std.proofs.lemmas.Grind.{common_steps}
 use Rattle.std.proofs.lemmas.List.Elements.{All-contains}
 use Rattle.sat_clauses.specs.Derivation.{IsUpTo}
 use Rattle.sat_clauses.specs.Hints.{HasNoOpposites}
-use Rattle.cut_frames.specs.Bits.{values_of}
 use Rattle.cut_frames.specs.Levels.{frames_of}
 use Rattle.cut_frames.specs.GuardedSearch.{places_of}
 use Rattle.cut_frames.specs.OwnVariables.{apart_system, apart_list}
@@ -14,6 +13,7 @@ use Rattle.cut_frames.proofs.LevelLaws.{length_frames}
 use Rattle.cut_frames.proofs.ShrinkLemmas.{all_assumed, assumed_negated, negated_apart, assumed_all, within_itself, found_within, found_alone, found_without, not_true, is_needed}
 use Rattle.cut_frames.proofs.QueryLemmas.{bits_up_to}
 use Rattle.cut_frames.proofs.shrink.without_one.Goals as goal
+use Rattle.sat_clauses.specs.Models.{values_of}
 
 inside : (l m n : ℕ) → m ≡ suc l → n ≡ m → l < n
 inside l m n e f = omega (arith, e, f)

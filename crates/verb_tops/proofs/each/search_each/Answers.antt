@@ -10,15 +10,16 @@ use Rattle.verb_run.proofs.TableLemmas.{first_at}
 use Rattle.verb_run.proofs.TopEvents.{event_searchable}
 use Rattle.verb_tops.specs.Each.{HasReported}
 use Rattle.verb_tops.specs.Work.{case_of_asked, events_of_asked, size_of_asked}
-use Rattle.verb_tops.proofs.ReportLaws.{none_reported, none_there, some_there, no_events}
-use Rattle.base_files.proofs.Stays.{later_none}
+use Rattle.verb_tops.proofs.ReportLaws.{none_reported, some_there, no_events}
 use Rattle.verb_tops.proofs.each.search_each.Goals as goal
+use Rattle.std.proofs.lemmas.List.{nil_from_length}
+use Rattle.base_files.proofs.Stays.{later_none}
 
 pub returns-then-is_empty-clause-ok : goal.returns-then-is_empty-clause-ok
 returns-then-is_empty-clause-ok g c =
     let a = c.args.asked.now in
     let xs = c.as_slice-tops.result.now in
-    let none : a.loaded.tops.over ≡ [] = sym c.as_slice-tops.ensures ∙ none_there xs (eqb-true (length xs) 0 (sym c.is_empty.ensures ∙ c.if-is_empty.true)) in
+    let none : a.loaded.tops.over ≡ [] = sym c.as_slice-tops.ensures ∙ nil_from_length xs (eqb-true (length xs) 0 (sym c.is_empty.ensures ∙ c.if-is_empty.true)) in
     let empty : events_of_asked a ≡ [] = no_events (IsEventOf (case_of_asked a)) flat_tree (events_of_asked a) a.loaded.tops.over c.requires.events none in
     subst (λ es. HasReported (case_of_asked a) es a.loaded.depth (size_of_asked a) a.stem.now status.Done (g.D.Desk.told c.args.desk.now).files (g.D.Desk.told c.args.desk.now).files (g.D.Desk.told c.args.desk.now).said (g.D.Desk.told c.args.desk.now).said) (sym empty)
     (none_reported (case_of_asked a) a.loaded.depth (size_of_asked a) a.stem.now (g.D.Desk.told c.args.desk.now).files (g.D.Desk.told c.args.desk.now).said)

@@ -1,9 +1,9 @@
 use Rattle.std.proofs.Common.{◌≡◌, ◌≤◌, ◌+◌, ◌-◌, ◌∙◌, ◌∷◌, [], List, ℕ, All, refl, sym, subst, ap, arith}
 use Rattle.cut_frames.specs.GuardedSearch.{HasRoomFor, IsHolding}
 use Rattle.sat_clauses.specs.Literal.{Literal}
-use Rattle.cut_frames.proofs.AnswerLemmas.{lists_raised}
 use Rattle.cut_frames.proofs.GuardedLaws.{made_from, all_room, with_simple, simple_of}
 use Rattle.cut_frames.proofs.guarded.Guarded.over.Goals as goal
+use Rattle.sat_simplify.proofs.UnreadLaws.{lists_raised}
 
 sum : (h m p : ℕ) → h ≤ m → p ≤ m → h ≤ p + (m - p)
 sum h m p a b = omega (arith, a, b)

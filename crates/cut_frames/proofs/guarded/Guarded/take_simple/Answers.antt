@@ -1,7 +1,7 @@
 use Rattle.std.proofs.Common.{◌≡◌, ◌≤◌, ◌+◌, ◌-◌, ℕ, refl, arith}
-use Rattle.cut_frames.proofs.AnswerLemmas.{lists_raised}
 use Rattle.cut_frames.proofs.GuardedLaws.{takes_from}
 use Rattle.cut_frames.proofs.guarded.Guarded.take_simple.Goals as goal
+use Rattle.sat_simplify.proofs.UnreadLaws.{lists_raised}
 
 pub returns : goal.returns
 returns g c =
