@@ -13,7 +13,7 @@ use Rattle.cert_check.specs.SiteFindings.{AreKept}
 use Rattle.cert_check.specs.Order.{AreInOrder}
 use Rattle.smv_language.proofs.BoolLaws.{or_cases, not_both}
 use Rattle.sat_encoding_laws.proofs.SetLaws.{either_of, contained_has, contained_from, has_first, has_later, before_through}
-use Rattle.sat_encoding_laws.proofs.Numbers.{no_more_numbers}
+use Rattle.sat_encoding_laws.proofs.Numbers.{no_more_numbers, rising_above, rising_rest}
 use Rattle.cert_check.proofs.SetLaws.{passed, passes}
 
 -- where there is an item, there is one at each place before it
@@ -29,18 +29,6 @@ there_at (y ∷ ys) zero k x item at l e = ap Some (sym e)
 there_at (y ∷ ys) (suc j) zero x item at l e = absurd (omega (arith, l))
 there_at (y ∷ ys) (suc j) (suc k) x item at l e = there_at ys j k x item at (omega (arith, l)) e
 
--- A rising set that is contained in a rising set of its size is that set.
-later : (i k : ℕ) (is : List ℕ) → IsRising (i ∷ is) → has_number is k ≡ true → i < k
-later i k [] r h = cc
-later i k (j ∷ is) r h = either_of (λ e. subst (λ x. i < x) (eqb-true j k e) r.0) (λ g. through r.0 (later j k is r.1 g)) (or_cases (nat_eq j k) (has_number is k) h)
-  where
-    through : i < j → j < k → i < k
-    through a b = omega (arith, a, b)
-
-rest_rises : (i : ℕ) (is : List ℕ) → IsRising (i ∷ is) → IsRising is
-rest_rises i [] r = tt
-rest_rises i (j ∷ is) r = r.1
-
 beyond_first : (j k : ℕ) (js : List ℕ) → (j ≡ k → ⊥) → has_number (j ∷ js) k ≡ true → has_number js k ≡ true
 beyond_first j k js n h = either_of (λ e. absurd (n (eqb-true j k e))) (λ g. g) (or_cases (nat_eq j k) (has_number js k) h)
 
@@ -48,17 +36,17 @@ same_of_one_size : (s t : List ℕ) → IsRising s → IsRising t → length s �
 same_of_one_size [] [] r q e h = refl
 same_of_one_size [] (j ∷ js) r q e h = absurd (omega (arith, e))
 same_of_one_size (i ∷ is) [] r q e h = absurd (omega (arith, e))
-same_of_one_size (i ∷ is) (j ∷ js) r q e h = by_first (cases_eq j i) (same_of_one_size is js (rest_rises i is r) (rest_rises j js q) (omega (arith, e)))
+same_of_one_size (i ∷ is) (j ∷ js) r q e h = by_first (cases_eq j i) (same_of_one_size is js (rising_rest i is r) (rising_rest j js q) (omega (arith, e)))
   where
     inside : (k : ℕ) → has_number (i ∷ is) k ≡ true → has_number (j ∷ js) k ≡ true
     inside k g = contained_has (i ∷ is) (j ∷ js) k h g
 
     -- where the first numbers differ, all of the one set are among the later ones of the other
     among : (j ≡ i → ⊥) → (k : ℕ) → has_number (i ∷ is) k ≡ true → has_number js k ≡ true
-    among n k g = beyond_first j k js (either_of (λ f. differs k (eqb-true i k f)) (λ f. above k (later i k is r f)) (or_cases (nat_eq i k) (has_number is k) g)) (inside k g)
+    among n k g = beyond_first j k js (either_of (λ f. differs k (eqb-true i k f)) (λ f. above k (rising_above i k is r f)) (or_cases (nat_eq i k) (has_number is k) g)) (inside k g)
       where
         first : j < i
-        first = later j i js q (beyond_first j i js n (inside i (has_first i is)))
+        first = rising_above j i js q (beyond_first j i js n (inside i (has_first i is)))
 
         differs : (k : ℕ) → i ≡ k → j ≡ k → ⊥
         differs k f b = let a : j < i = first in omega (arith, a, f, b)
@@ -70,7 +58,7 @@ same_of_one_size (i ∷ is) (j ∷ js) r q e h = by_first (cases_eq j i) (same_o
     too_many l = omega (arith, l, e)
 
     after : j ≡ i → (k : ℕ) → has_number is k ≡ true → has_number js k ≡ true
-    after f k g = beyond_first j k js (differs (later i k is r g)) (inside k (has_later i k is g))
+    after f k g = beyond_first j k js (differs (rising_above i k is r g)) (inside k (has_later i k is g))
       where
         differs : i < k → j ≡ k → ⊥
         differs l b = omega (arith, f, l, b)

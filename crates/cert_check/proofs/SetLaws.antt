@@ -11,7 +11,7 @@ use Rattle.cert_laws.specs.Certificate.{Certificate}
 use Rattle.cert_laws.specs.Acceptance.{Subject, IsSetAt, IsApart}
 use Rattle.cert_check.specs.Order.{stands_after, is_after_in}
 use Rattle.std.proofs.lemmas.Option.{same_Some as some_same, none-some as none_some}
-use Rattle.std.proofs.lemmas.Bool.{and_parts, and_from as and_both}
+use Rattle.std.proofs.lemmas.Bool.{and_parts, and_from as and_both, both_ways, not-true}
 use Rattle.base_values.proofs.ListLaws.{all_from}
 
 -- All of a list, by its members.
@@ -25,14 +25,10 @@ contained_then s t e i h = has_contains t i (contained_has s t i e (contains_has
 contained_where : (s t : List ℕ) → IsContained s t → is_contained s t ≡ true
 contained_where s t f = contained_from s t (λ i h. contains_has t i (f i (has_contains s i h)))
 
-not_both : (b : Bool) → not b ≡ true → b ≡ true → ⊥
-not_both true e f = cc
-not_both false e f = cc
-
 apart_then : (s t : List ℕ) → are_apart s t ≡ true → (IsContained s t → ⊥) × (IsContained t s → ⊥)
 apart_then s t e =
     let both = and_parts (not (is_contained s t)) (not (is_contained t s)) e in
-    ((λ f. not_both (is_contained s t) both.0 (contained_where s t f)), (λ f. not_both (is_contained t s) both.1 (contained_where t s f)))
+    ((λ f. both_ways (is_contained s t) (not-true (is_contained s t) both.0) (contained_where s t f)), (λ f. both_ways (is_contained t s) (not-true (is_contained t s) both.1) (contained_where t s f)))
 
 apart_where : (s t : List ℕ) → (IsContained s t → ⊥) × (IsContained t s → ⊥) → are_apart s t ≡ true
 apart_where s t f = by_tests (is_contained s t) (is_contained t s) refl refl

@@ -1,6 +1,6 @@
 -- What is marked in a table, and what that says of opposites.
 use Rattle.std.proofs.Common.{◌≡◌, ◌⊎◌, inl, inr, ⊎_elim, ℕ, ◌+◌, ◌*◌, ◌<◌, ◌≤◌, ◌/◌, ◌%◌, eqb, cond, Bool, true, false, not, List, [], ◌∷◌, length, get_or, set, fold, replicate, All, Contains, refl, sym, ap, ◌∙◌, subst, zero, suc, arith}
-use Rattle.std.proofs.lemmas.Bool.{cases_eq, cases_lt, false≢true, and_from}
+use Rattle.std.proofs.lemmas.Bool.{cases_eq, cases_lt, false≢true, and_from, both_ways, not-true}
 use Rattle.std.proofs.lemmas.List.{length-set, get_or-set_same, get_or-set_other, get_or-replicate, get_or_past, length-replicate}
 use Rattle.std.specs.List.{list_all}
 use Rattle.std.proofs.lemmas.List.Elements.{All-contains}
@@ -127,10 +127,6 @@ module _ (p : Literal → Bool) where
   all_pass [] h = refl
   all_pass (l ∷ ls) h = and_from (p l) (list_all p ls) (h 0 l (omega arith)) (all_pass ls (λ k d lt. h (suc k) d (omega (arith, lt))))
 
-not_true : (b : Bool) → not b ≡ true → b ≡ true → ⊥
-not_true true e f = false≢true e
-not_true false e f = false≢true f
-
 not_false : (b : Bool) → (b ≡ true → ⊥) → not b ≡ true
 not_false true h = absurd (h refl)
 not_false false h = refl
@@ -148,7 +144,7 @@ module _ (w n : ℕ) (ls : List Literal) (marks : List Bool) (e : marks ≡ fold
 
   -- the opposite of none is marked where each lacks its opposite in the window
   pub lacking : list_all (λ l. not (is_marked marks w (opposite l))) ls ≡ true → All (LacksIn w ls) ls
-  lacking h = λ k d lt. record { absent = λ at has. not_true (is_marked marks w (opposite (get_or ls k d))) (passes (λ l. not (is_marked marks w (opposite l))) ls k d h lt) (is_there (opposite (get_or ls k d)) at has) }
+  lacking h = λ k d lt. record { absent = λ at has. both_ways (is_marked marks w (opposite (get_or ls k d))) (not-true (is_marked marks w (opposite (get_or ls k d))) (passes (λ l. not (is_marked marks w (opposite l))) ls k d h lt)) (is_there (opposite (get_or ls k d)) at has) }
 
   in_window : (l : Literal) → is_marked marks w l ≡ true → code_of l / 4096 ≡ w
   in_window l h = by_test (eqb (code_of l / 4096) w) refl h

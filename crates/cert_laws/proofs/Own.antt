@@ -21,7 +21,6 @@ use Rattle.smv_flat_laws.proofs.Places.{has_main}
 use Rattle.smv_flat_laws.proofs.Walkable.{accepted_walkable, main_is_there}
 use Rattle.smv_type_laws.specs.Laws.{IsKnown, AreInOrder, IsClosed}
 use Rattle.smv_type_laws.proofs.ClosedLaws.{own_by, models_closed}
-use Rattle.smv_type_laws.proofs.WrittenLaws.{IsReal, real_all}
 use Rattle.fault_instructions.specs.Instructions.{ModeTree, SliceTree, InstructionTree, slices_of}
 use Rattle.fault_instructions.specs.AddedNames.{mode_variable, mode_symbol}
 use Rattle.fault_weave.specs.Faults.{Fault}
@@ -35,7 +34,7 @@ use Rattle.cert_laws.specs.ExtendedTraces.{IsModeOfFault, IsExtensionModel}
 use Rattle.cert_laws.specs.Laws.{ExtensionModelsAreOwn}
 use Rattle.cert_laws.proofs.Modes.{IsOfSlice, of_program}
 use Rattle.smv_type_laws.proofs.TraceLaws.{one_type}
-use Rattle.smv_flat_laws.proofs.Variables.{both_at_second as both_right}
+use Rattle.smv_flat_laws.proofs.Variables.{both_at_second as both_right, RealVariable, real_variables}
 use Rattle.smv_flat_laws.proofs.Conditions.{each_at}
 
 -- What holds of all leaves holds of each of them.
@@ -104,8 +103,8 @@ module _ (p : ProgramTree) (i : InstructionTree) (faults : List Fault) (top : Fo
   declared_so k v e =
       let main : (n : ModuleTree) × (find_module (woven p i) (codes "main") ≡ Some n) = main_is_there (woven p i) (accepted_walkable (woven p i) model.accepted) in
       let from : (w : Visit) × (slice_get (variables_of (woven p i)) k ≡ Some w) × IsVariableOf m w v = both_right (IsVariableOf m) (variables_of (woven p i)) m.variables k v model.flat.variables e in
-      let real : IsReal (woven p i) from.0 =
-      each_at (IsReal (woven p i)) (variables_of (woven p i)) k from.0 (real_all (woven p i) (visits (woven p i)) (has_main (woven p i) (accepted_walkable (woven p i) model.accepted) main.0 main.1)) from.1 in
+      let real : RealVariable (woven p i) from.0 =
+      each_at (RealVariable (woven p i)) (variables_of (woven p i)) k from.0 (real_variables (woven p i) (visits (woven p i)) (has_main (woven p i) (accepted_walkable (woven p i) model.accepted) main.0 main.1)) from.1 in
       let by = from.2 in
       subst (λ at. IsVariable (woven p i) at v.name v.role v.declared) (sym by.place)
       (subst (λ x. IsVariable (woven p i) from.0.place x v.role v.declared) (sym by.name)

@@ -1,23 +1,17 @@
 -- An accepted program has few variables, and so few bits of inputs.
-use Rattle.std.proofs.Common.{◌≡◌, ℕ, ◌+◌, ◌*◌, ◌^◌, ◌≤◌, List, [], ◌∷◌, ◌++◌, length, Option, Some, None, ℤ, pos, negsuc, refl, sym, ap, ◌∙◌, subst, arith, ⊎_elim}
-use Rattle.std.specs.Prelude.{map, sum_by}
+use Rattle.std.proofs.Common.{◌≡◌, ℕ, ◌+◌, ◌^◌, ◌≤◌, List, [], ◌∷◌, ◌++◌, length, refl, sym, ap, ◌∙◌, subst, arith, ⊎_elim}
 use Rattle.std.proofs.lemmas.List.{length-append, append_assoc, append-nil}
-use Rattle.std.proofs.lemmas.List.Sums.{sum_by-cons}
-use Rattle.smv_language.specs.ProgramTree.{Text, DeclaredTree, boolean, range, members, instance, ProgramTree}
-use Rattle.smv_language.specs.Scope.{Role, state, input, frozen_role}
+use Rattle.smv_language.specs.ProgramTree.{DeclaredTree, boolean, range, members, instance, ProgramTree}
 use Rattle.smv_language.specs.Trace.{Each}
-use Rattle.smv_language.specs.Flat.{FlatVariable, FlatModel}
+use Rattle.smv_language.specs.Flat.{FlatModel}
 use Rattle.smv_flat_laws.specs.History.{Mode, with_history, bit_variables}
 use Rattle.smv_flat_laws.specs.Items.{Visit, visits, variables_of, variable_declared}
 use Rattle.smv_flat_laws.specs.Model.{IsVariableOf, IsFlatOf}
 use Rattle.smv_flat_laws.specs.Rules.{too_many, a_visit, visit_sites, variables_before, PassesLimit, IsKept, IsAccepted}
 use Rattle.smv_flat_laws.proofs.HistoryLaws.{length_bits}
 use Rattle.smv_flat_laws.proofs.Walkable.{accepted_walkable}
-use Rattle.smv_type_laws.specs.Intervals.{Interval}
-use Rattle.smv_type_laws.specs.ExpressionKinds.{hull_of}
-use Rattle.smv_type_laws.specs.Costs.{digits_above, width_of, width_in, declared_width, number_kind, member_number}
-use Rattle.sat_encoding_laws.specs.Layout.{width_as_input, input_width, input_bits}
-use Rattle.sat_encoding_laws.proofs.SizeLists.{digits_most}
+use Rattle.sat_encoding_laws.specs.Layout.{input_bits}
+use Rattle.sat_encoding_laws.proofs.SizeLists.{inputs_most}
 use Rattle.std.proofs.lemmas.Bool.{cases_lt}
 use Rattle.base_values.specs.declared.limits.TheConstants.{MOST_VARIABLES, MOST_BITS}
 use Rattle.smv_flat_laws.proofs.VariableCounts.{variables_and}
@@ -49,38 +43,6 @@ few_variables p m accepted is =
     omega (arith, few, same)
 
 -- ---- bits
-
-above_most : (z : ℤ) → digits_above z ≤ 64
-above_most (pos n) = digits_most 64 n
-above_most (negsuc n) = omega arith
-
-width_most : (lo hi : ℤ) → width_of (record { lo = lo; hi = hi }) ≤ 65
-width_most (pos n) hi = let one = above_most hi in omega (arith, one)
-width_most (negsuc n) hi = let one = above_most hi in let two = digits_most 64 n in omega (arith, one, two)
-
-known_most : (i : Option Interval) → width_in i ≤ 65
-known_most None = omega arith
-known_most (Some i) = width_most i.lo i.hi
-
-declared_most : (symbols : List Text) (d : DeclaredTree) → declared_width symbols d ≤ 65
-declared_most symbols boolean = omega arith
-declared_most symbols (range lo hi) = width_most lo hi
-declared_most symbols (members ms) = known_most (hull_of (map (λ m. number_kind (member_number symbols m)) ms))
-declared_most symbols (instance m actuals) = omega arith
-
-role_most : (r : Role) (n : ℕ) → width_as_input r n ≤ n
-role_most state n = omega arith
-role_most frozen_role n = omega arith
-role_most input n = omega arith
-
-inputs_most : (symbols : List Text) (xs : List FlatVariable) → sum_by (input_width symbols) xs ≤ 65 * length xs
-inputs_most symbols [] = omega arith
-inputs_most symbols (x ∷ xs) =
-    let one = role_most x.role (declared_width symbols x.declared) in
-    let width = declared_most symbols x.declared in
-    let rest = inputs_most symbols xs in
-    let sum = sum_by-cons (input_width symbols) x xs in
-    omega (arith, one, width, rest, sum)
 
 -- with a bit for each of at most `MOST_BITS` faults
 pub few_inputs : (p : ProgramTree) (m : FlatModel) (fs : List Mode) → IsAccepted p → IsFlatOf p m → length fs ≤ MOST_BITS → input_bits (with_history m fs) ≤ 2 ^ 30

@@ -26,6 +26,7 @@ use Rattle.cut_search_laws.specs.FlatSearch.{IsBadFor, AreHistory, IsClauseOf, O
 use Rattle.cut_search_laws.specs.Problem.{Problem}
 use Rattle.cut_search_laws.proofs.FoundLaws.{each_filtered, each_placed, still_contain, new_is_listed}
 use Rattle.base_values.proofs.ListLaws.{get_within}
+use Rattle.smv_language.proofs.EachLaws.{each_of}
 
 -- ---- sets
 
@@ -39,12 +40,6 @@ at_container P [] other c h = absurd h
 at_container P (i ∷ set) other c (inl p) = at_number P i other (and_parts (has_number other i) (is_contained set other) c).0 p
 at_container P (i ∷ set) other c (inr h) = at_container P set other (and_parts (has_number other i) (is_contained set other) c).1 h
 
--- what holds of each holds of the one that stands among them
-of_listed : {A : Type 0} (P : A → Type 0) (x : A) (xs : List A) → Each P xs → AtSome (λ y. y ≡ x) xs → P x
-of_listed P x [] h some = absurd some
-of_listed P x (y ∷ xs) h (inl e) = subst P e h.0
-of_listed P x (y ∷ xs) h (inr some) = of_listed P x xs h.1 some
-
 module _ {T : Type 0} (P : ℕ → Type 0) (new : Found T) (found : List (Found T)) where
   -- of the sets with a new one, from those before
   some_with : AtSome P new.set → Each (AtSome P) (sets_of found) → Each (AtSome P) (sets_of (with_found new found))
@@ -55,7 +50,7 @@ module _ {T : Type 0} (P : ℕ → Type 0) (new : Found T) (found : List (Found 
 
   -- and the other way round, since each set before contains one of those
   some_of_new : Each (AtSome P) (sets_of (with_found new found)) → AtSome P new.set
-  some_of_new h = of_listed (λ f. AtSome P f.set) new (with_found new found) (each_of_map (AtSome P) (λ f. f.set) (with_found new found) h) (new_is_listed new found)
+  some_of_new h = each_of (λ f. AtSome P f.set) new (with_found new found) (each_of_map (AtSome P) (λ f. f.set) (with_found new found) h) (new_is_listed new found)
 
   some_before : Each (AtSome P) (sets_of (with_found new found)) → Each (AtSome P) (sets_of found)
   some_before h = each_map (AtSome P) (λ f. f.set) found (all found (still_contain new found))

@@ -25,6 +25,7 @@ use Rattle.sat_encoding_laws.specs.FlatTraces.{history_of}
 use Rattle.sat_encoding_laws.proofs.TypeBits.{length-number}
 use Rattle.sat_encoding_laws.proofs.HistoryPlaces.{history_last}
 use Rattle.cut_search_laws.specs.EncodedSearchLaws.{HistoryServes}
+use Rattle.sat_encoding_laws.proofs.NumberWords.{length-literals}
 
 -- ---- the bits of a valuation, by their places
 
@@ -72,10 +73,6 @@ module _ (symbols : List Text) where
 
 -- ---- literals in a row
 
-row_long : (k n : ℕ) → length (literals_from k n) ≡ k
-row_long zero n = refl
-row_long (suc k) n = ap suc (row_long k (n + 1))
-
 row_at : (k n i : ℕ) (l : Literal) → slice_get (literals_from k n) i ≡ Some l → (l ≡ plain (n + i)) × (i < k)
 row_at zero n i l e = cc
 row_at (suc k) n zero l e = let at : n ≡ n + 0 = omega arith in (sym (same_Some (plain n) l e) ∙ ap plain at, omega arith)
@@ -102,7 +99,7 @@ pub history_serves : HistoryServes
 history_serves m fs top =
     let last = history_last m fs in
     record {
-      one_each = ap length last.2 ∙ row_long (length fs) (state_bits m + 2);
+      one_each = ap length last.2 ∙ length-literals (length fs) (state_bits m + 2);
       over_bits =
           subst (All (λ l. (2 ≤ l.var) × (l.var < state_bits (with_history m fs) + 2))) (sym last.2)
           (row_over (length fs) (state_bits m + 2) (state_bits (with_history m fs)) (omega arith) (let more = last.1 in omega (arith, more)));

@@ -64,7 +64,7 @@ variable_there p m accepted is i x e =
     let walkable : IsWalkable p = accepted_walkable p accepted in
     let b = both_at_second (IsVariableOf m) (variables_of p) m.variables i x is.variables e in
     let main = main_is_there p walkable in
-    let real : RealVariable p walkable b.0 = each_at (RealVariable p walkable) (variables_of p) i b.0 (real_variables p walkable (visits p) (has_main p walkable main.0 main.1)) b.1 in
+    let real : RealVariable p b.0 = each_at (RealVariable p) (variables_of p) i b.0 (real_variables p (visits p) (has_main p walkable main.0 main.1)) b.1 in
     subst (λ (t : DeclaredTree). IsVariable p x.place x.name x.role t) (sym b.2.declared)
     (subst (λ (r : Role). IsVariable p x.place x.name r b.0.decl.what) (sym b.2.role)
     (subst (λ (y : Text). IsVariable p x.place y b.0.role b.0.decl.what) (sym b.2.name)

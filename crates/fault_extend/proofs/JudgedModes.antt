@@ -20,13 +20,13 @@ use Rattle.smv_flat_laws.proofs.Lists.{each_more}
 use Rattle.smv_flat_laws.proofs.Resolving.{Known, names_known, each_leaf}
 use Rattle.smv_flat_laws.proofs.Places.{has_main}
 use Rattle.smv_flat_laws.proofs.Walkable.{accepted_walkable, main_is_there}
-use Rattle.smv_flat_laws.proofs.Variables.{variables_are}
+use Rattle.smv_flat_laws.proofs.Variables.{variables_are, RealVariable, real_variables}
 use Rattle.smv_type_laws.specs.ExpressionKinds.{Class, number_class, symbol_class, mixed_enum, unless_class, first_class}
 use Rattle.smv_type_laws.specs.DeclaredKinds.{member_kind, judged_declared}
 use Rattle.smv_type_laws.specs.Models.{variable_breaches, IsTyped}
 use Rattle.smv_type_laws.proofs.Parts.{none_first, none_second, class_kept}
 use Rattle.smv_type_laws.proofs.ClosedLaws.{all_leaves}
-use Rattle.smv_type_laws.proofs.WrittenLaws.{written_conditions_decided, IsReal, real_all}
+use Rattle.smv_type_laws.proofs.WrittenLaws.{written_conditions_decided}
 use Rattle.fault_rules.specs.Prerequisites.{IsReadableEffect, IsJudgedMode}
 use Rattle.fault_extend.specs.JudgedLaws.{IsGoodMode, IsGoodEffect, IsGoodGuard, GoodModesAreJudged, TypesAreUniform, GoodIsJudged}
 use Rattle.smv_type_laws.proofs.TraceLaws.{one_type}
@@ -120,9 +120,9 @@ type_uniform (members ms) h = members_uniform ms (none_first _ _ (none_first _ _
 record From (p : ProgramTree) (m : FlatModel) (x : FlatVariable) : Type 0 where
   visit : Visit
   is : IsVariableOf m visit x
-  real : IsReal p visit
+  real : RealVariable p visit
 
-from : (p : ProgramTree) (m : FlatModel) (ws : List Visit) (xs : List FlatVariable) → EachBoth (IsVariableOf m) ws xs → Each (IsReal p) ws → Each (From p m) xs
+from : (p : ProgramTree) (m : FlatModel) (ws : List Visit) (xs : List FlatVariable) → EachBoth (IsVariableOf m) ws xs → Each (RealVariable p) ws → Each (From p m) xs
 from p m [] [] b r = tt
 from p m [] (x ∷ xs) b r = absurd b
 from p m (w ∷ ws) [] b r = absurd b
@@ -132,7 +132,7 @@ pub types_uniform : TypesAreUniform
 types_uniform p m accepted is typed at k x role type here kind =
     let listed : (i : ℕ) × (v : FlatVariable) × (slice_get m.variables i ≡ Some v) × (v.place ≡ at) × (v.name ≡ x) = (variables_are p (accepted_walkable p accepted) m is at x).0 (role, type, (k, here, kind)) in
     let main : (n : ModuleTree) × (find_module p (codes "main") ≡ Some n) = main_is_there p (accepted_walkable p accepted) in
-    let origin : From p m listed.1 = each_at (From p m) m.variables listed.0 listed.1 (from p m (variables_of p) m.variables is.variables (real_all p (visits p) (has_main p (accepted_walkable p accepted) main.0 main.1))) listed.2 in
+    let origin : From p m listed.1 = each_at (From p m) m.variables listed.0 listed.1 (from p m (variables_of p) m.variables is.variables (real_variables p (visits p) (has_main p (accepted_walkable p accepted) main.0 main.1))) listed.2 in
     let right : (judged_declared listed.1.declared).broken ≡ [] =
     each_at (λ y. (judged_declared y.declared).broken ≡ []) m.variables listed.0 listed.1 (types_right m.variables (none_first (variable_breaches m.variables) _ typed.kept)) listed.2 in
     let there : IsVariable p at x origin.visit.role origin.visit.decl.what =

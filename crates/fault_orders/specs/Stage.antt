@@ -10,10 +10,7 @@ use Rattle.fault_cause_laws.specs.Additions.{with_addition}
 use Rattle.cut_right_laws.specs.Sets.{has_number}
 use Rattle.fault_orders.specs.declared.Relation.{Relation}
 use Rattle.fault_orders.specs.declared.Relation.TheVariants.{Before, After, Together}
-
--- a variable now
-abbrev pub now_of : ℕ → Tree FlatLeaf
-now_of n = leaf (flat_variable n)
+pub use Rattle.fault_cause_laws.specs.StagedModel.{value_of as now_of}
 
 -- a variable at the next moment
 abbrev pub later_of : ℕ → Tree FlatLeaf

@@ -17,6 +17,7 @@ use Rattle.sat_circuits.specs.Bits.{bit_value}
 use Rattle.sat_circuits.specs.Words.{sign_of, zeros, push_gate, map_gates}
 use Rattle.sat_circuits.specs.Counts.{true_count, count_gate, count_step, first_from, at_most_gates}
 use Rattle.sat_circuits.proofs.WordMeans.{PairBelow, PairBelow-later, zip-below, slice_get-zip, MapsTo, map_gates-means, push_gate-adds, AllBelow-zeros, sign-below}
+use Rattle.sat_circuits.proofs.QuotientMeans.{Choosable}
 
 -- ---- one literal more
 
@@ -24,10 +25,7 @@ use Rattle.sat_circuits.proofs.WordMeans.{PairBelow, PairBelow-later, zip-below,
 abbrev pub counted : Literal → TotalAssignment → Literal × Literal → Bool
 counted l v p = literal_value v p.0 || (literal_value v p.1 && literal_value v l)
 
-abbrev pub Countable : Literal → ℕ → Literal × Literal → Type 0
-Countable l n p = PairBelow n p × IsBelow n l
-
-pub count_gate-maps : (l : Literal) → MapsTo (count_gate l) 2 (Countable l) (counted l)
+pub count_gate-maps : (l : Literal) → MapsTo (count_gate l) 2 (Choosable l) (counted l)
 unfolding count_gate
 count_gate-maps l = record {
   means = λ p t h.
@@ -39,7 +37,7 @@ count_gate-maps l = record {
   adds = λ p t. begins-after t _ _ (and_gate-begins p.1 l t) (λ q u. or_gate-begins p.0 q u);
 }
 
-pub Countable-zip : (l : Literal) (n : ℕ) (ps : List (Literal × Literal)) → IsBelow n l → AllByRecursion (PairBelow n) ps → AllByRecursion (Countable l n) ps
+pub Countable-zip : (l : Literal) (n : ℕ) (ps : List (Literal × Literal)) → IsBelow n l → AllByRecursion (PairBelow n) ps → AllByRecursion (Choosable l n) ps
 Countable-zip l n [] h b = tt
 Countable-zip l n (p ∷ ps) h b = ((b.0, h), Countable-zip l n ps h b.1)
 
@@ -107,7 +105,7 @@ unfolding count_step
 count_step-turn n limit total l ls [] t h = absurd (omega (arith, h.long))
 count_step-turn n limit total l ls (c ∷ cs) t h =
     Means-after t _ _ _ _ _ _
-    (map_gates-means (count_gate l) 2 (Countable l) (counted l) (count_gate-maps l) (zip (c ∷ cs) cs) [] t
+    (map_gates-means (count_gate l) 2 (Choosable l) (counted l) (count_gate-maps l) (zip (c ∷ cs) cs) [] t
     (Countable-zip l t.free (zip (c ∷ cs) cs) h.literals.0 (zip-below t.free (c ∷ cs) cs h.counters h.counters.1)) tt) (λ w u hw e.
     Means-done u (w ++ sign_of (c ∷ cs) ∷ []) _ _
     (record {
@@ -132,7 +130,7 @@ count_step-turn n limit total l ls (c ∷ cs) t h =
 pub count_step-adds : (l : Literal) (cs : List Literal) (s : Circuit) → BeginsWith (count_step l cs s).0.clauses s.clauses
 unfolding count_step
 count_step-adds l cs s =
-    begins-after s _ _ (fold_gates-begins (push_gate (count_gate l)) (push_gate-adds (count_gate l) 2 (Countable l) (counted l) (count_gate-maps l)) _ [] s) (λ w t. BeginsWith-refl t.clauses)
+    begins-after s _ _ (fold_gates-begins (push_gate (count_gate l)) (push_gate-adds (count_gate l) 2 (Choosable l) (counted l) (count_gate-maps l)) _ [] s) (λ w t. BeginsWith-refl t.clauses)
 
 -- ---- all literals
 

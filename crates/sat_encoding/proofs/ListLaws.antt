@@ -28,10 +28,10 @@ use Rattle.sat_expressions.specs.Parts.{BuildsPart}
 use Rattle.sat_encoding.specs.declared.lists.ListsSource.{ListsSource}
 use Rattle.sat_encoding.specs.Reading.{names_read, tree_any}
 use Rattle.sat_encoding.specs.Copies.{source_model, IsSource, IsRightFormula, definition_signal, Defines, BuildsDefinitions, Builds}
-use Rattle.sat_encoding.specs.History.{counted_circuit}
 use Rattle.sat_encoding.proofs.ReadLaws.{tree_any_is}
 use Rattle.sat_encoding.proofs.LoopLaws.{definitions_next, definitions_end}
 use Rattle.base_values.proofs.ListLaws.{drop_there}
+use Rattle.sat_encoding_laws.specs.Variables.{bad_circuit}
 
 -- ---- reading inputs
 
@@ -146,7 +146,7 @@ length_signals_now symbols p q (x ∷ xs) = let more = length_signals_now symbol
 
 pub counted_is : (m : FlatModel) (top : Tree FlatLeaf) (history : List ℕ) (size : ℕ) (n : NamedSignals) (g h t : Circuit) (c : Copied) (bits : List Literal) → state_circuit m ≡ (g, copy_of c)
     → names_in n ≡ names_of m (copy_of c) (copy_of c) → Builds g (asserted_signal (encoded (names_in n) its_value top g)) h → bits ≡ history_literals m history → size_gates bits size h ≡ t
-    → counted_circuit m top history size ≡ t
+    → bad_circuit m top history size ≡ t
 counted_is m top history size n g h t c bits state names holds literals few =
     ap (λ (now : Circuit × Copy). size_gates (history_literals m history) size (asserted_signal (encoded (names_of m now.1 now.1) its_value top now.0))) state
     ∙ ap (λ (k : TheNames FlatLeaf). size_gates (history_literals m history) size (asserted_signal (encoded k its_value top g))) (sym names)

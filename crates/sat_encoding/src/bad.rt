@@ -15,8 +15,9 @@ ghost use Rattle.sat_encoding_laws.specs.Encodable.{IsEncodable, IsFitTop};
 ghost use Rattle.sat_encoding_laws.specs.Layout.{literals_from};
 ghost use Rattle.sat_encoding_laws.specs.Lists.{size_gates, history_literals, unlisted_clause, literal_at, bad_list};
 ghost use Rattle.sat_expressions.specs.BuiltSignals.{signals_of};
-ghost use Rattle.sat_encoding.specs.History.{last_numbers, literal_of, counted_circuit};
+ghost use Rattle.sat_encoding.specs.History.{last_numbers, literal_of};
 ghost use Rattle.sat_encoding.specs.Copies.{source_model, IsSource};
+ghost use Rattle.sat_encoding_laws.specs.Variables.{bad_circuit};
 
 use crate::layout::{END_OF_VARIABLES, literals_from};
 use crate::lists::{ListsSource, holds, source_of, state_copy};
@@ -70,7 +71,7 @@ fn counted(
     requires encodable { IsEncodable (source_model source.now) }
     requires top { IsFitTop (source_model source.now) (flat_tree top.now) }
     requires faults { faults ≤ length source.now.model.now.model.variables }
-    ensures clauses { IfOk result (λ r. r.0 ≡ (counted_circuit (source_model source.now) (flat_tree top.now)
+    ensures clauses { IfOk result (λ r. r.0 ≡ (bad_circuit (source_model source.now) (flat_tree top.now)
         (last_numbers (source_model source.now) faults) size).clauses) }
     ensures history { IfOk result (λ r. r.1 ≡ history_literals (source_model source.now) (last_numbers (source_model source.now) faults)) }
 {

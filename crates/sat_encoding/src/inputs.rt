@@ -3,8 +3,9 @@ ghost use Rattle.std.specs.Prelude.{◌≡◌, [], map, IfOk, slice_get};
 ghost use Rattle.smv_language.specs.ExpressionTree.{trees_of, branches_of};
 ghost use Rattle.smv_language.specs.Leaves.{trees_map, branches_map};
 ghost use Rattle.smv_language.specs.ModelTree.{leaf_of, flat_tree, model_tree, variable_tree};
-ghost use Rattle.sat_encoding_laws.specs.Inputs.{is_input_variable, is_flagged, reading_after};
+ghost use Rattle.sat_encoding_laws.specs.Inputs.{is_input_variable, reading_after};
 ghost use Rattle.sat_encoding.specs.Reading.{names_read, tree_any, trees_any, branches_any};
+ghost use Rattle.base_values.specs.Marks.{is_set};
 
 use base_values::OutOfMemory;
 use smv_language::Expr;
@@ -60,7 +61,7 @@ fn is_input(variables: &[Variable], i: u32) -> bool
 
 // Whether the definition of a number reads one.
 fn is_flagged(flags: &[bool], i: u32) -> bool
-    ensures { result ≡ is_flagged (slice_get flags.now i) }
+    ensures { result ≡ is_set (slice_get flags.now i) }
 {
     match flags.get(i as usize) {
         Some(flag) => *flag,

@@ -21,13 +21,14 @@ use Rattle.sat_encoding_laws.specs.Encodings.{is_true_value, is_true_at, is_true
 use Rattle.sat_encoding_laws.specs.Signals.{Signal}
 use Rattle.sat_encoding_laws.specs.Layout.{input_place, variable_signals}
 use Rattle.sat_encoding_laws.specs.Bits.{state_of}
-use Rattle.sat_encoding_laws.specs.Inputs.{is_input, is_input_variable, is_flagged, names_input, tree_reads_input, reading_after, reads_input}
+use Rattle.sat_encoding_laws.specs.Inputs.{is_input, is_input_variable, names_input, tree_reads_input, reading_after, reads_input}
 use Rattle.sat_encoding_laws.specs.Encodable.{IsEncodable, IsStateBoolean, is_input_name, reads_next_input}
 use Rattle.sat_encoding_laws.proofs.VariableMeans.{read_as}
 use Rattle.sat_encoding_laws.proofs.Readings.{reading, reading_is}
 use Rattle.sat_encoding_laws.proofs.MomentMeans.{model_types}
 use Rattle.sat_encoding_laws.proofs.StateBits.{with_bits, with_bits_truth, bits_first, bits_placed}
 use Rattle.std.proofs.lemmas.Bool.{or_parts as neither}
+use Rattle.base_values.specs.Marks.{is_set}
 
 -- none of them passes the test
 pub each_none : {A : Type 0} (f : A → Bool) (xs : List A) → list_any f xs ≡ false → Each (λ x. f x ≡ false) xs
@@ -87,7 +88,7 @@ same_end (c ∷ bs) [] ys b x y h k = absurd h
 same_end (c ∷ bs) (s ∷ xs) [] b x y h k = absurd h
 same_end (c ∷ bs) (s ∷ xs) (t ∷ ys) b x y h k = (h.0, same_end bs xs ys b x y h.1 k)
 
-same_at : (bs : List Bool) (xs ys : List (Option Values)) → AreSame bs xs ys → (i : ℕ) → is_flagged (slice_get bs i) ≡ false → slice_get xs i ≡ slice_get ys i
+same_at : (bs : List Bool) (xs ys : List (Option Values)) → AreSame bs xs ys → (i : ℕ) → is_set (slice_get bs i) ≡ false → slice_get xs i ≡ slice_get ys i
 same_at [] [] [] h i e = refl
 same_at [] [] (t ∷ ys) h i e = absurd h
 same_at [] (s ∷ xs) ys h i e = absurd h

@@ -33,7 +33,7 @@ use Rattle.sat_encoding_laws.specs.Signals.{Signal, bit, word}
 use Rattle.sat_encoding_laws.specs.Expressions.{its_value, encoded}
 use Rattle.sat_encoding_laws.specs.Meanings.{HasValue, IsSignal, IsReady}
 use Rattle.sat_encoding_laws.specs.ReadNames.{Reads, ReadsTrees, ReadsBranches}
-use Rattle.sat_encoding_laws.specs.Inputs.{is_flagged, names_input, tree_reads_input, reading_after, reads_input}
+use Rattle.sat_encoding_laws.specs.Inputs.{names_input, tree_reads_input, reading_after, reads_input}
 use Rattle.sat_encoding_laws.specs.Encodable.{is_input_name, IsEncodable}
 use Rattle.sat_encoding_laws.specs.Lists.{signal_or_false, leaf_signal, Copy, copy_of, names_of, definition_gates}
 use Rattle.sat_encoding_laws.proofs.Parts.{ready_later, signal_later}
@@ -43,6 +43,7 @@ use Rattle.sat_encoding_laws.proofs.ExpressionMeans.{IsNaming, IsFit, encoded-me
 use Rattle.std.proofs.lemmas.Option.{slice_get_within as got_below}
 use Rattle.smv_flat_laws.proofs.Conditions.{each_at, each_join}
 use Rattle.base_values.proofs.ListLaws.{get_left, get_within}
+use Rattle.base_values.specs.Marks.{is_set}
 
 -- ---- what a tree reads
 
@@ -169,7 +170,7 @@ same_flag xs flags ds nv ns (flat_variable i) h = refl
 same_flag xs flags ds nv ns (flat_symbol i) h = refl
 same_flag xs flags ds nv ns (flat_definition i) h =
     let b = get_within flags i h in
-    (λ j. is_flagged (b.1 j)) ∙ sym (λ j. is_flagged (flags_keep xs flags ds i b.0 b.1 j))
+    (λ j. is_set (b.1 j)) ∙ sym (λ j. is_set (flags_keep xs flags ds i b.0 b.1 j))
 
 -- a definition is flagged where it reads an input, itself or through definitions
 flag_placed : (xs : List FlatVariable) (nv ns : ℕ) (ds : List FlatFormula) (flags : List Bool) → AreInOrder nv ns (length flags) ds → (k : ℕ) (d : FlatFormula) → slice_get ds k ≡ Some d
@@ -195,7 +196,7 @@ flag_placed xs nv ns (d' ∷ ds) flags order (suc k) d e =
 pub flag_is : (m : FlatModel) → IsClosed m → (k : ℕ) (d : FlatFormula) → slice_get m.definitions k ≡ Some d → is_input_name m (flat_definition k) ≡ reads_input m d.value
 flag_is m closed k d e =
     let at : k ≡ length {A = Bool} [] + k = omega arith in
-    ap (λ n. is_flagged (slice_get (reading_after m.variables [] m.definitions) n)) at ∙ ap is_flagged (flag_placed m.variables (length m.variables) (length m.symbols) m.definitions [] closed.definitions k d e)
+    ap (λ n. is_set (slice_get (reading_after m.variables [] m.definitions) n)) at ∙ ap is_set (flag_placed m.variables (length m.variables) (length m.symbols) m.definitions [] closed.definitions k d e)
 
 known_before : (nv ns k : ℕ) (l : FlatLeaf) → IsKnown nv ns k l → IsBefore k l
 known_before nv ns k (flat_variable i) h = tt

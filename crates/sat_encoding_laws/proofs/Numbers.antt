@@ -156,11 +156,11 @@ has_removed i k (j ∷ js) n h = by_test (nat_eq j i) refl (or_cases (nat_eq j k
     by_test false e (inl f) more = or_left (nat_eq j k) (has_number (removed i js) k) f
     by_test false e (inr g) more = or_right (nat_eq j k) (has_number (removed i js) k) (more g)
 
-rising_rest : (i : ℕ) (xs : List ℕ) → IsRising (i ∷ xs) → IsRising xs
+pub rising_rest : (i : ℕ) (xs : List ℕ) → IsRising (i ∷ xs) → IsRising xs
 rising_rest i [] r = tt
 rising_rest i (j ∷ js) r = r.1
 
-rising_above : (i k : ℕ) (xs : List ℕ) → IsRising (i ∷ xs) → has_number xs k ≡ true → i < k
+pub rising_above : (i k : ℕ) (xs : List ℕ) → IsRising (i ∷ xs) → has_number xs k ≡ true → i < k
 rising_above i k [] r h = cc
 rising_above i k (j ∷ js) r h = either_of (λ e. subst (λ x. i < x) (eqb-true j k e) r.0) (λ g. through r.0 (rising_above j k js r.1 g)) (or_cases (nat_eq j k) (has_number js k) h)
   where

@@ -106,7 +106,7 @@ input_most symbols x = by x.role
     by input = declared_most symbols x.declared
 
 -- the bits of inputs are at most 65 for each variable
-inputs_most : (symbols : List Text) (xs : List FlatVariable) → sum_by (input_width symbols) xs ≤ 65 * length xs
+pub inputs_most : (symbols : List Text) (xs : List FlatVariable) → sum_by (input_width symbols) xs ≤ 65 * length xs
 inputs_most symbols [] = omega arith
 inputs_most symbols (x ∷ xs) =
     let one = input_most symbols x in

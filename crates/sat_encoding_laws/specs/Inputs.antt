@@ -5,6 +5,7 @@ use Rattle.smv_language.specs.Tree.{Tree}
 use Rattle.smv_language.specs.Scope.{Role, state, input, frozen_role}
 use Rattle.smv_language.specs.Flat.{FlatLeaf, flat_variable, flat_symbol, flat_definition, FlatVariable, FlatFormula, FlatModel}
 use Rattle.smv_flat_laws.specs.NameResolution.{leaves_in}
+use Rattle.base_values.specs.Marks.{is_set}
 
 -- the role of an input
 abbrev pub is_input : Role → Bool
@@ -17,16 +18,11 @@ abbrev pub is_input_variable : Option FlatVariable → Bool
 is_input_variable None = false
 is_input_variable (Some x) = is_input x.role
 
--- what is known of a definition, where there is one
-abbrev pub is_flagged : Option Bool → Bool
-is_flagged None = false
-is_flagged (Some b) = b
-
 -- the name is an input, or a definition that reads one
 abbrev pub names_input : List FlatVariable → List Bool → FlatLeaf → Bool
 names_input xs reading (flat_variable i) = is_input_variable (slice_get xs i)
 names_input xs reading (flat_symbol i) = false
-names_input xs reading (flat_definition i) = is_flagged (slice_get reading i)
+names_input xs reading (flat_definition i) = is_set (slice_get reading i)
 
 -- some name of the expression is one
 abbrev pub tree_reads_input : List FlatVariable → List Bool → Tree FlatLeaf → Bool

@@ -1,16 +1,16 @@
 -- What is found for a name tells whether it has no value, and whether it gives an input.
-use Rattle.std.proofs.Common.{◌≡◌, ℕ, Bool, true, List, [], ◌∷◌, Some, refl, sym, ◌∙◌, ap, subst, inl, inr}
-use Rattle.std.specs.Prelude.{◌↔◌, IsTrue, slice_get, flat_map, codes}
-use Rattle.smv_language.specs.ProgramTree.{Text, Path, Formula, DeclaredTree, boolean, range, members, instance, ModuleTree, ProgramTree}
-use Rattle.smv_language.specs.Scope.{Place, a_variable, kind_declared, kind_at, module_at, Key, Meaning, a_variable_at, an_expression_at, an_instance_at, a_symbol, Means, find_module}
-use Rattle.smv_language.specs.Trace.{Each, EachBoth}
-use Rattle.smv_flat_laws.specs.Items.{Visit, visits, variable_declared, variables_of}
+use Rattle.std.proofs.Common.{◌≡◌, ℕ, Bool, true, List, Some, refl, sym, ◌∙◌, ap, subst, inl, inr}
+use Rattle.std.specs.Prelude.{◌↔◌, IsTrue, slice_get, codes}
+use Rattle.smv_language.specs.ProgramTree.{Text, Path, Formula, DeclaredTree, instance, ModuleTree, ProgramTree}
+use Rattle.smv_language.specs.Scope.{Place, a_variable, kind_at, module_at, Key, Meaning, a_variable_at, an_expression_at, an_instance_at, a_symbol, Means, find_module}
+use Rattle.smv_language.specs.Trace.{EachBoth}
+use Rattle.smv_flat_laws.specs.Items.{Visit, visits, variables_of}
 use Rattle.smv_flat_laws.specs.Looks.{MeansNothing, MeetsLoop}
 use Rattle.smv_flat_laws.specs.Rules.{HasNoValue, nothing, only_an_instance, ReadsInput, GivesInput, is_input_kind, IsWalkable}
 use Rattle.smv_flat_laws.specs.Model.{Root, roots_of}
-use Rattle.smv_flat_laws.proofs.Conditions.{each_join, each_at}
-use Rattle.smv_flat_laws.proofs.Places.{Real, has_main}
-use Rattle.smv_flat_laws.proofs.Variables.{both_at}
+use Rattle.smv_flat_laws.proofs.Conditions.{each_at}
+use Rattle.smv_flat_laws.proofs.Places.{has_main}
+use Rattle.smv_flat_laws.proofs.Variables.{both_at, RealVariable, real_variables}
 use Rattle.smv_flat_laws.proofs.Walkable.{main_is_there}
 use Rattle.smv_language.specs.ModelTree.{role_of}
 use Rattle.smv_scope.specs.SceneTree.{Denotes, IsFound}
@@ -24,8 +24,9 @@ use Rattle.smv_flat.proofs.JudgeLists.{never}
 use Rattle.smv_scope.proofs.KeyLaws.{same_means}
 use Rattle.smv_scope.proofs.LookFound.{no_loop_meant}
 use Rattle.std.proofs.lemmas.Option.{none-some as none_some}
-use Rattle.smv_scope.specs.Links.{is_marked, told_mark}
+use Rattle.smv_scope.specs.Links.{is_marked}
 use Rattle.smv_language.proofs.ListLaws.{get_map}
+use Rattle.base_values.specs.Marks.{is_set}
 
 pub not_nothing : (p : ProgramTree) (at : Place) (name : Path) (m : Meaning) → Means p at name m → MeansNothing p at name → ⊥
 not_nothing p at name m h k = none_some m (sym (k.no_meaning h.0) ∙ h.1)
@@ -76,21 +77,11 @@ pub record IsRealVariable (p : ProgramTree) (v : Visit) : Type 0 where
   pub what : DeclaredTree
   pub kind : kind_at (module_at p v.place) v.decl.name ≡ a_variable v.role what
 
-real_variable : (p : ProgramTree) (v : Visit) → Real p v → (what : DeclaredTree) → v.decl.what ≡ what → Each (IsRealVariable p) (variable_declared v what)
-real_variable p v r boolean e = (record { what = boolean; kind = ap (λ o. kind_at o v.decl.name) r.is ∙ r.kind ∙ ap (kind_declared v.role) e }, tt)
-real_variable p v r (range lo hi) e = (record { what = range lo hi; kind = ap (λ o. kind_at o v.decl.name) r.is ∙ r.kind ∙ ap (kind_declared v.role) e }, tt)
-real_variable p v r (members ms) e = (record { what = members ms; kind = ap (λ o. kind_at o v.decl.name) r.is ∙ r.kind ∙ ap (kind_declared v.role) e }, tt)
-real_variable p v r (instance m actuals) e = tt
-
-real_variables : (p : ProgramTree) (vs : List Visit) → Each (Real p) vs → Each (IsRealVariable p) (flat_map (λ (v : Visit). variable_declared v v.decl.what) vs)
-real_variables p [] h = tt
-real_variables p (v ∷ vs) h =
-    each_join (IsRealVariable p) (variable_declared v v.decl.what) (flat_map (λ (v : Visit). variable_declared v v.decl.what) vs) (real_variable p v h.0 v.decl.what refl) (real_variables p vs h.1)
-
 pub variable_is_real : (p : ProgramTree) → IsWalkable p → (k : ℕ) (v : Visit) → slice_get (variables_of p) k ≡ Some v → IsRealVariable p v
 variable_is_real p walkable k v e =
     let m : (m : ModuleTree) × (find_module p (codes "main") ≡ Some m) = main_is_there p walkable in
-    each_at (IsRealVariable p) (variables_of p) k v (real_variables p (visits p) (has_main p walkable m.0 m.1)) e
+    let real : RealVariable p v = each_at (RealVariable p) (variables_of p) k v (real_variables p (visits p) (has_main p walkable m.0 m.1)) e in
+    record { what = v.decl.what; kind = ap (λ o. kind_at o v.decl.name) real.1 ∙ real.2 }
 
 -- the kind of a variable that is found
 pub found_kind : (p : ProgramTree) → IsWalkable p → (k : ℕ) (role : _) (at : Place) (x : Text) → Denotes p (found.Variable k role) (a_variable_at at x) →
@@ -108,7 +99,7 @@ mark_of : (R : Key → Bool → Type 0) (p : ProgramTree) (marks : List Bool) �
 mark_of R p marks both k key at e d =
     let listed : slice_get (keys_of p) k ≡ Some d.0.key = get_map (λ (r : Root). r.key) (roots_of p) k d.0 d.1 in
     let m : (b : Bool) × (slice_get marks k ≡ Some b) × R d.0.key b = both_at R (keys_of p) marks k d.0.key both listed in
-    subst (λ q. R q (is_marked marks k)) d.2 (subst (R d.0.key) (sym (ap told_mark m.1)) m.2)
+    subst (λ q. R q (is_marked marks k)) d.2 (subst (R d.0.key) (sym (ap is_set m.1)) m.2)
 
 pub definition_circles : (p : ProgramTree) (n : Needs) → AreNeeds p n → (k : ℕ) (key : Key) (at : Place) (e : Formula) →
     Denotes p (found.Definition k) (an_expression_at key at e) → HasCircle p key (is_circle_found n (found.Definition k))

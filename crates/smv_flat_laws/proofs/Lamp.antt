@@ -7,9 +7,9 @@ use Rattle.smv_language.specs.Tree.{truth as is_truth, leaf, not_of, next_of, bi
 use Rattle.smv_language.specs.ProgramTree.{Text, Formula, boolean, var, define, assign, ModuleTree, ProgramTree}
 use Rattle.smv_language.specs.Scope.{Place, state, Key, define_key, a_variable_at, an_expression_at, an_instance_at, Means, means_in}
 use Rattle.smv_language.specs.Trace.{Each, AtSome}
-use Rattle.smv_language.specs.Flat.{FlatLeaf, flat_variable, flat_definition, FlatInstance, FlatFormula, FlatModel}
+use Rattle.smv_language.specs.Flat.{FlatLeaf, flat_variable, flat_definition, FlatFormula, FlatModel}
 use Rattle.smv_flat_laws.specs.NameResolution.{leaves_in, has_next, IsResolved, IsBefore, Definition, IsLeafOf, Resolver, IsSound, AreDefinitions}
-use Rattle.smv_flat_laws.specs.Items.{Item, a_declaration, a_definition, an_assignment, NumberedModule}
+use Rattle.smv_flat_laws.specs.Items.{Item, a_declaration, a_definition, an_assignment, NumberedModule, main_instance}
 use Rattle.smv_flat_laws.specs.Rules.{no_main, main_has_parameters, double_module, double_name, no_such_module, wrong_count, module_loop, no_such_name, not_a_target, double_assign, define_loop, next_here, too_many, the_program, a_header, an_item, a_visit, a_use, HasNoValue, nothing, only_an_instance, Needs, IsKept, IsAccepted}
 use Rattle.smv_flat_laws.specs.Model.{IsFlatOf, comes, no_more, one_more}
 use Rattle.smv_language.specs.Texts.{same_text}
@@ -169,9 +169,6 @@ item_first = an_assignment (record { when = First; target = codes "on" ∷ []; v
 abbrev item_after : Item
 item_after = an_assignment (record { when = After; target = codes "on" ∷ []; value = leaf (codes "d" ∷ []) })
 
-abbrev main_is : FlatInstance
-main_is = record { place = []; module_name = codes "main" }
-
 program_kept : IsKept lamp the_program
 program_kept no_main b = cc
 program_kept other b = b
@@ -189,7 +186,7 @@ visit_kept module_loop b = cc
 visit_kept too_many b = omega (arith, b)
 visit_kept other b = b
 
-on_use : IsKept lamp (a_use main_is (record { number = 2; before = []; item = item_on }))
+on_use : IsKept lamp (a_use main_instance (record { number = 2; before = []; item = item_on }))
 on_use next_here b = cc
 on_use other b = b
 
@@ -225,14 +222,14 @@ d_needs_none key n = from_names (subst (NamesKey key) (sym n.is) n.named)
     from_names (inl x) = at_depth x.2.0 x.0 x.1 x.2.1
     from_names (inr x) = x
 
-d_use : IsKept lamp (a_use main_is (record { number = 3; before = item_on ∷ []; item = item_d }))
+d_use : IsKept lamp (a_use main_instance (record { number = 3; before = item_on ∷ []; item = item_d }))
 d_use no_such_name (inl b) = has_on b
 d_use no_such_name (inr b) = b
 d_use define_loop b = d_needs_none b.1.0 b.1.1
 d_use next_here b = cc
 d_use other b = b
 
-first_use : IsKept lamp (a_use main_is (record { number = 4; before = item_on ∷ item_d ∷ []; item = item_first }))
+first_use : IsKept lamp (a_use main_instance (record { number = 4; before = item_on ∷ item_d ∷ []; item = item_first }))
 first_use not_a_target b = cc
 first_use double_assign (inl b) = b
 first_use double_assign (inr (inl b)) = b
@@ -240,7 +237,7 @@ first_use double_assign (inr (inr b)) = b
 first_use next_here b = cc
 first_use other b = b
 
-after_use : IsKept lamp (a_use main_is (record { number = 5; before = item_on ∷ item_d ∷ item_first ∷ []; item = item_after }))
+after_use : IsKept lamp (a_use main_instance (record { number = 5; before = item_on ∷ item_d ∷ item_first ∷ []; item = item_after }))
 after_use no_such_name (inl b) = has_d b
 after_use no_such_name (inr b) = b
 after_use not_a_target b = cc

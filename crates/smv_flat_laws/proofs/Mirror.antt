@@ -14,7 +14,7 @@ use Rattle.smv_language.proofs.ValueLaws.{same_text_equal, same_value_equal}
 use Rattle.smv_language.proofs.Monotone.{same_values}
 use Rattle.smv_language.specs.Flat.{FlatInstance}
 use Rattle.smv_flat_laws.specs.Looks.{ComesBack}
-use Rattle.smv_flat_laws.specs.Items.{Item, a_declaration, an_assignment, NumberedModule, Visit, visits}
+use Rattle.smv_flat_laws.specs.Items.{Item, a_declaration, an_assignment, NumberedModule, Visit, visits, main_instance}
 use Rattle.smv_flat_laws.specs.Rules.{no_main, main_has_parameters, double_module, double_name, no_such_module, wrong_count, module_loop, no_such_name, not_a_target, double_assign, define_loop, next_here, input_here, too_many, the_program, a_header, an_item, a_visit, a_use, visit_sites, use_sites, instances_before, variables_before, HasNoValue, nothing, only_an_instance, ActualLoops, SomeActualLoops, is_input_kind, GivesInput, IsKept, IsAccepted}
 use Rattle.smv_flat_laws.proofs.Resolving.{same_meaning}
 use Rattle.smv_flat_laws.proofs.EndLaws.{goes_on}
@@ -237,22 +237,18 @@ no_actual_loops inside name ends s = at_index s.index s.formal s.actual s.is_for
     at_index zero formal actual f a loops = ends (subst (ComesBack mirror inside) (sym (that f)) (subst (λ e. ActualLoops mirror inside zero formal (plain_name e)) (sym (that a)) loops))
     at_index (suc i) formal actual f a loops = absurd (never_some formal f)
 
--- the instances, as the walk lists them
-abbrev main_is : FlatInstance
-main_is = record { place = []; module_name = codes "main" }
-
 abbrev half_at : Place → FlatInstance
 half_at at = record { place = at; module_name = codes "M" }
 
 -- at main each actual names the variable of the other
-a_use_kept : IsKept mirror (a_use main_is (record { number = 5; before = []; item = item_a }))
+a_use_kept : IsKept mirror (a_use main_instance (record { number = 5; before = []; item = item_a }))
 a_use_kept no_such_name (inl b) = never_some (a_variable_at at_b (codes "x")) (sym (b.no_meaning 2))
 a_use_kept no_such_name (inr b) = b
 a_use_kept define_loop b = no_actual_loops at_a (codes "b" ∷ codes "x" ∷ []) (λ back. goes_on 3 mirror at_a (codes "p") back [] refl) b
 a_use_kept next_here b = cc
 a_use_kept other b = b
 
-b_use_kept : IsKept mirror (a_use main_is (record { number = 6; before = item_a ∷ []; item = item_b }))
+b_use_kept : IsKept mirror (a_use main_instance (record { number = 6; before = item_a ∷ []; item = item_b }))
 b_use_kept no_such_name (inl b) = never_some (a_variable_at at_a (codes "x")) (sym (b.no_meaning 2))
 b_use_kept no_such_name (inr b) = b
 b_use_kept define_loop b = no_actual_loops at_b (codes "a" ∷ codes "x" ∷ []) (λ back. goes_on 3 mirror at_b (codes "p") back [] refl) b

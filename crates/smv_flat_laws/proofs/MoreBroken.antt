@@ -5,8 +5,7 @@ use Rattle.smv_language.specs.declared.program.Moment.TheVariants.{Always, First
 use Rattle.smv_language.specs.Tree.{truth as is_truth, leaf, next_of}
 use Rattle.smv_language.specs.ProgramTree.{boolean, instance, var, ivar, define, assign, init, ModuleTree, ProgramTree}
 use Rattle.smv_language.specs.Scope.{state, define_key}
-use Rattle.smv_language.specs.Flat.{FlatInstance}
-use Rattle.smv_flat_laws.specs.Items.{Item, an_assignment, an_init}
+use Rattle.smv_flat_laws.specs.Items.{Item, an_assignment, an_init, main_instance}
 use Rattle.smv_flat_laws.specs.Rules.{main_has_parameters, double_module, no_such_module, wrong_count, not_a_target, double_assign, next_here, input_here, a_header, a_visit, a_use, Breaks}
 
 abbrev with_formal : ModuleTree
@@ -48,27 +47,24 @@ busy_main = record {
 abbrev busy : ProgramTree
 busy = busy_main ∷ []
 
-abbrev main_is : FlatInstance
-main_is = record { place = []; module_name = codes "main" }
-
-nine_breaks : (before : List Item) → Breaks busy not_a_target (a_use main_is (record { number = 7; before = before; item = an_assignment (record { when = First; target = codes "d" ∷ []; value = is_truth true }) }))
+nine_breaks : (before : List Item) → Breaks busy not_a_target (a_use main_instance (record { number = 7; before = before; item = an_assignment (record { when = First; target = codes "d" ∷ []; value = is_truth true }) }))
 nine_breaks before = refl
 
-ten_breaks : Breaks busy double_assign (a_use main_is (record {
+ten_breaks : Breaks busy double_assign (a_use main_instance (record {
   number = 6;
   before = an_assignment (record { when = First; target = codes "x" ∷ []; value = is_truth true }) ∷ [];
   item = an_assignment (record { when = Always; target = codes "x" ∷ []; value = is_truth true });
 }))
 ten_breaks = inl (refl, refl)
 
-twelve_breaks : (before : List Item) → Breaks busy next_here (a_use main_is (record { number = 8; before = before; item = an_init (next_of (leaf (codes "x" ∷ []))) }))
+twelve_breaks : (before : List Item) → Breaks busy next_here (a_use main_instance (record { number = 8; before = before; item = an_init (next_of (leaf (codes "x" ∷ []))) }))
 twelve_breaks before = refl
 
 -- an input itself, and through a define
-thirteen_breaks : (before : List Item) → Breaks busy input_here (a_use main_is (record { number = 9; before = before; item = an_init (leaf (codes "i" ∷ [])) }))
+thirteen_breaks : (before : List Item) → Breaks busy input_here (a_use main_instance (record { number = 9; before = before; item = an_init (leaf (codes "i" ∷ [])) }))
 thirteen_breaks before = inl (inl ([], codes "i", (1, refl), refl))
 
-thirteen_through : (before : List Item) → Breaks busy input_here (a_use main_is (record { number = 10; before = before; item = an_init (leaf (codes "d" ∷ [])) }))
+thirteen_through : (before : List Item) → Breaks busy input_here (a_use main_instance (record { number = 10; before = before; item = an_init (leaf (codes "d" ∷ [])) }))
 thirteen_through before = inl (inr (record {
   first = define_key [] (codes "d");
   place = [];

@@ -76,7 +76,8 @@ both_at_second R (x ∷ xs) [] i y h e = absurd h
 both_at_second R (x ∷ xs) (z ∷ ys) zero y h e = let same : z ≡ y = cc in (x, refl, subst (R x) same h.0)
 both_at_second R (x ∷ xs) (z ∷ ys) (suc i) y h e = both_at_second R xs ys i y h.1 e
 
-module _ (p : ProgramTree) (walkable : IsWalkable p) where
+module _ (p : ProgramTree) where
+  -- what is visited is a variable of its instance
   abbrev pub RealVariable : Visit → Type 0
   RealVariable v = IsVariable p v.place v.decl.name v.role v.decl.what
 
@@ -91,6 +92,7 @@ module _ (p : ProgramTree) (walkable : IsWalkable p) where
   real_variables (v ∷ vs) h =
       each_join RealVariable (variable_declared v v.decl.what) (flat_map (λ v. variable_declared v v.decl.what) vs) (real_one v v.decl.what refl h.0) (real_variables vs h.1)
 
+module _ (p : ProgramTree) (walkable : IsWalkable p) where
   -- a variable of an instance is visited
   listed : (at : Place) (x : Text) (role : Role) (type : DeclaredTree) → IsVariable p at x role type →
       (v : Visit) × In v (variables_of p) × (v.place ≡ at) × (v.decl.name ≡ x) × (v.role ≡ role) × (v.decl.what ≡ type)
@@ -138,7 +140,7 @@ module _ (p : ProgramTree) (walkable : IsWalkable p) where
       from h =
           let b : (v : Visit) × (slice_get (variables_of p) h.0 ≡ Some v) × IsVariableOf m v h.1 = both_at_second (IsVariableOf m) (variables_of p) m.variables h.0 h.1 is.variables h.2 in
           let main : (k : ModuleTree) × (find_module p (codes "main") ≡ Some k) = main_is_there p walkable in
-          let real : RealVariable b.0 = each_at RealVariable (variables_of p) h.0 b.0 (real_variables (visits p) (has_main p walkable main.0 main.1)) b.1 in (
+          let real : RealVariable p b.0 = each_at (RealVariable p) (variables_of p) h.0 b.0 (real_variables p (visits p) (has_main p walkable main.0 main.1)) b.1 in (
             b.0.role,
             b.0.decl.what,
             subst (λ y. IsVariable p at y b.0.role b.0.decl.what) (sym b.2.name ∙ h.4)

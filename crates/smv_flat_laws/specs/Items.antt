@@ -114,9 +114,13 @@ instance_declared at _ = []
 abbrev pub instances_of_visit : Visit → List FlatInstance
 instances_of_visit v = instance_declared (v.decl.name ∷ v.place) v.decl.what
 
+-- the instance of the main module
+abbrev pub main_instance : FlatInstance
+main_instance = record { place = []; module_name = codes "main" }
+
 -- the instances in depth-first order
 abbrev pub instances_of : ProgramTree → List FlatInstance
-instances_of p = record { place = []; module_name = codes "main" } ∷ flat_map instances_of_visit (visits p)
+instances_of p = main_instance ∷ flat_map instances_of_visit (visits p)
 
 -- the declaration, where it is of a variable
 abbrev pub variable_declared : Visit → DeclaredTree → List Visit

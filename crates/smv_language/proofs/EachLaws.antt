@@ -20,3 +20,9 @@ pub some_kept : {A : Type 0} (P Q : A → Type 0) (xs : List A) → ((x : A) →
 some_kept P Q [] f a = absurd a
 some_kept P Q (x ∷ xs) f (inl p) = inl (f x p)
 some_kept P Q (x ∷ xs) f (inr a) = inr (some_kept P Q xs f a)
+
+-- what holds of each holds of the one that stands among them
+pub each_of : {A : Type 0} (P : A → Type 0) (x : A) (xs : List A) → Each P xs → AtSome (λ y. y ≡ x) xs → P x
+each_of P x [] h some = absurd some
+each_of P x (y ∷ xs) h (inl e) = subst P e h.0
+each_of P x (y ∷ xs) h (inr some) = each_of P x xs h.1 some

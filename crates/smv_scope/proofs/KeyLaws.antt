@@ -1,16 +1,15 @@
 -- The links of definitions by their numbers are what their expressions name.
 use Rattle.std.proofs.Common.{◌≡◌, ℕ, zero, suc, true, List, [], ◌∷◌, map, Option, Some, None, refl, ap, ◌∙◌, sym, subst, inl, inr}
-use Rattle.std.specs.Prelude.{slice_get, flat_map, codes}
-use Rattle.smv_language.specs.ProgramTree.{Text, DeclaredTree, boolean, range, members, instance, Path, Formula, ProgramTree, ModuleTree}
-use Rattle.smv_language.specs.Scope.{Place, Key, define_key, a_variable, Meaning, a_variable_at, an_expression_at, an_instance_at, a_symbol, Means, kind_declared, kind_at, module_at, find_module}
-use Rattle.smv_language.specs.Trace.{Each, IsVariable}
-use Rattle.smv_flat_laws.specs.Items.{Visit, visits, variable_declared, variables_of}
+use Rattle.std.specs.Prelude.{slice_get, codes}
+use Rattle.smv_language.specs.ProgramTree.{Text, Path, Formula, ProgramTree, ModuleTree}
+use Rattle.smv_language.specs.Scope.{Place, Key, define_key, a_variable, Meaning, a_variable_at, an_expression_at, an_instance_at, a_symbol, Means, kind_at, module_at, find_module}
+use Rattle.smv_flat_laws.specs.Items.{visits, variables_of}
 use Rattle.smv_flat_laws.specs.Looks.{MeansNothing, MeetsLoop}
 use Rattle.smv_flat_laws.specs.Rules.{MeansInput, IsWalkable, is_input_kind}
 use Rattle.smv_flat_laws.specs.Model.{Root, roots_of, keys_of_meaning}
-use Rattle.smv_flat_laws.proofs.Conditions.{each_at, each_join}
+use Rattle.smv_flat_laws.proofs.Conditions.{each_at}
 use Rattle.smv_flat_laws.proofs.LookLaws.{meets_loop_nothing}
-use Rattle.smv_flat_laws.proofs.Places.{Real, has_main}
+use Rattle.smv_flat_laws.proofs.Places.{has_main}
 use Rattle.smv_flat_laws.proofs.Resolving.{same_meaning}
 use Rattle.smv_flat_laws.proofs.Walkable.{main_is_there}
 use Rattle.smv_language.specs.declared.model.Role.{Role}
@@ -23,6 +22,7 @@ use Rattle.smv_scope.specs.NeedsTree.{keys_of, IsKeyAt}
 use Rattle.smv_scope.specs.Links.{Has}
 use Rattle.smv_scope.specs.DefinitionNeeds.{needed, is_input_role, is_input}
 use Rattle.smv_language.proofs.ListLaws.{get_map}
+use Rattle.smv_flat_laws.proofs.Variables.{RealVariable, real_variables}
 
 -- the key of a number
 abbrev pub key_at : List Key → ℕ → Key
@@ -57,21 +57,6 @@ no_meaning_loop p at name m loop (n, e) = differs (sym (meets_loop_nothing p at 
 -- what a found meaning denotes is what the name means
 denoted : (p : ProgramTree) (at : Place) (name : Path) (f : Found) (m : Meaning) → (a : Meaning) × Means p at name a × Denotes p f a → Means p at name m → Denotes p f m
 denoted p at name f m (a, means, den) h = subst (Denotes p f) (same_means p at name a m means h) den
-
--- a variable that is listed is one of its instance
-abbrev RealVariable : ProgramTree → Visit → Type 0
-RealVariable p v = IsVariable p v.place v.decl.name v.role v.decl.what
-
-real_one : (p : ProgramTree) (v : Visit) (what : DeclaredTree) → v.decl.what ≡ what → Real p v → Each (RealVariable p) (variable_declared v what)
-real_one p v boolean e r = ((r.tree, r.is, r.kind ∙ ap (kind_declared v.role) e ∙ ap (a_variable v.role) (sym e)), tt)
-real_one p v (range lo hi) e r = ((r.tree, r.is, r.kind ∙ ap (kind_declared v.role) e ∙ ap (a_variable v.role) (sym e)), tt)
-real_one p v (members ms) e r = ((r.tree, r.is, r.kind ∙ ap (kind_declared v.role) e ∙ ap (a_variable v.role) (sym e)), tt)
-real_one p v (instance m actuals) e r = tt
-
-real_variables : (p : ProgramTree) (vs : List Visit) → Each (Real p) vs → Each (RealVariable p) (flat_map (λ v. variable_declared v v.decl.what) vs)
-real_variables p [] h = tt
-real_variables p (v ∷ vs) h =
-    each_join (RealVariable p) (variable_declared v v.decl.what) (flat_map (λ v. variable_declared v v.decl.what) vs) (real_one p v v.decl.what refl h.0) (real_variables p vs h.1)
 
 module _ (p : ProgramTree) (at : Place) (name : Path) where
   -- a definition that is found is what the name means

@@ -8,12 +8,13 @@ use Rattle.smv_scope.specs.declared.needs.WalkMark.{WalkMark}
 use Rattle.smv_scope.specs.declared.needs.WalkMark.TheVariants.{Unmet, Begun, Ended}
 use Rattle.smv_scope.specs.declared.needs.Task.{Task}
 use Rattle.smv_scope.specs.declared.needs.Task.TheVariants.{Visit, End}
-use Rattle.smv_scope.specs.Links.{Has, Graph, IsWithin, Spread, is_marked, told_mark, spread_by}
+use Rattle.smv_scope.specs.Links.{Has, Graph, IsWithin, Spread, is_marked, spread_by}
 use Rattle.smv_scope.specs.DefinitionOrder.{Lay, mark_or, mark_at, visits, visit_by, lay_by, number_of, IsLaying}
 use Rattle.smv_scope.specs.WorkLeft.{open_work, left_to_spread, is_unmet, left_to_lay}
 use Rattle.std.proofs.lemmas.Option.{same_Some as some_same}
 use Rattle.smv_language.specs.Values.{opposite}
 use Rattle.base_values.proofs.ListLaws.{get_within}
+use Rattle.base_values.specs.Marks.{is_set}
 
 -- an open mark is closed
 pub work_taken : {M : Type 0} (is_open : M → Bool) (work : ℕ → ℕ) (marks : List M) (k : ℕ) (old new : M) → slice_get marks k ≡ Some old → is_open old ≡ true → is_open new ≡ false →
@@ -44,7 +45,7 @@ links_taken : (g : Graph) (count : ℕ) → IsWithin g count → (r : List Bool)
 links_taken g count within r k size m = by_place (cases_lt k (length r))
   where
     is_false : (b : Bool) → slice_get r k ≡ Some b → b ≡ false
-    is_false b e = sym (ap told_mark e) ∙ m
+    is_false b e = sym (ap is_set e) ∙ m
 
     no_more : length r ≤ k → length (g k) ≡ 0
     no_more past = unlinked (g k) (λ b h. let inside : k < count = within k b h in absurd (omega (arith, inside, past, size)))

@@ -4,9 +4,10 @@ use Rattle.std.proofs.lemmas.List.{length-replicate, length-set}
 use Rattle.std.specs.Prelude.{slice_get, Vec}
 use Rattle.std.specs.declared.alloc.Global.{Global}
 use Rattle.smv_scope.specs.declared.links.Links.{Links}
-use Rattle.smv_scope.specs.Links.{Has, Graph, graph_of, row_of, Reaches, start, further, IsWithin, AreReached, is_marked, told_mark, spread_by, IsSpreading}
+use Rattle.smv_scope.specs.Links.{Has, Graph, graph_of, row_of, Reaches, start, further, IsWithin, AreReached, is_marked, spread_by, IsSpreading}
 use Rattle.smv_scope.proofs.LinkLaws.{has_left, has_right, has_either}
 use Rattle.base_values.proofs.ListLaws.{get_within}
+use Rattle.base_values.specs.Marks.{is_set}
 
 row_within : (vs : List (Vec ℕ Global)) (a b : ℕ) → Has (row_of (slice_get vs a)) b → a < length vs
 row_within [] a b h = absurd h
@@ -76,7 +77,7 @@ pub spreading_by : (g : Graph) (starts : List ℕ) (count : ℕ) (r : List Bool)
 spreading_by g starts count r w k h = by_mark (is_marked r k) refl
   where
     known : is_marked r k ≡ true → (j : ℕ) → slice_get r j ≡ Some false → k ≡ j → ⊥
-    known m j f e = differs (sym m ∙ ap told_mark (subst (λ i. slice_get r i ≡ Some false) (sym e) f))
+    known m j f e = differs (sym m ∙ ap is_set (subst (λ i. slice_get r i ≡ Some false) (sym e) f))
       where
         differs : true ≡ false → ⊥
         differs d = cc

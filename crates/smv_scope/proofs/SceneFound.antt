@@ -19,7 +19,7 @@ use Rattle.smv_flat_laws.proofs.Variables.{both_at}
 use Rattle.smv_flat_laws.proofs.Walkable.{main_is_there}
 use Rattle.smv_language.specs.BorrowedTexts.{texts}
 use Rattle.smv_scope.specs.SceneTree.{gives_name, item_from, local_after, local_of, HasNames, Denotes, IsFound, meaning_of_declared, meaning_of_item, IsOwnMeaning, IsOwn, IsSpot, IsKnown, formals_of, AreKnown, program_of, IsSet, IsScene}
-use Rattle.smv_scope.specs.TableLookUps.{place_from, names_of_spot, local_in, local_at, found_or, own_in, own_at, formal_or, formal_in, formal_at, told, symbol_or, symbol_at, by_local, part_at, found_inside}
+use Rattle.smv_scope.specs.TableLookUps.{names_of_spot, local_in, local_at, found_or, own_in, own_at, formal_or, formal_in, formal_at, told, symbol_or, symbol_at, by_local, part_at, found_inside}
 use Rattle.smv_scope.specs.TableLookUps as tables
 use Rattle.smv_scope.specs.declared.modules.Local.{Local}
 use Rattle.smv_scope.specs.declared.modules.Local.TheVariants as local
@@ -91,7 +91,7 @@ undeclared_nothing p at x kind is = record {
   no_loop = ended_meets_none 1 p at (x ∷ []) (ap (λ k. step_kind p at k x []) kind);
 }
 
-symbol_found : (p : ProgramTree) (at : Place) (x : Text) (o : Option ℕ) → place_from 0 (symbols_of p) x ≡ o → length (symbols_of p) < 4294967296 →
+symbol_found : (p : ProgramTree) (at : Place) (x : Text) (o : Option ℕ) → formal_from 0 (symbols_of p) x ≡ o → length (symbols_of p) < 4294967296 →
     kind_at (module_at p at) x ≡ undeclared → IsFound p at (x ∷ []) (symbol_or o)
 symbol_found p at x None e few kind = undeclared_nothing p at x kind (sym (symbols_among p x) ∙ not_placed 0 (symbols_of p) x e)
 symbol_found p at x (Some i) e few kind =
@@ -175,7 +175,7 @@ module _ (s : Scene) (set : IsSet s) where
 
     symbol_here : formal_from 0 st.tree.formals x ≡ None → item_from 0 (items_of st.tree) x ≡ None → IsFound (program_of s) at.place (x ∷ []) (symbol_at s x)
     symbol_here none e =
-        symbol_found (program_of s) at.place x (place_from 0 (texts s.symbols.keys) x) (ap (λ xs. place_from 0 xs x) (sym set.symbols)) few
+        symbol_found (program_of s) at.place x (formal_from 0 (texts s.symbols.keys) x) (ap (λ xs. formal_from 0 xs x) (sym set.symbols)) few
         (kind ∙ ap (λ o. kind_after_formals o (kind_in_items (items_of st.tree) x)) none ∙ none_given 0 (items_of st.tree) x e)
       where
         few : length (symbols_of (program_of s)) < 4294967296
@@ -207,7 +207,7 @@ module _ (s : Scene) (set : IsSet s) where
       by_symbol (Some k) = by_fit k (nat_lt k 4294967296)
 
       by_local' : (o : Option Local) → found_inside look (by_local s spot true x o) ≡ found_inside look (by_local s spot false x o)
-      by_local' None = by_symbol (place_from 0 (texts s.symbols.keys) x)
+      by_local' None = by_symbol (formal_from 0 (texts s.symbols.keys) x)
       by_local' (Some (local.Formal i)) = refl
       by_local' (Some (local.Item k)) = refl
 

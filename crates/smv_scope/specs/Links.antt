@@ -4,6 +4,7 @@ use Rattle.std.specs.Prelude.{slice_get, set, if◌then◌else◌, Vec}
 use Rattle.std.specs.declared.alloc.Global.{Global}
 use Rattle.smv_language.specs.Trace.{AtSome}
 use Rattle.smv_scope.specs.declared.links.Links.{Links}
+use Rattle.base_values.specs.Marks.{is_set}
 
 -- the number is among these
 abbrev pub Has : List ℕ → ℕ → Type 0
@@ -46,14 +47,9 @@ pub record AreCircles (g : Graph) (count : ℕ) (some : Bool) (marks : List Bool
   pub size : length marks ≡ count
   pub each : (k : ℕ) (b : Bool) → slice_get marks k ≡ Some b → IsCircle g some k b
 
--- a mark, where it is there
-abbrev pub told_mark : Option Bool → Bool
-told_mark None = false
-told_mark (Some b) = b
-
 -- whether a number is marked
 abbrev pub is_marked : List Bool → ℕ → Bool
-is_marked marks k = told_mark (slice_get marks k)
+is_marked marks k = is_set (slice_get marks k)
 
 -- what is marked so far, and what waits to be looked at
 pub record Spread : Type 0 where

@@ -1,8 +1,8 @@
 -- What the tables of a scene tell of a name, part by part.
-use Rattle.std.specs.Prelude.{ℕ, suc, Bool, true, false, if◌then◌else◌, List, [], ◌∷◌, Option, Some, None, slice_get, nat_lt, Vec}
+use Rattle.std.specs.Prelude.{ℕ, Bool, true, false, if◌then◌else◌, [], ◌∷◌, Option, Some, None, slice_get, nat_lt, Vec}
 use Rattle.std.specs.declared.alloc.Global.{Global}
 use Rattle.smv_language.specs.ProgramTree.{Text, Path}
-use Rattle.smv_language.specs.Texts.{same_text, first_with}
+use Rattle.smv_language.specs.Texts.{first_with}
 use Rattle.smv_language.specs.BorrowedTexts.{texts}
 use Rattle.smv_scope.specs.SceneTree.{named}
 use Rattle.smv_scope.specs.declared.modules.Local.{Local}
@@ -14,11 +14,7 @@ use Rattle.smv_scope.specs.declared.walk.Spot.{Spot}
 use Rattle.smv_scope.specs.declared.names.Formal.{Formal}
 use Rattle.smv_scope.specs.declared.names.Formal.TheVariants as known
 use Rattle.smv_scope.specs.declared.names.Scene.{Scene}
-
--- the place of a text, counted on from a number
-abbrev pub place_from : ℕ → List Text → Text → Option ℕ
-place_from k [] x = None
-place_from k (y ∷ ys) x = if same_text y x then Some k else place_from (suc k) ys x
+use Rattle.smv_language.specs.Scope.{formal_from}
 
 -- the names of an instance's module, where the instance is there
 abbrev pub names_of_spot : Scene → Option Spot → Option ModuleNames
@@ -76,7 +72,7 @@ symbol_or (Some k) = if nat_lt k 4294967296 then found.Symbol k else found.Nothi
 
 -- the symbol of a name, where its number has 32 bits
 abbrev pub symbol_at : Scene → Text → Found
-symbol_at s x = symbol_or (place_from 0 (texts s.symbols.keys) x)
+symbol_at s x = symbol_or (formal_from 0 (texts s.symbols.keys) x)
 
 -- what a part of a name means, by what it is in its module: only the last part may be a symbol
 abbrev pub by_local : Scene → ℕ → Bool → Text → Option Local → Found

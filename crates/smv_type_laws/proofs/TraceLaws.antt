@@ -18,10 +18,10 @@ use Rattle.smv_flat_laws.proofs.Sections.{items_are}
 use Rattle.smv_flat_laws.proofs.Places.{has_main, walked, facts_named}
 use Rattle.smv_flat_laws.proofs.Flattening.{flattening}
 use Rattle.smv_flat_laws.proofs.Walkable.{accepted_walkable, main_is_there}
-use Rattle.smv_flat_laws.proofs.Variables.{variables_are}
+use Rattle.smv_flat_laws.proofs.Variables.{variables_are, RealVariable, real_variables}
 use Rattle.smv_flat_laws.proofs.Numbered.{has_valuation}
 use Rattle.smv_type_laws.specs.Laws.{values_by_number, DomainsAreThose, TracesAreThose}
-use Rattle.smv_type_laws.proofs.WrittenLaws.{numbers, domains, IsReal, real_all}
+use Rattle.smv_type_laws.proofs.WrittenLaws.{numbers, domains}
 use Rattle.smv_flat_laws.proofs.HistoryTraces.{domains_length}
 
 -- A declaration makes its name what it declares.
@@ -89,7 +89,7 @@ record Numbered (p : ProgramTree) (x : FlatVariable) : Type 0 where
   role : Role
   is : IsVariable p x.place x.name role x.declared
 
-numbered : (p : ProgramTree) (m : FlatModel) (ws : List Visit) (xs : List FlatVariable) → EachBoth (IsVariableOf m) ws xs → Each (IsReal p) ws → Each (Numbered p) xs
+numbered : (p : ProgramTree) (m : FlatModel) (ws : List Visit) (xs : List FlatVariable) → EachBoth (IsVariableOf m) ws xs → Each (RealVariable p) ws → Each (Numbered p) xs
 numbered p m [] [] b r = tt
 numbered p m [] (x ∷ xs) b r = absurd b
 numbered p m (w ∷ ws) [] b r = absurd b
@@ -121,7 +121,7 @@ told_at p v (y ∷ xs) (suc i) x n h e = told_at p v xs i x n.1 h.1 e
 variables_hold : (p : ProgramTree) (m : FlatModel) → IsAccepted p → IsFlatOf p m → (v : Valuation) → AreInDomains m.variables (values_by_number m v) → VariablesHold p v
 variables_hold p m accepted is v h at x role type var' =
     let main : (k : ModuleTree) × (find_module p (codes "main") ≡ Some k) = main_is_there p (accepted_walkable p accepted) in
-    let reals = numbered p m (variables_of p) m.variables is.variables (real_all p (visits p) (has_main p (accepted_walkable p accepted) main.0 main.1)) in
+    let reals = numbered p m (variables_of p) m.variables is.variables (real_variables p (visits p) (has_main p (accepted_walkable p accepted) main.0 main.1)) in
     let found = (variables_are p (accepted_walkable p accepted) m is at x).0 (role, type, var') in
     let told = told_at p v m.variables found.0 found.1 reals h found.2 in
     let here : IsVariable p at x told.real.role found.1.declared =

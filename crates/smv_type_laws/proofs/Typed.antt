@@ -1,5 +1,5 @@
 -- The laws of typed models.
-use Rattle.std.proofs.Common.{◌≡◌, ℕ, suc, ◌+◌, ◌<◌, ◌≤◌, arith, true, false, List, [], ◌∷◌, ◌++◌, length, refl, sym, ap, ◌∙◌, subst, inl, inr, ⊎_elim, ◌⊎◌}
+use Rattle.std.proofs.Common.{◌≡◌, ℕ, suc, ◌+◌, ◌<◌, ◌≤◌, arith, true, false, List, [], ◌∷◌, ◌++◌, length, refl, sym, ap, ◌∙◌, subst, inl, inr, ◌⊎◌}
 use Rattle.smv_language.specs.Trace.{Each, AtSome, EachBoth}
 use Rattle.smv_language.specs.Values.{Value, Values, has}
 use Rattle.smv_language.specs.Laws.{AllLeaves}
@@ -17,6 +17,7 @@ use Rattle.smv_type_laws.proofs.SafeLaws.{safe}
 use Rattle.smv_type_laws.proofs.VariableLaws.{variable_holds}
 use Rattle.smv_type_laws.proofs.ModelLaws.{after_keeps, after_length, each_before, each_end, judge_agrees, all_leaves_more, ValueHolds, IsRight, names_hold, table_holds}
 use Rattle.base_values.proofs.ListLaws.{get_within}
+use Rattle.smv_language.proofs.EachLaws.{each_of}
 
 pub none_at : (number item : ℕ) (rules : List KindRule) → breaches_at number item rules ≡ [] → rules ≡ []
 none_at number item [] e = refl
@@ -169,11 +170,6 @@ pub definitions_defined : DefinitionsAreDefined
 definitions_defined m closed t v hv =
     let vs = judged_variables m.variables in
     defined m v closed t hv m.definitions (placed vs (length m.variables) (length m.symbols) (length m.definitions) m.definitions [] (omega arith) (parts_of m t).definitions closed.definitions)
-
--- One fault.
-each_of : {A : Type 0} (P : A → Type 0) (a : A) (xs : List A) → Each P xs → AtSome (λ x. x ≡ a) xs → P a
-each_of P a [] h s = absurd s
-each_of P a (x ∷ xs) h s = ⊎_elim (λ e. subst P e h.0) (each_of P a xs h.1) s
 
 -- each no later than the other: the same item and rule
 same_place : (a b : Breach) → IsNoLater a b → IsNoLater b a → (number_of a.rule ≡ number_of b.rule) × (a.item ≡ b.item)

@@ -1,6 +1,6 @@
 -- What a written expression of a lawful program may have lies in the kind of its flat form.
 use Rattle.std.proofs.Common.{◌≡◌, Bool, true, false, List, [], ◌∷◌, map, Some, IsTrue, refl, sym, ap, ◌∙◌, subst}
-use Rattle.std.specs.Prelude.{flat_map, codes}
+use Rattle.std.specs.Prelude.{codes}
 use Rattle.smv_language.specs.Tree.{Tree}
 use Rattle.smv_language.specs.ProgramTree.{Text, Formula, DeclaredTree, boolean, range, members, instance, DeclTree, DefineTree, SectionTree, var, ivar, frozen, define, constants, assign, init, invar, trans, ModuleTree, ProgramTree}
 use Rattle.smv_language.specs.Texts.{same_text}
@@ -10,12 +10,11 @@ use Rattle.smv_language.specs.May.{Valuation}
 use Rattle.smv_language.specs.Trace.{Each, in_domain, IsVariable, Declares, DomainSection, InDomains, EachBoth}
 use Rattle.smv_language.proofs.ValueLaws.{same_value_refl}
 use Rattle.smv_language.specs.Flat.{FlatLeaf, FlatVariable, FlatModel, Numbers}
-use Rattle.smv_flat_laws.specs.Items.{Visit, visits, variable_declared, variables_of}
+use Rattle.smv_flat_laws.specs.Items.{Visit, visits, variables_of}
 use Rattle.smv_flat_laws.specs.Rules.{IsAccepted}
 use Rattle.smv_flat_laws.specs.Model.{IsVariableOf, IsFlatOf}
 use Rattle.smv_flat_laws.specs.NameResolution.{Resolver, IsSound, IsResolved}
-use Rattle.smv_flat_laws.proofs.Conditions.{each_join}
-use Rattle.smv_flat_laws.proofs.Places.{Real, has_main}
+use Rattle.smv_flat_laws.proofs.Places.{has_main}
 use Rattle.smv_flat_laws.proofs.Walkable.{accepted_walkable, main_is_there}
 use Rattle.smv_flat_laws.specs.FlatTrace.{AreInDomains}
 use Rattle.smv_type_laws.specs.ExpressionKinds.{Judged, truth_class, not_boolean, unless_class}
@@ -30,6 +29,7 @@ use Rattle.smv_type_laws.proofs.AnyResolver.{resolved_by, may_by}
 use Rattle.smv_language.proofs.OneTree.{same_text_equal}
 use Rattle.smv_language.proofs.ListLaws.{get_map}
 use Rattle.smv_language.proofs.ProgramLaws.{after_formals}
+pub use Rattle.smv_flat_laws.proofs.Variables.{RealVariable as IsReal, real_variables as real_all}
 
 -- A declared variable has a value of its domain.
 declared_value : (v : Valuation) (at : Place) (x : Text) (role r : Role) (what type : DeclaredTree) → kind_declared r what ≡ a_variable role type → Declares v at x what → IsTrue (in_domain type (v at x))
@@ -78,20 +78,6 @@ variable_value p v h at x role type is =
 
 pub numbers : (m : FlatModel) (v : Valuation) → Numbers m (values_by_number m v) v
 numbers m v i x e = get_map (λ y. v y.place y.name) m.variables i x e
-
-abbrev pub IsReal : ProgramTree → Visit → Type 0
-IsReal p v = IsVariable p v.place v.decl.name v.role v.decl.what
-
-real_one : (p : ProgramTree) (v : Visit) (what : DeclaredTree) → v.decl.what ≡ what → Real p v → Each (IsReal p) (variable_declared v what)
-real_one p v boolean e r = ((r.tree, r.is, r.kind ∙ ap (kind_declared v.role) e ∙ ap (a_variable v.role) (sym e)), tt)
-real_one p v (range lo hi) e r = ((r.tree, r.is, r.kind ∙ ap (kind_declared v.role) e ∙ ap (a_variable v.role) (sym e)), tt)
-real_one p v (members ms) e r = ((r.tree, r.is, r.kind ∙ ap (kind_declared v.role) e ∙ ap (a_variable v.role) (sym e)), tt)
-real_one p v (instance m actuals) e r = tt
-
-pub real_all : (p : ProgramTree) (vs : List Visit) → Each (Real p) vs → Each (IsReal p) (flat_map (λ v. variable_declared v v.decl.what) vs)
-real_all p [] h = tt
-real_all p (v ∷ vs) h =
-    each_join (IsReal p) (variable_declared v v.decl.what) (flat_map (λ w. variable_declared w w.decl.what) vs) (real_one p v v.decl.what refl h.0) (real_all p vs h.1)
 
 domains_from : (p : ProgramTree) (m : FlatModel) (v : Valuation) → InDomains p v → (ws : List Visit) (xs : List FlatVariable) → EachBoth (IsVariableOf m) ws xs → Each (IsReal p) ws →
     AreInDomains xs (map (λ x. v x.place x.name) xs)

@@ -1,10 +1,10 @@
 -- A top event of a model over the flat model of its extension, and the rule for which it is refused, as it is told.
 use Rattle.std.proofs.Common.{◌≡◌, Bool, false, List, [], ◌∷◌, Option, Some, None, IfSome, Result, Ok, Err, refl, ap, ◌∙◌}
-use Rattle.std.specs.Prelude.{slice_get, codes, nat_lt}
+use Rattle.std.specs.Prelude.{slice_get, nat_lt}
 use Rattle.base_values.specs.declared.limits.TheConstants.{MOST_TOP_COST}
 use Rattle.smv_language.specs.Tree.{Tree}
 use Rattle.smv_language.specs.ProgramTree.{Text, Formula, ProgramTree}
-use Rattle.smv_language.specs.Flat.{FlatLeaf, FlatInstance, FlatModel}
+use Rattle.smv_language.specs.Flat.{FlatLeaf, FlatModel}
 use Rattle.smv_flat_laws.specs.Model.{IsFlatOf}
 use Rattle.smv_flat_laws.specs.ResolvedAt.{IsResolvedAt}
 use Rattle.smv_flat_laws.specs.Rules.{Rule, IsAccepted}
@@ -29,10 +29,7 @@ use Rattle.verb_loading.specs.Models.{IsLawful}
 use Rattle.verb_loading.specs.Cases.{Case, extension_of, IsCase, IsTop, IsWrongTop, by_names, by_kinds}
 use Rattle.verb_loading.specs.LoadedCases.{IsTopIn, IsTopText}
 use Rattle.verb_loading.proofs.Told.{one_refusal, names_wrong, flat_is, type_is}
-
--- `main` is the first instance
-abbrev pub main_instance : FlatInstance
-main_instance = record { place = []; module_name = codes "main" }
+use Rattle.smv_flat_laws.specs.Items.{main_instance}
 
 pub main_is_at : (p : ProgramTree) (m : FlatModel) → IsAccepted p → IsFlatOf p m → IsAt p m 0 main_instance
 main_is_at p m accepted is = record { accepted = accepted; flat = is; is_at = ap (λ xs. slice_get xs 0) is.instances }

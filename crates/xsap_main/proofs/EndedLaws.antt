@@ -9,7 +9,7 @@ use Rattle.xsap_main.specs.ProgramEnding.{HasRun}
 no_words : {P : Type 0} (f : WordFault) → status.Memory ≡ status.Words f → P
 no_words f e = cc
 
-no_desk : {P : Type 0} → status.Memory ≡ status.Desk → P
+pub no_desk : {P : Type 0} → status.Memory ≡ status.Desk → P
 no_desk e = cc
 
 pub without_memory : (words : List Text) (before after : Told) (said now : Said) (faults counted : ℕ) → HasRun words status.Memory before after said now faults counted

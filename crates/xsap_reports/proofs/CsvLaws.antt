@@ -2,7 +2,7 @@
 use Rattle.std.proofs.Common.{◌≡◌, ℕ, zero, suc, ◌-◌, ◌/◌, ◌%◌, ◌+◌, ◌<◌, ◌≤◌, Bool, true, false, List, [], ◌∷◌, ◌++◌, length, refl, sym, ◌∙◌, ap, arith}
 use Rattle.std.specs.Borrow.{Bor}
 use Rattle.std.specs.Prelude.{cond, if◌then◌else◌, nat_eq, nat_lt, ◌==◌, ◌||◌, ◌&&◌, map, slice_get, All}
-use Rattle.std.proofs.lemmas.Bool.{eqb-true, ltb-true, false_from_ne_true}
+use Rattle.std.proofs.lemmas.Bool.{eqb-true, ltb-true, false_from_ne_true, and_parts, or_parts}
 use Rattle.std.specs.List.{list_any, list_all, AllByRecursion}
 use Rattle.std.specs.Fmt.{decimal, digits, digits_onto, digit_glyph}
 use Rattle.std.proofs.lemmas.List.{append_assoc, append-nil}
@@ -14,22 +14,6 @@ use Rattle.xsap_reports.specs.declared.report.Report.{Report}
 pub or_false : (a b : Bool) → a ≡ false → b ≡ false → (a || b) ≡ false
 or_false true b e f = e
 or_false false b e f = f
-
-pub or_left : (a b : Bool) → (a || b) ≡ false → a ≡ false
-or_left true b e = e
-or_left false b e = refl
-
-pub or_right : (a b : Bool) → (a || b) ≡ false → b ≡ false
-or_right true b e = cc
-or_right false b e = e
-
-pub and_left : (a b : Bool) → (a && b) ≡ true → a ≡ true
-and_left true b e = refl
-and_left false b e = e
-
-pub and_right : (a b : Bool) → (a && b) ≡ true → b ≡ true
-and_right true b e = e
-and_right false b e = cc
 
 -- digits are not special
 
@@ -81,8 +65,8 @@ plain_byte b f fs rest h =
 plain_run : (x f : List ℕ) (fs : List (List ℕ)) (rest : List ℕ) → list_any is_special x ≡ false → records_from outside f fs (x ++ rest) ≡ records_from outside (f ++ x) fs rest
 plain_run [] f fs rest h = ap (λ g. records_from outside g fs rest) (sym (append-nil f))
 plain_run (b ∷ x) f fs rest h =
-    plain_byte b f fs (x ++ rest) (or_left (is_special b) (list_any is_special x) h)
-    ∙ (plain_run x (f ++ b ∷ []) fs rest (or_right (is_special b) (list_any is_special x) h)
+    plain_byte b f fs (x ++ rest) (or_parts (is_special b) (list_any is_special x) h).0
+    ∙ (plain_run x (f ++ b ∷ []) fs rest (or_parts (is_special b) (list_any is_special x) h).1
     ∙ ap (λ g. records_from outside g fs rest) (append_assoc f (b ∷ []) x))
 
 quote_is : (b : ℕ) → nat_eq b 34 ≡ true → 34 ≡ b
@@ -125,13 +109,13 @@ row_read n names rest =
 -- words
 
 not_space : (b : ℕ) → is_plain b ≡ true → nat_eq b 32 ≡ false
-not_space b h = apart b 32 (ltb-true 32 b (and_left (nat_lt 32 b) (nat_lt b 127) h))
+not_space b h = apart b 32 (ltb-true 32 b (and_parts (nat_lt 32 b) (nat_lt b 127) h).0)
 
 word_run : (n w rest : List ℕ) → list_all is_plain n ≡ true → words_from w (n ++ rest) ≡ words_from (w ++ n) rest
 word_run [] w rest h = ap (λ v. words_from v rest) (sym (append-nil w))
 word_run (b ∷ n) w rest h =
-    byte_is (nat_eq b 32) (not_space b (and_left (is_plain b) (list_all is_plain n) h))
-    ∙ (word_run n (w ++ b ∷ []) rest (and_right (is_plain b) (list_all is_plain n) h)
+    byte_is (nat_eq b 32) (not_space b (and_parts (is_plain b) (list_all is_plain n) h).0)
+    ∙ (word_run n (w ++ b ∷ []) rest (and_parts (is_plain b) (list_all is_plain n) h).1
     ∙ ap (λ v. words_from v rest) (append_assoc w (b ∷ []) n))
   where
     byte_is : (t : Bool) → t ≡ false → cond t (word_before w (words_from [] (n ++ rest))) (words_from (w ++ b ∷ []) (n ++ rest)) ≡ words_from (w ++ b ∷ []) (n ++ rest)
@@ -151,11 +135,11 @@ words_spaced n [] h g = word_run n [] [] (all_plain n h) ∙ word_first n [] h
 words_spaced n (m ∷ ms) h g =
     word_run n [] (spaced (m ∷ ms)) (all_plain n h)
     ∙ (word_first n (words_from [] (m ++ spaced ms)) h
-    ∙ ap (λ ws. n ∷ ws) (words_spaced m ms (and_left (is_word m) (list_all is_word ms) g) (and_right (is_word m) (list_all is_word ms) g)))
+    ∙ ap (λ ws. n ∷ ws) (words_spaced m ms (and_parts (is_word m) (list_all is_word ms) g).0 (and_parts (is_word m) (list_all is_word ms) g).1))
 
 words_joined : (ns : List (List ℕ)) → list_all is_word ns ≡ true → words_from [] (joined ns) ≡ ns
 words_joined [] h = refl
-words_joined (n ∷ ns) h = words_spaced n ns (and_left (is_word n) (list_all is_word ns) h) (and_right (is_word n) (list_all is_word ns) h)
+words_joined (n ∷ ns) h = words_spaced n ns (and_parts (is_word n) (list_all is_word ns) h).0 (and_parts (is_word n) (list_all is_word ns) h).1
 
 -- tables
 
@@ -198,3 +182,6 @@ csv_back report named =
     (sets_named report.sets.items (λ set. set.items) report.faults.items
     (recursion_from_All (λ name. is_word name.now ≡ true) report.faults.items named.0)
     (recursion_from_All (λ set. All (IsListed (length report.faults.items)) set.items) report.sets.items named.1))
+
+pub same : (b k : ℕ) → nat_eq b k ≡ true → k ≡ b
+same b k e = sym (eqb-true b k e)

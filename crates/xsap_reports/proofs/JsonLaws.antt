@@ -1,21 +1,19 @@
 -- What stands under `sets` in a report's JSON are its sets.
 use Rattle.std.proofs.Common.{◌≡◌, ℕ, zero, suc, ◌/◌, ◌%◌, ◌+◌, ◌<◌, Bool, true, false, List, [], ◌∷◌, ◌++◌, length, refl, sym, ◌∙◌, ap, arith, codes}
 use Rattle.std.specs.Prelude.{cond, if◌then◌else◌, nat_eq, nat_lt, ◌==◌, ◌||◌, ◌&&◌, map, All}
-use Rattle.std.proofs.lemmas.Bool.{eqb-true, lt-ltb, false_from_ne_true}
+use Rattle.std.proofs.lemmas.Bool.{eqb-true, lt-ltb, false_from_ne_true, and_parts, or_parts}
 use Rattle.std.specs.List.{list_any, list_all, AllByRecursion}
 use Rattle.std.specs.Fmt.{decimal, digits, digits_onto, digit_glyph}
 use Rattle.std.proofs.lemmas.List.{append_assoc, append-nil}
 use Rattle.std.proofs.lemmas.List.Elements.{recursion_from_All}
-use Rattle.xsap_reports.proofs.CsvLaws.{or_false, or_left, or_right, and_left, and_right, all_plain, sets_named}
-use Rattle.xsap_reports.specs.Json.{Token, sign, string, plain, is_blank, is_sign, between, within, inside, behind, tokens_from, tokens, items_from, characters, names_of, sets_in_json}
+use Rattle.xsap_reports.proofs.CsvLaws.{or_false, all_plain, sets_named, same}
+use Rattle.xsap_reports.specs.Json.{Token, sign, string, plain, is_sign, between, within, inside, behind, tokens_from, tokens, items_from, characters, names_of, sets_in_json}
 use Rattle.xsap_reports.specs.JsonText.{escaped_byte, escaped, quoted_string, more_strings, strings, more_numbers, numbers, set_object, behind_commas, with_commas, json_text}
 use Rattle.xsap_reports.specs.Reports.{is_plain, is_word, IsListed, names_in, set_names, HasNames}
 use Rattle.xsap_reports.specs.declared.report.Report.{Report}
+use Rattle.xsap_reports.specs.Blanks.{is_blank}
 
 -- strings
-
-same : (b k : ℕ) → nat_eq b k ≡ true → k ≡ b
-same b k e = sym (eqb-true b k e)
 
 step_by : (p q r : Bool) (b : ℕ) (t rest numbered : List ℕ) → nat_eq b 34 ≡ p → nat_eq b 92 ≡ q → r ≡ true →
     tokens_from inside t (cond p (92 ∷ 34 ∷ []) (cond q (92 ∷ 92 ∷ []) (cond r (b ∷ []) numbered)) ++ rest) ≡ tokens_from inside (t ++ b ∷ []) rest
@@ -30,8 +28,8 @@ string_run : (x t rest : List ℕ) → list_all is_plain x ≡ true → tokens_f
 string_run [] t rest h = ap (λ s. string s ∷ tokens rest) (sym (append-nil t))
 string_run (b ∷ x) t rest h =
     ap (λ s. tokens_from inside t s) (append_assoc (escaped_byte b) (escaped x) (34 ∷ rest))
-    ∙ (step_by (nat_eq b 34) (nat_eq b 92) (is_plain b) b t (escaped x ++ 34 ∷ rest) _ refl refl (and_left (is_plain b) (list_all is_plain x) h)
-    ∙ (string_run x (t ++ b ∷ []) rest (and_right (is_plain b) (list_all is_plain x) h)
+    ∙ (step_by (nat_eq b 34) (nat_eq b 92) (is_plain b) b t (escaped x ++ 34 ∷ rest) _ refl refl (and_parts (is_plain b) (list_all is_plain x) h).0
+    ∙ (string_run x (t ++ b ∷ []) rest (and_parts (is_plain b) (list_all is_plain x) h).1
     ∙ ap (λ s. string s ∷ tokens rest) (append_assoc t (b ∷ []) x)))
 
 quoted_lexed : (x rest : List ℕ) → is_word x ≡ true → tokens (quoted_string x ++ rest) ≡ string x ∷ tokens rest
@@ -49,15 +47,15 @@ more_strings_lexed : (ns : List (List ℕ)) (rest : List ℕ) → list_all is_wo
 more_strings_lexed [] rest h = refl
 more_strings_lexed (n ∷ ns) rest h =
     ap (λ s. sign 44 ∷ tokens s) (append_assoc (quoted_string n) (more_strings ns) rest)
-    ∙ (ap (λ ts. sign 44 ∷ ts) (quoted_lexed n (more_strings ns ++ rest) (and_left (is_word n) (list_all is_word ns) h))
-    ∙ ap (λ ts. sign 44 ∷ string n ∷ ts) (more_strings_lexed ns rest (and_right (is_word n) (list_all is_word ns) h)))
+    ∙ (ap (λ ts. sign 44 ∷ ts) (quoted_lexed n (more_strings ns ++ rest) (and_parts (is_word n) (list_all is_word ns) h).0)
+    ∙ ap (λ ts. sign 44 ∷ string n ∷ ts) (more_strings_lexed ns rest (and_parts (is_word n) (list_all is_word ns) h).1))
 
 strings_lexed : (ns : List (List ℕ)) (rest : List ℕ) → list_all is_word ns ≡ true → tokens (strings ns ++ rest) ≡ string_tokens ns ++ tokens rest
 strings_lexed [] rest h = refl
 strings_lexed (n ∷ ns) rest h =
     ap (λ s. tokens s) (append_assoc (quoted_string n) (more_strings ns) rest)
-    ∙ (quoted_lexed n (more_strings ns ++ rest) (and_left (is_word n) (list_all is_word ns) h)
-    ∙ ap (λ ts. string n ∷ ts) (more_strings_lexed ns rest (and_right (is_word n) (list_all is_word ns) h)))
+    ∙ (quoted_lexed n (more_strings ns ++ rest) (and_parts (is_word n) (list_all is_word ns) h).0
+    ∙ ap (λ ts. string n ∷ ts) (more_strings_lexed ns rest (and_parts (is_word n) (list_all is_word ns) h).1))
 
 -- numbers
 
@@ -119,16 +117,16 @@ within_run : (x t rest : List ℕ) → list_any ends x ≡ false → tokens_from
 within_run [] t rest h = ap (λ s. tokens_from within s rest) (sym (append-nil t))
 within_run (b ∷ x) t rest h =
     pass_by (nat_eq b 34) (is_blank b) (is_sign b) (plain t ∷ tokens_from inside [] (x ++ rest)) (plain t ∷ tokens (x ++ rest))
-    (plain t ∷ sign b ∷ tokens (x ++ rest)) (tokens_from within (t ++ b ∷ []) (x ++ rest)) (or_left (ends b) (list_any ends x) h)
-    ∙ (within_run x (t ++ b ∷ []) rest (or_right (ends b) (list_any ends x) h)
+    (plain t ∷ sign b ∷ tokens (x ++ rest)) (tokens_from within (t ++ b ∷ []) (x ++ rest)) (or_parts (ends b) (list_any ends x) h).0
+    ∙ (within_run x (t ++ b ∷ []) rest (or_parts (ends b) (list_any ends x) h).1
     ∙ ap (λ s. tokens_from within s rest) (append_assoc t (b ∷ []) x))
 
 number_begun : (x rest : List ℕ) → IsNumber x → tokens (x ++ rest) ≡ tokens_from within x rest
 number_begun [] rest h = absurd h
 number_begun (b ∷ x) rest h =
     pass_by (nat_eq b 34) (is_blank b) (is_sign b) (tokens_from inside [] (x ++ rest)) (tokens (x ++ rest))
-    (sign b ∷ tokens (x ++ rest)) (tokens_from within (b ∷ []) (x ++ rest)) (or_left (ends b) (list_any ends x) h)
-    ∙ within_run x (b ∷ []) rest (or_right (ends b) (list_any ends x) h)
+    (sign b ∷ tokens (x ++ rest)) (tokens_from within (b ∷ []) (x ++ rest)) (or_parts (ends b) (list_any ends x) h).0
+    ∙ within_run x (b ∷ []) rest (or_parts (ends b) (list_any ends x) h).1
 
 -- numbers before a comma or the end of a list
 
@@ -190,10 +188,10 @@ flat_run [] d e rest h = ap (λ x. items_from (suc d) x rest) (sym (append-nil e
 flat_run (string s ∷ ts) d e rest h = flat_run ts d (e ++ string s ∷ []) rest h ∙ ap (λ x. items_from (suc d) x rest) (append_assoc e (string s ∷ []) ts)
 flat_run (plain w ∷ ts) d e rest h = flat_run ts d (e ++ plain w ∷ []) rest h ∙ ap (λ x. items_from (suc d) x rest) (append_assoc e (plain w ∷ []) ts)
 flat_run (sign b ∷ ts) d e rest h =
-    let comma : 44 ≡ b = same b 44 (and_left (nat_eq b 44) (flat ts) h) in
+    let comma : 44 ≡ b = same b 44 (and_parts (nat_eq b 44) (flat ts) h).0 in
     sym (ap (λ c. items_from (suc d) e (sign c ∷ (ts ++ rest))) comma)
     ∙ (ap (λ c. items_from (suc d) (e ++ sign c ∷ []) (ts ++ rest)) comma
-    ∙ (flat_run ts d (e ++ sign b ∷ []) rest (and_right (nat_eq b 44) (flat ts) h)
+    ∙ (flat_run ts d (e ++ sign b ∷ []) rest (and_parts (nat_eq b 44) (flat ts) h).1
     ∙ ap (λ x. items_from (suc d) x rest) (append_assoc e (sign b ∷ []) ts)))
 
 more_strings_flat : (ns : List (List ℕ)) → flat (more_string_tokens ns) ≡ true

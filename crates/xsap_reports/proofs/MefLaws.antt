@@ -5,12 +5,12 @@ use Rattle.std.specs.Prelude.{cond, nat_eq, ◌||◌, ◌&&◌, map, slice_get, 
 use Rattle.std.specs.Fmt.{decimal}
 use Rattle.std.specs.List.{list_any, AllByRecursion}
 use Rattle.std.specs.Str.{bytes_eq}
-use Rattle.std.proofs.lemmas.Bool.{eqb-true, false_from_ne_true}
+use Rattle.std.proofs.lemmas.Bool.{false_from_ne_true, or_parts}
 use Rattle.std.proofs.lemmas.Fmt.{decimal_injective}
 use Rattle.std.proofs.lemmas.List.{append_assoc, append-nil}
 use Rattle.std.proofs.lemmas.List.Elements.{recursion_from_All}
 use Rattle.std.proofs.lemmas.Slice.Eq.{bytes_eq-Decides}
-use Rattle.xsap_reports.proofs.CsvLaws.{or_false, or_left, or_right, apart, decimal_lacks}
+use Rattle.xsap_reports.proofs.CsvLaws.{or_false, apart, decimal_lacks, same}
 use Rattle.xsap_reports.specs.Mef.{Sets, Open, fed, ended, formula, gate_sets, label_in, label_of, sets_in_tree}
 use Rattle.xsap_reports.specs.MefText.{xml_byte, xml_text, event_of, events_of, all_of, set_gate, set_gates, gate_begin, gate_end, gate_of, gates_of, any_of, definition_begin, definition_end, definition, definitions, head, middle, end_of_events, set_numbers, fault_names, tree_text}
 use Rattle.xsap_reports.specs.Reports.{IsListed, HasNames, name_at, name_or_none, names_in, set_names}
@@ -33,17 +33,14 @@ pass_by false false A B C e = refl
 value_run : (x v n a rest : List ℕ) → list_any ends_value x ≡ false → tokens_from (value n [] a) v (x ++ rest) ≡ tokens_from (value n [] a) (v ++ x) rest
 value_run [] v n a rest h = ap (λ w. tokens_from (value n [] a) w rest) (sym (append-nil v))
 value_run (b ∷ x) v n a rest h =
-    pass_by (nat_eq b 34) (nat_eq b 38) _ _ (tokens_from (value n [] a) (v ++ b ∷ []) (x ++ rest)) (or_left (ends_value b) (list_any ends_value x) h)
-    ∙ (value_run x (v ++ b ∷ []) n a rest (or_right (ends_value b) (list_any ends_value x) h)
+    pass_by (nat_eq b 34) (nat_eq b 38) _ _ (tokens_from (value n [] a) (v ++ b ∷ []) (x ++ rest)) (or_parts (ends_value b) (list_any ends_value x) h).0
+    ∙ (value_run x (v ++ b ∷ []) n a rest (or_parts (ends_value b) (list_any ends_value x) h).1
     ∙ ap (λ w. tokens_from (value n [] a) w rest) (append_assoc v (b ∷ []) x))
 
 number_run : (k : ℕ) (v n a rest : List ℕ) → tokens_from (value n [] a) v (decimal k ++ rest) ≡ tokens_from (value n [] a) (v ++ decimal k) rest
 number_run k v n a rest = value_run (decimal k) v n a rest (decimal_lacks ends_value above k)
 
 -- characters
-
-same : (b k : ℕ) → nat_eq b k ≡ true → k ≡ b
-same b k e = sym (eqb-true b k e)
 
 character_by : (p q r s : Bool) (b : ℕ) (t rest : List ℕ) → nat_eq b 38 ≡ p → nat_eq b 60 ≡ q → nat_eq b 62 ≡ r → nat_eq b 34 ≡ s →
     tokens_from outside t (cond p (codes "&amp;") (cond q (codes "&lt;") (cond r (codes "&gt;") (cond s (codes "&quot;") (b ∷ [])))) ++ rest)

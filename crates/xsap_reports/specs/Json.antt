@@ -1,15 +1,13 @@
 -- JSON (RFC 8259): the tokens of a text in ASCII, and what stands in lists and under the names of objects.
 use Rattle.std.specs.Prelude.{ℕ, zero, suc, ◌+◌, ◌*◌, ◌-◌, nat_eq, nat_lt, cond, Bool, false, ◌||◌, ◌&&◌, List, [], ◌∷◌, ◌++◌, map, codes}
 use Rattle.std.specs.Str.{bytes_eq}
+use Rattle.xsap_reports.specs.Blanks.{is_blank}
 
 -- a sign of the six, a string by its characters, and a number, `true`, `false` or `null` by its bytes
 pub data Token : Type 0 where
   sign : ℕ → Token
   string : List ℕ → Token
   plain : List ℕ → Token
-
-abbrev pub is_blank : ℕ → Bool
-is_blank b = nat_eq b 32 || (nat_eq b 9 || (nat_eq b 10 || nat_eq b 13))
 
 -- `{` or `[`
 abbrev pub opens : ℕ → Bool

@@ -1,4 +1,5 @@
 -- What contracts of this crate cite.
+pub mod Blanks
 pub mod Changes
 pub mod Csv
 pub mod Json

@@ -1,16 +1,14 @@
 -- XML, as far as elements, attributes and characters: the tokens of a text, and what stands among them. Declarations, comments and
 -- instructions are passed over up to their first `>`; of the references only the five that XML names are known.
-use Rattle.std.specs.Prelude.{ℕ, nat_eq, cond, Bool, true, false, ◌||◌, ◌&&◌, List, [], ◌∷◌, ◌++◌, codes}
+use Rattle.std.specs.Prelude.{ℕ, nat_eq, cond, true, false, ◌||◌, ◌&&◌, List, [], ◌∷◌, ◌++◌, codes}
 use Rattle.std.specs.Str.{bytes_eq}
+use Rattle.xsap_reports.specs.Blanks.{is_blank}
 
 -- a start tag with its name and attributes, an end tag with its name, and the characters between two tags; `<a/>` is both tags
 pub data Token : Type 0 where
   start : List ℕ → List (List ℕ × List ℕ) → Token
   end : List ℕ → Token
   letters : List ℕ → Token
-
-abbrev pub is_blank : ℕ → Bool
-is_blank b = nat_eq b 32 || (nat_eq b 9 || (nat_eq b 10 || nat_eq b 13))
 
 -- the character of a reference by its name; of another name none
 abbrev pub referred : List ℕ → List ℕ

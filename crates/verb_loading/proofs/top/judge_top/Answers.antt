@@ -7,8 +7,9 @@ use Rattle.smv_flat.specs.ResolvedAt.{IsAt}
 use Rattle.smv_flat_laws.specs.ResolvedAt.{IsResolvedAt}
 use Rattle.verb_loading.specs.Cases.{IsWrongTop}
 use Rattle.verb_loading.proofs.Told.{if_refused}
-use Rattle.verb_loading.proofs.TopLaws.{main_instance, main_is_at, wrong_by_names, wrong_by_kinds, kinds_kept, top_of_parts}
+use Rattle.verb_loading.proofs.TopLaws.{main_is_at, wrong_by_names, wrong_by_kinds, kinds_kept, top_of_parts}
 use Rattle.verb_loading.proofs.top.judge_top.Goals as goal
+use Rattle.smv_flat_laws.specs.Items.{main_instance}
 
 pub returns-in_err-flat-clause-wrong : goal.returns-in_err-flat-clause-wrong
 returns-in_err-flat-clause-wrong c =

@@ -4,8 +4,9 @@ use Rattle.smv_language.specs.ProgramTree.{program_tree}
 use Rattle.smv_language.specs.ExpressionTree.{tree_of}
 use Rattle.smv_language.specs.ModelTree.{model_tree}
 use Rattle.verb_loading.proofs.Told.{if_refused}
-use Rattle.verb_loading.proofs.TopLaws.{main_instance, main_is_at, names_untold}
+use Rattle.verb_loading.proofs.TopLaws.{main_is_at, names_untold}
 use Rattle.verb_loading.proofs.top.over_extension.Goals as goal
+use Rattle.smv_flat_laws.specs.Items.{main_instance}
 
 pub returns-in_err-made-clause-wrong : goal.returns-in_err-made-clause-wrong
 returns-in_err-made-clause-wrong c =
