@@ -1,7 +1,7 @@
 -- What the verdict of a search under guards says of what is asked about alone.
 use Rattle.std.proofs.Common.{◌≡◌, ◌⊎◌, inl, inr, ◌≤◌, ◌<◌, ℕ, zero, suc, nat_le, Bool, true, false, not, List, [], ◌∷◌, ◌++◌, length, refl, sym, ◌∙◌, ap, subst, arith, Some}
 use Rattle.std.specs.Prelude.{slice_index_or, All, Contains, IsTrue}
-use Rattle.std.proofs.lemmas.Bool.{le-leb}
+use Rattle.std.proofs.lemmas.Bool.{le-leb, false≢true}
 use Rattle.std.proofs.lemmas.Bool.Decides.{leb_tells}
 use Rattle.std.proofs.lemmas.List.Elements.{All-contains, Contains-append_left, Contains-append_right, Contains-append_cases}
 use Rattle.sat_clauses.specs.Literal.{Literal, opposite}
@@ -148,9 +148,6 @@ asks_bad Nothing = false
 asks_bad Step = false
 asks_bad Bad = true
 
-no_test : false ≡ true → ⊥
-no_test e = cc
-
 module _ (system : System) (list : List (List Literal)) (frames : List (List (List Literal))) (v : TotalAssignment) where
   abbrev first_values : (i : ℕ) → MeetsFrame system frames i v → TotalAssignment
   first_values zero m = m.values
@@ -193,17 +190,17 @@ module _ (system : System) (list : List (List Literal)) (frames : List (List (Li
       tested k j e = by_test (leb_tells k j) where
         by_test : ((nat_le k j ≡ true) × (k ≤ j)) ⊎ ((nat_le k j ≡ false) × (j < k)) → k ≤ j
         by_test (inl t) = t.1
-        by_test (inr t) = absurd (no_test (sym t.0 ∙ e))
+        by_test (inr t) = absurd (false≢true (sym t.0 ∙ e))
 
       one_more : (k j : ℕ) → k ≤ j → k ≤ suc j
       one_more k j le = omega (arith, le)
 
       next : (i j : ℕ) → asked_frame i j ≡ true → asked_frame i (suc j) ≡ true
-      next zero j e = absurd (no_test e)
+      next zero j e = absurd (false≢true e)
       next (suc k) j e = le-leb (suc k) (suc j) (one_more (suc k) j (tested (suc k) j e))
 
       in_frames : (i : ℕ) → MeetsFrame system frames i v → (j : ℕ) (c : List Literal) → 0 < j → asked_frame i j ≡ true → IsCoveredUpTo l.frames j c → IsShown l v c
-      in_frames zero m j c some on s = absurd (no_test on)
+      in_frames zero m j c some on s = absurd (false≢true on)
       in_frames (suc k) m j c some on s = shown (s (suc k) (omega arith) (tested (suc k) j on))
         where
           shown : IsCovered (frame_at l.frames (suc k)) c → IsShown l v c
@@ -237,16 +234,16 @@ module _ (system : System) (list : List (List Literal)) (frames : List (List (Li
 
       first_true : (i : ℕ) (m : MeetsFrame system frames i v) (c : List Literal) → asks_first i ≡ true → Contains system.first c → clause_value (first_values i m) c ≡ true
       first_true zero m c on in_list = member_true m.values system.first c m.all in_list
-      first_true (suc k) m c on in_list = absurd (no_test on)
+      first_true (suc k) m c on in_list = absurd (false≢true on)
 
       step_true : (b : Beside) (n : MeetsBeside system list b v) (c : List Literal) → asks_step b ≡ true → Contains system.step c → clause_value (step_values b n) c ≡ true
-      step_true Nothing n c on in_list = absurd (no_test on)
+      step_true Nothing n c on in_list = absurd (false≢true on)
       step_true Step n c on in_list = member_true n.values system.step c n.all in_list
-      step_true Bad n c on in_list = absurd (no_test on)
+      step_true Bad n c on in_list = absurd (false≢true on)
 
       bad_true : (b : Beside) (n : MeetsBeside system list b v) (c : List Literal) → asks_bad b ≡ true → Contains list c → clause_value (bad_values b n) c ≡ true
-      bad_true Nothing n c on in_list = absurd (no_test on)
-      bad_true Step n c on in_list = absurd (no_test on)
+      bad_true Nothing n c on in_list = absurd (false≢true on)
+      bad_true Step n c on in_list = absurd (false≢true on)
       bad_true Bad n c on in_list = member_true n.values list c n.all in_list
 
       lists : (which : Listed) (c : List Literal) → asked_list i b which ≡ true → Contains (l.list which) c → clause_value (asked_values i b m n which) c ≡ true

@@ -2,7 +2,7 @@
 use Rattle.std.proofs.Common.{◌≡◌, ◌≤◌, ◌<◌, ◌⊎◌, inl, inr, ℕ, zero, suc, ◌+◌, ◌-◌, true, false, List, [], ◌∷◌, ◌++◌, refl, sym, ◌∙◌, ap, subst, arith, length}
 use Rattle.std.specs.Prelude.{Contains, All}
 use Rattle.std.proofs.lemmas.Bool.{cases_lt}
-use Rattle.std.proofs.lemmas.List.Elements.{All-nil, All-contains, Contains-push_cases}
+use Rattle.std.proofs.lemmas.List.Elements.{All-contains, Contains-push_cases}
 use Rattle.sat_clauses.specs.Literal.{Literal}
 use Rattle.sat_clauses.specs.declared.system.System.{System}
 use Rattle.sat_clauses.specs.Models.{clause_value}
@@ -18,24 +18,6 @@ use Rattle.cut_frames.proofs.Short.{all_from_members, member_true}
 use Rattle.cut_frames.proofs.Framing.{frame_grown, framed_gained, list_before}
 use Rattle.cut_frames.proofs.LevelLaws.{length_frames, frames_more}
 use Rattle.cut_frames.proofs.PutLaws.{gained_put, put_all}
-
--- no clause is an invariant
-pub none_inductive : (system : System) → IsInductive system []
-none_inductive system = record {
-  over_bits = All-nil (IsOverBits system);
-  apart = All-nil HasNoOpposites;
-  holds_first = λ s h. (h.0, refl);
-  is_kept = λ s t h step. (step.1, refl);
-}
-
-pub none_implied : (system : System) (fs : List (List (List Literal))) → AreImplied system fs []
-none_implied system fs i s some lt h = (h.0, refl)
-
-pub none_lasting : (system : System) (fs : List (List (List Literal))) (l : Lasting) → l.clauses ≡ [] → AreLasting system fs l
-none_lasting system fs l e = record {
-  inductive = subst (IsInductive system) (sym e) (none_inductive system);
-  implied = λ t. subst (AreImplied system fs) (sym e) (none_implied system fs);
-}
 
 -- frames that became stronger imply them still
 pub lasting_stronger : (system : System) (old now : List (List (List Literal))) (l : Lasting) → length now ≡ length old → AreStronger system old now → AreLasting system old l → AreLasting system now l

@@ -1,25 +1,24 @@
 -- What the answers of the queries of `clear` say of states and frames.
-use Rattle.std.proofs.Common.{◌≡◌, ◌≤◌, ◌<◌, ◌⊎◌, inl, inr, ℕ, zero, suc, ◌+◌, ◌-◌, ◌*◌, Bool, true, false, not, ◌&&◌, List, [], ◌∷◌, ◌++◌, refl, sym, ◌∙◌, ap, subst, arith, length, map}
+use Rattle.std.proofs.Common.{◌≡◌, ◌≤◌, ◌<◌, ◌⊎◌, inl, inr, ℕ, zero, suc, ◌+◌, ◌-◌, ◌*◌, Bool, true, false, not, ◌&&◌, List, [], ◌∷◌, refl, sym, ◌∙◌, ap, subst, arith, length, map}
 use Rattle.std.specs.Prelude.{slice_index_or, Contains, IsTrue, All, nat_le, if◌then◌else◌}
 use Rattle.std.proofs.lemmas.Bool.{cases_lt}
-use Rattle.std.proofs.lemmas.List.Elements.{All-head, All-tail, All-append}
+use Rattle.std.proofs.lemmas.List.Elements.{All-head, All-tail}
 use Rattle.sat_clauses.specs.Literal.{Literal, opposite, signed}
 use Rattle.sat_clauses.specs.Assignment.{Assignment}
 use Rattle.sat_clauses.specs.Models.{TotalAssignment, literal_value, clause_value, all_true, values_of}
 use Rattle.sat_clauses.specs.declared.system.System.{System}
-use Rattle.cut_frames.specs.Chain.{State, Agrees, state_values, IsState, IsFirstState, IsStepOf, IsBad, Makes, IsOverBits}
+use Rattle.cut_frames.specs.Chain.{State, Agrees, IsState, IsFirstState, IsBad, Makes, IsOverBits}
 use Rattle.cut_frames.specs.Condition.{IsFit, IsOverNow}
 use Rattle.cut_frames.specs.FrameLists.{frame_at, InNumber, IsFramed, IsClear}
-use Rattle.cut_frames.specs.Bits.{literal_for, literals_from, read_from, joined, moved_back}
+use Rattle.cut_frames.specs.Bits.{literal_for, literals_from, read_from, moved_back}
 use Rattle.cut_frames.specs.GuardedSearch.{places_of}
 use Rattle.sat_simplify.specs.SamePlaces.{IsMet}
 use Rattle.cut_frames.specs.OwnVariables.{IsMetFrame, IsFound, IsExcluded}
 use Rattle.cut_frames.specs.declared.guarded.Beside.TheVariants.{Nothing, Step, Bad}
-use Rattle.cut_frames.specs.ClearLooks.{Blocks}
 use Rattle.cut_frames.specs.Path.{Gives, Leads, IsStepUnder, IsStateMoment, IsStepMoment, state_in, inputs_in}
 use Rattle.cut_frames.proofs.MomentLemmas.{taken_read, taken_gives}
 use Rattle.cut_frames.proofs.Framing.{all_members}
-use Rattle.cut_frames.proofs.BitLemmas.{agrees_read, agrees_at, length_read, IsOpposed, all_opposed, all_back, back_at, high_enough, all_false, none_apart, over_value}
+use Rattle.cut_frames.proofs.BitLemmas.{agrees_read, agrees_at, length_read, IsOpposed, all_opposed, back_at, over_value}
 
 -- assumed literals give the values
 pub agrees_assumed : (v : TotalAssignment) (n : ℕ) (s : State) → All (λ l. IsTrue (literal_value v l)) (literals_from n s) → Agrees v n s
@@ -86,22 +85,6 @@ next_over bits v s t (l ∷ c) e f g a =
         ap (literal_value v) o.is_it
         ∙ ap (signed (not b)) (agrees_at v (bits + 2) o.place t g (in_other o.place (length s) bits (length t) e f o.inside) ∙ ap (λ i. slice_index_or t i false) (less_two o.place))
         ∙ ap (literal_value (λ v. slice_index_or t (v - 2) false)) (sym (ap (moved_back bits) o.is_it ∙ back_at bits o.place b))
-
-pub clause_left : (v : TotalAssignment) (c d : List Literal) → clause_value v c ≡ true → clause_value v (c ++ d) ≡ true
-clause_left v [] d t = cc
-clause_left v (l ∷ c) d t = go (literal_value v l) refl (λ r. clause_left v c d r)
-  where
-    go : (b : Bool) → literal_value v l ≡ b → (clause_value v c ≡ true → clause_value v (c ++ d) ≡ true) → clause_value v (l ∷ c ++ d) ≡ true
-    go true e more = rw e refl
-    go false e more = let rest : clause_value v c ≡ true = rw e at t in rw (e, more rest) refl
-
-pub clause_right : (v : TotalAssignment) (c d : List Literal) → clause_value v d ≡ true → clause_value v (c ++ d) ≡ true
-clause_right v [] d t = t
-clause_right v (l ∷ c) d t = let rest = clause_right v c d t in go (literal_value v l) refl rest
-  where
-    go : (b : Bool) → literal_value v l ≡ b → clause_value v (c ++ d) ≡ true → clause_value v (l ∷ c ++ d) ≡ true
-    go true e r = rw e refl
-    go false e r = rw (e, r) refl
 
 -- values that agree with others where the state's variables are
 pub agrees_on : (v w : TotalAssignment) (n : ℕ) (s : State) → ((x : ℕ) → n ≤ x → x < n + length s → w x ≡ v x) → Agrees v n s → Agrees w n s
@@ -285,40 +268,9 @@ module _ (system : System) where
         ),
       )
 
-  pub next_high : (fs : List (List (List Literal))) (i : ℕ) (bad : List (List Literal)) (s : State) (core : List Literal) → IsExcluded system bad fs Step i (literals_from (system.state_bits + 2) s) core → All (λ l. system.state_bits + 2 ≤ l.var) core
-  next_high fs i bad s core c = λ k d lt. high_enough system.state_bits s (slice_index_or core k d) (all_opposed (system.state_bits + 2) s core c.negated k d lt)
-
   pub first_makes : (fs : List (List (List Literal))) (bad : List (List Literal)) (s : State) (core : List Literal) → IsState system s → IsExcluded system bad fs Nothing 0 (literals_from 2 s) core → (t : State) → IsFirstState system t → Makes system t core
   first_makes fs bad s core e c t h =
       sym (clause_over system.state_bits h.1.0 t h.0 h.1.1 core (opposed_over system.state_bits s core e (all_opposed 2 s core c.negated))) ∙ c.follows h.1.0 (met_itself system.first h.1.0 h.1.2) tt
-
-  pub blocked : (fs : List (List (List Literal))) (level : ℕ) (bad : List (List Literal)) (s : State) (outside core : List Literal) → IsFit system → IsFramed system fs → 0 < level → IsState system s →
-      IsExcluded system bad fs Nothing 0 (literals_from 2 s) outside → IsExcluded system bad fs Step (level - 1) (literals_from (system.state_bits + 2) s) core →
-      Blocks system fs level s (joined system.state_bits outside core)
-  blocked fs level bad s outside core fit f some e c d = record {
-    from_one = some;
-    over_bits = opposed_over system.state_bits s (joined system.state_bits outside core) e both;
-    apart = none_apart s (joined system.state_bits outside core) both;
-    first = λ t h. clause_left (state_values system t) outside (map (moved_back system.state_bits) core) (first_makes fs bad s outside e c t h);
-    after = after;
-    excludes = all_false s (joined system.state_bits outside core) both;
-  }
-    where
-      next_ones : All (IsOpposed (system.state_bits + 2) s) core
-      next_ones = all_opposed (system.state_bits + 2) s core d.negated
-
-      both : All (IsOpposed 2 s) (joined system.state_bits outside core)
-      both = All-append (IsOpposed 2 s) outside (map (moved_back system.state_bits) core) (all_opposed 2 s outside c.negated) (all_back system.state_bits s core next_ones)
-
-      less : (level m : ℕ) → level ≡ suc m → m ≡ level - 1
-      less level m q = omega (arith, q)
-
-      after : (m : ℕ) (r t : State) → level ≡ suc m → InNumber system fs m r → IsStepOf system r t → Makes system t (joined system.state_bits outside core)
-      after m r t q h step =
-          let at : InNumber system fs (level - 1) r = subst (λ n. InNumber system fs n r) (less level m q) h in
-          let v : TotalAssignment = step.2.0 in
-          let holds : clause_value v core ≡ true = d.follows v (met_number fs (level - 1) r v fit f step.2.1 at) (met_itself system.step v step.2.3) in
-          clause_right (state_values system t) outside (map (moved_back system.state_bits) core) (sym (next_over system.state_bits v s t core e step.1 step.2.2 next_ones) ∙ holds)
 
   -- a look at the last frame
   pub look_at_bad : (fs : List (List (List Literal))) (last : ℕ) (bad : List (List Literal)) (values a : Assignment) → length fs ≡ suc last → IsFramed system fs → IsFound system bad fs Bad last [] values → IsStateMoment system values a →

@@ -15,7 +15,7 @@ use Rattle.sat_clauses.specs.Derivation.{IsUpTo}
 use Rattle.cut_frames.specs.Chain.{State, state_values, IsState, IsFirstState, IsOverBits}
 use Rattle.cut_frames.specs.Condition.{IsFit}
 use Rattle.cut_frames.specs.FrameLists.{InNumber, IsFramed}
-use Rattle.cut_frames.specs.Bits.{against_next, moved_on, moved_back, joined, literal_for, literals_from}
+use Rattle.cut_frames.specs.Bits.{against_next, moved_on, moved_back, literal_for, literals_from}
 use Rattle.cut_frames.specs.OwnVariables.{IsExcluded, IsKept, apart_system, apart_list}
 use Rattle.cut_frames.specs.GuardedSearch.{HasAsked, places_of}
 use Rattle.cut_frames.specs.ClearLooks.{Blocks}
@@ -39,13 +39,6 @@ part_apart d c p a = λ k x lt. record {
 
 pub part_true : (v : TotalAssignment) (d c : List Literal) → IsPart d c → clause_value v d ≡ true → clause_value v c ≡ true
 part_true v d c p t = let m = true_literal v d t in true_by v c m.0 (All-contains (Contains c) d m.0 p m.1) m.2
-
-pub part_false : (v : TotalAssignment) (d c : List Literal) → IsPart d c → clause_value v c ≡ false → clause_value v d ≡ false
-part_false v d c p f = go (clause_value v d) refl
-  where
-    go : (b : Bool) → clause_value v d ≡ b → clause_value v d ≡ false
-    go false e = e
-    go true e = let both : true ≡ false = sym (part_true v d c p e) ∙ f in cc
 
 -- a filtered list is a part
 pub filter_part : (p : Literal → Bool) (c : List Literal) → IsPart (filter p c) c
@@ -156,10 +149,6 @@ core_high bits c core over a = λ k d lt. at (slice_index_or core k d) (a k d lt
 pub some_of : {T : Type 0} (r : Option T) (x : T) (P : T → Type 0) → r ≡ Some x → IfSome r P → P x
 some_of r x P e h = subst (λ o. IfSome o P) e h
 
--- the empty clause joined with another one
-pub joined_none : (bits : ℕ) (none core : List Literal) → none ≡ [] → joined bits none core ≡ map (moved_back bits) core
-joined_none bits none core e = ap (λ (c : List Literal). joined bits c core) e
-
 -- what is assumed against a clause of state bits is up to their last one, and has no opposites
 pub turned_up_to : (bits v : ℕ) (c : List Literal) → bits + 1 ≤ v → All (λ l. (2 ≤ l.var) × (l.var < bits + 2)) c → All (IsUpTo v) (map opposite c)
 turned_up_to bits v c le over = λ k d lt. at (slice_index_or (map opposite c) k d) (from_map opposite c (slice_index_or (map opposite c) k d) (All-contains_itself (map opposite c) k d lt))
@@ -228,13 +217,6 @@ agreed_more system values v agreed one = λ x b e. by_place x b e (cases_lt x (l
     by_place : (x : ℕ) (b : Bool) → slice_index_or (values ++ v ∷ []) x None ≡ Some b → (x < length values) ⊎ (length values ≤ x) → IsAgreed system x b
     by_place x b e (inl lt) = agreed x b (sym (front values x lt) ∙ e)
     by_place x b e (inr le) = by_order x b e (cases_lt (length values) x) le
-
-pub agreed_none : (system : System) → AreAgreed system []
-agreed_none system = λ x b e. absurd (none-some b (gone x e))
-  where
-    gone : (x : ℕ) {b : Bool} → slice_index_or [] x None ≡ Some b → None ≡ Some b
-    gone zero e = e
-    gone (suc x) e = e
 
 -- a question about a bit whose answer is that no first state gives it the other value
 pub agreed_bit : (system : System) (fs : List (List (List Literal))) (bad : List (List Literal)) (x : ℕ) (value : Bool) (core : List Literal) → IsFit system → x < system.state_bits →

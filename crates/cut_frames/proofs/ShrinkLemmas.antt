@@ -1,8 +1,7 @@
 -- What the answers of questions about smaller bad states say, and that the state that is left is minimal.
-use Rattle.std.proofs.Common.{◌≡◌, ◌≤◌, ◌<◌, ◌⊎◌, inl, inr, ℕ, zero, suc, ◌+◌, Bool, true, false, not, List, [], ◌∷◌, ◌++◌, refl, sym, ◌∙◌, ap, subst, arith, length, map, take}
+use Rattle.std.proofs.Common.{◌≡◌, ◌≤◌, ◌<◌, ◌⊎◌, inl, inr, ℕ, zero, suc, ◌+◌, Bool, true, false, not, List, [], ◌∷◌, ◌++◌, refl, sym, ◌∙◌, ap, subst, arith, length, map}
 use Rattle.std.specs.Prelude.{slice_index_or, Contains, IsTrue, All, filter, if◌then◌else◌}
-use Rattle.std.proofs.lemmas.List.{take_more, map-append}
-use Rattle.std.proofs.lemmas.List.Elements.{All-contains, All-contains_itself, All-append, Contains-append_cases, filter-append, filter_passes}
+use Rattle.std.proofs.lemmas.List.Elements.{All-contains, All-contains_itself, All-append, Contains-append_cases, filter_passes}
 use Rattle.sat_clauses.specs.Literal.{Literal, opposite}
 use Rattle.sat_clauses.specs.Assignment.{Assignment}
 use Rattle.sat_clauses.specs.Hints.{HasNoOpposites}
@@ -102,18 +101,6 @@ assumed_all P v history more a one = λ k d lt. at (slice_index_or (all_assumed 
         by_case : (Contains history (opposite l) × (literal_value v (opposite l) ≡ false)) ⊎ (opposite l ≡ more) → P l.var
         by_case (inl w) = All-contains (λ (l : Literal). P l.var) history (opposite l) a w.0
         by_case (inr e) = subst P (ap (λ (k : Literal). k.var) (sym e)) one
-
--- one literal more to look at
-pub given_up_more : (v : TotalAssignment) (history : List Literal) (i : ℕ) (d : Literal) → i < length history →
-    given_up v (take (i + 1) history) ≡ given_up v (take i history) ++ (if literal_value v (slice_index_or history i d) then [] else opposite (slice_index_or history i d) ∷ [])
-given_up_more v history i d lt =
-    ap (given_up v) (take_more history i d lt) ∙ ap (map opposite) (filter-append (λ l. not (literal_value v l)) (take i history) (slice_index_or history i d ∷ []))
-    ∙ map-append opposite (filter (λ l. not (literal_value v l)) (take i history)) (filter (λ l. not (literal_value v l)) (slice_index_or history i d ∷ []))
-    ∙ ap (λ (r : List Literal). given_up v (take i history) ++ r) (one (slice_index_or history i d) (literal_value v (slice_index_or history i d)) refl)
-  where
-    one : (l : Literal) (b : Bool) → literal_value v l ≡ b → map opposite (filter (λ l. not (literal_value v l)) (l ∷ [])) ≡ (if literal_value v l then [] else opposite l ∷ [])
-    one l true e = rw e refl
-    one l false e = rw e refl
 
 pub within_itself : (history : List Literal) (v : TotalAssignment) → IsWithin history v v
 within_itself history v = λ k d lt t. t

@@ -2,7 +2,7 @@
 use Rattle.std.proofs.Common.{◌≡◌, ◌≢◌, ◌↔◌, ℕ, zero, suc, ◌<◌, Bool, true, false, List, [], ◌∷◌, length, Option, Some, None, refl, sym, ◌∙◌, ap, subst, arith}
 use Rattle.std.specs.Prelude.{slice_get, IsTrue, map}
 use Rattle.std.proofs.lemmas.Option.{same_Some as some_same, none-some as never}
-use Rattle.smv_language.specs.ProgramTree.{Text, DeclaredTree, boolean, range, members, instance, declared_tree}
+use Rattle.smv_language.specs.ProgramTree.{Text, DeclaredTree, boolean, range, members, instance, declared_tree, IsType}
 use Rattle.smv_language.specs.Texts.{same_text}
 use Rattle.smv_language.specs.Values.{Value, truth, number, symbol, value_text}
 use Rattle.smv_language.specs.Trace.{in_domain}
@@ -22,7 +22,7 @@ use Rattle.base_values.specs.declared.value.Value.{Value as Numbered}
 use Rattle.base_values.specs.declared.value.Value.TheVariants.{Bool as ABool, Num, Sym}
 use Rattle.base_values.specs.Domains.{Has}
 use Rattle.smv_types.specs.SymbolNumbering.{number_from}
-use Rattle.smv_types.specs.Types.{StandsFor, IsType, AreValuesOf}
+use Rattle.smv_types.specs.Types.{StandsFor, AreValuesOf}
 use Rattle.smv_language.specs.NumberedValues.{told_value}
 use Rattle.cut_report.specs.Names.{printed_name}
 use Rattle.cut_text_laws.specs.TraceOfText.{HasItsSymbols}

@@ -1,16 +1,14 @@
 -- Chains stay chains and grow, and two equal frames give an invariant.
-use Rattle.std.proofs.Common.{◌≡◌, ℕ, zero, suc, ◌+◌, ◌-◌, ◌<◌, ◌≤◌, true, false, List, [], ◌∷◌, length, drop, Some, refl, sym, subst, arith, inl, inr}
+use Rattle.std.proofs.Common.{◌≡◌, ℕ, zero, suc, ◌+◌, ◌-◌, ◌<◌, ◌≤◌, true, false, List, [], ◌∷◌, length, drop, Some, sym, subst, arith, inl, inr}
 use Rattle.std.proofs.lemmas.List.{length-drop}
-use Rattle.std.specs.Prelude.{slice_get, slice_index_or, All}
-use Rattle.std.proofs.lemmas.List.Elements.{All-nil}
+use Rattle.std.specs.Prelude.{slice_get, slice_index_or}
 use Rattle.smv_language.specs.Values.{Value}
 use Rattle.smv_language.specs.Trace.{Each, AtSome}
 use Rattle.smv_flat_laws.specs.History.{with_history}
 use Rattle.smv_flat_laws.specs.FlatTrace.{IsFlatTrace}
 use Rattle.smv_flat_laws.proofs.Lists.{each_map, each_of_map}
 use Rattle.sat_clauses.specs.Literal.{Literal}
-use Rattle.sat_clauses.specs.declared.system.System.{System}
-use Rattle.cut_frames.specs.Chain.{State, IsBad, InFrame, IsFrame, HasChain, IsOverBits}
+use Rattle.cut_frames.specs.Chain.{State, IsBad, InFrame, IsFrame}
 use Rattle.cut_frames.specs.FrameLists.{frame_at, InNumber}
 use Rattle.cut_right_laws.specs.Sets.{is_contained}
 use Rattle.cut_search_laws.specs.FoundSets.{Found, sets_of, IsFound}
@@ -29,23 +27,6 @@ use Rattle.cut_search_laws.specs.Problem.{Problem}
 
 pub no_place : {A : Type 0} (i : ℕ) (x : A) → slice_get [] i ≡ Some x → ⊥
 no_place i x e = cc
-
--- no frame is a chain
-pub no_chain : (system : System) (bad : List (List Literal)) → HasChain system bad 0
-no_chain system bad = (
-  [],
-  refl,
-  record {
-    over_bits = All-nil (All (IsOverBits system));
-    first = λ frame s at h. absurd (no_place 0 frame at.1);
-    after_first = λ frame s t at h step. absurd (no_place 0 frame at.1);
-    advances = λ i frame next s t at at' h step. absurd (no_place (i - 1) frame at.1);
-    shrinks = λ i frame next at at' c h. absurd (no_place (i - 1) frame at.1);
-    loses = λ i frame next at at'. absurd (no_place (i - 1) frame at.1);
-    pushed = λ i frame next at at' c h k. absurd (no_place (i - 1) frame at.1);
-    clear = λ i frame next at at' s h b. absurd (no_place (i - 1) frame at.1);
-  },
-)
 
 pub get_place : {A : Type 0} (d x : A) (xs : List A) (i : ℕ) → slice_get xs i ≡ Some x → (slice_index_or xs i d ≡ x) × (i < length xs)
 get_place d x [] i e = absurd (no_place i x e)

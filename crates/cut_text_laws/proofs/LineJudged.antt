@@ -11,14 +11,14 @@ use Rattle.smv_language.specs.ProgramTree.{DeclaredTree}
 use Rattle.smv_language.specs.PrintedTokens.{IsEnd}
 use Rattle.smv_language.specs.Values.{Value, truth, number, symbol, value_text}
 use Rattle.smv_language.specs.Trace.{in_domain}
-use Rattle.smv_language.specs.WritableProgram.{IsWritableType}
+use Rattle.smv_language.specs.WritableProgram.{IsWritableType, IsPlain}
 use Rattle.smv_language.specs.Flat.{FlatVariable, FlatModel}
 use Rattle.cut_text_laws.specs.Lines.{Line, IsLine}
 use Rattle.cut_text_laws.proofs.Separators.{IsFree, same_front, no_separator, head_of, tail_of, both_of}
 use Rattle.cut_text_laws.specs.TraceText.{variable_text, moment_line, equation, value_line}
 use Rattle.cut_text_laws.specs.TraceOfText.{IsLineWord, IsPrintable}
 use Rattle.cut_text_laws.specs.TraceFaults.{LineFault, bad_line, unknown_name, outside, twice, number_of, moments_after, IsEquation, IsNameIn, WasSaid, Breaks, IsLeast}
-use Rattle.cut_text_laws.proofs.Plain.{IsPlain, value_word, domain_plain, same_text_then, decimal_digits}
+use Rattle.cut_text_laws.proofs.Plain.{value_word, domain_plain, same_text_then, decimal_digits}
 use Rattle.cut_text_laws.proofs.OneTrace.{no_items, same_equation}
 use Rattle.cut_text_laws.proofs.OneFault.{empty_breaks}
 use Rattle.cut_text_laws.proofs.GivenHasNone.{moment_sound}

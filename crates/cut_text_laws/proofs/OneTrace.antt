@@ -15,8 +15,9 @@ use Rattle.cut_text_laws.proofs.Cuts.{same_fed}
 use Rattle.cut_text_laws.specs.TraceText.{variable_text, moment_line, equation, value_line}
 use Rattle.cut_text_laws.specs.TraceOfText.{IsLineWord, IsPrintable, SaysOf, StandsOnce, GivesMoment, GivesMoments, GivesTrace}
 use Rattle.cut_text_laws.specs.Laws.{OneTrace}
-use Rattle.cut_text_laws.proofs.Plain.{IsPlain, same_value_text, domain_plain, decimal_free}
+use Rattle.cut_text_laws.proofs.Plain.{same_value_text, domain_plain, decimal_free}
 use Rattle.std.proofs.lemmas.Option.{same_Some as some_same, none-some as never}
+use Rattle.smv_language.specs.WritableProgram.{IsPlain}
 
 -- Lines.
 pub no_items : {A : Type 0} (x : A) (xs ys : List A) → ys ≡ [] → ys ≡ x ∷ xs → ⊥

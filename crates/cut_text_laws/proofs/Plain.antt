@@ -16,7 +16,7 @@ use Rattle.smv_language.specs.ProgramTree.{Text, DeclaredTree, boolean, range, m
 use Rattle.smv_language.specs.Values.{Value, truth, number, symbol, at_most, same_int, is_between, value_text}
 use Rattle.smv_language.specs.PrintedTokens.{IsName, IsEnd}
 use Rattle.smv_language.specs.Trace.{Each, in_domain, is_member}
-use Rattle.smv_language.specs.WritableProgram.{IsWritableType, IsWritableMember}
+use Rattle.smv_language.specs.WritableProgram.{IsWritableType, IsWritableMember, IsPlain}
 use Rattle.smv_language.specs.Lexemes.{is_reserved}
 use Rattle.smv_language.specs.Texts.{same_text}
 use Rattle.cut_text_laws.proofs.Separators.{IsFree}
@@ -121,12 +121,6 @@ word_word (b ∷ bs) h =
     let byte : (b ≢ 32) × (b ≢ 10) = word_byte_not b (start_word b h.0) in
     let rest : IsFree 32 bs × IsFree 10 bs = run_free bs h.1 in
     record { some = some_then (b ∷ bs) (omega arith); free = (byte.0, rest.0); line = (byte.1, rest.1) }
-
--- Values that can be written.
-abbrev pub IsPlain : Value → Type 0
-IsPlain (truth b) = Unit {0}
-IsPlain (number n) = IsEnd n
-IsPlain (symbol x) = IsName x
 
 pub value_word : (v : Value) → IsPlain v → IsLineWord (value_text v)
 value_word (truth true) h = record { some = some_then (codes "TRUE") (omega arith); free = free_by_test 32 (codes "TRUE") refl; line = free_by_test 10 (codes "TRUE") refl }

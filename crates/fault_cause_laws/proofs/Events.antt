@@ -26,19 +26,16 @@ use Rattle.std.proofs.lemmas.Option.{same_Some as same_some, slice_get_within as
 use Rattle.smv_flat_laws.proofs.Conditions.{same_text_same}
 use Rattle.std.proofs.lemmas.Bool.{and_parts}
 use Rattle.base_values.proofs.ListLaws.{get_left}
+use Rattle.smv_language.proofs.ValueLaws.{same_after}
 
 -- The symbols tell the test.
 self_tells : (i : ℕ) (t : Bool) → same_text (cond t (self_name i) (none_name i)) (self_name i) ≡ t
 self_tells i true = same_text_same (self_name i)
 self_tells i false = refl
 
-pub after_name : (x a b : Text) → same_text (x ++ a) (x ++ b) ≡ same_text a b
-after_name [] a b = refl
-after_name (c ∷ x) a b = rw (eq-eqb c c refl) (after_name x a b)
-
 now_tells : (c : Text) (t : Bool) → same_text (cond t (now_name c) (quiet_name c)) (now_name c) ≡ t
 now_tells c true = same_text_same (now_name c)
-now_tells c false = after_name c (codes "#quiet") (codes "#now")
+now_tells c false = same_after c (codes "#quiet") (codes "#now")
 
 -- a variable that reads a symbol by a test, as a mode
 module _ (staged : FlatModel) (f : Mode) (wanted_text other : Text) (test : ℕ → Bool) (of_model : slice_get staged.symbols f.symbol ≡ Some wanted_text)

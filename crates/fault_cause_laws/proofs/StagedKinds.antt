@@ -27,7 +27,7 @@ use Rattle.fault_cause_laws.proofs.HistoryKinds.{modes_of_kinds}
 use Rattle.fault_cause_laws.proofs.StagedTraces.{mode_there}
 use Rattle.fault_cause_laws.proofs.OneCause.{cause_count, cause_symbols}
 use Rattle.fault_cause_laws.proofs.FormulaKinds.{range_judged, age_first, age_step, window_tree, ends_tree, event_each, HasAge, HaveAges, windows_tree, own_first, own_step}
-use Rattle.fault_cause_laws.proofs.Events.{after_name}
+use Rattle.smv_language.proofs.ValueLaws.{same_after}
 
 -- ---- what has grown
 
@@ -47,7 +47,7 @@ last_type : (n : FlatModel) (a : Addition) (x : FlatVariable) (d : DeclaredTree)
 last_type n a x d e t = record { variable = x; is_variable = subst (λ xs. slice_get (n.variables ++ xs) (length n.variables) ≡ Some x) (sym e) (get_end n.variables x); declared = t }
 
 event_type_right : (c : Text) → (judged_declared (members (member.Symbol (quiet_name c) ∷ member.Symbol (now_name c) ∷ []))).broken ≡ []
-event_type_right c = two_symbols_right (quiet_name c) (now_name c) (after_name c (codes "#quiet") (codes "#now"))
+event_type_right c = two_symbols_right (quiet_name c) (now_name c) (same_after c (codes "#quiet") (codes "#now"))
 
 own_type_right : (i : ℕ) → (judged_declared (members (member.Symbol (none_name i) ∷ member.Symbol (self_name i) ∷ []))).broken ≡ []
 own_type_right i = two_symbols_right (none_name i) (self_name i) refl

@@ -1,13 +1,10 @@
 -- Steps of the loops that mark variables and count what is not marked.
 use Rattle.std.proofs.Common.{◌≡◌, ◌⊎◌, inl, inr, ℕ, ◌+◌, ◌-◌, ◌<◌, ◌≤◌, Bool, true, false, IsTrue, List, [], ◌∷◌, ◌++◌, length, get_or, set, take, drop, All, sym, ap, ◌∙◌, subst, arith}
-use Rattle.std.proofs.lemmas.Bool.{cases_eq, cases_lt}
+use Rattle.std.proofs.lemmas.Bool.{cases_eq, cases_lt, false≢true}
 use Rattle.std.proofs.lemmas.List.{get_or-set_same, get_or-set_other, get_or_append_left, get_or_past, take_all}
 use Rattle.std.proofs.lemmas.List.Elements.{All-more, All-weaker, All-nil}
 use Rattle.sat_clauses.specs.Literal.{Literal}
 use Rattle.sat_simplify.specs.CompactNumbers.{KeepsMarks, IsMarked, HasMarked}
-
-no_mark : false ≡ true → ⊥
-no_mark e = cc
 
 -- a place more, a mark more and other changes after these keep all marks
 pub marks_itself : (a : List Bool) → KeepsMarks a a
@@ -20,7 +17,7 @@ pub marks_grown : (a : List Bool) → KeepsMarks a (a ++ false ∷ [])
 marks_grown a = record { at = λ i has. by_place i has (cases_lt i (length a)) } where
   by_place : (i : ℕ) → IsTrue (get_or a i false) → (i < length a) ⊎ (length a ≤ i) → IsTrue (get_or (a ++ false ∷ []) i false)
   by_place i has (inl lt) = get_or_append_left a (false ∷ []) false i lt ∙ has
-  by_place i has (inr ge) = absurd (no_mark (sym (get_or_past a i false ge) ∙ has))
+  by_place i has (inr ge) = absurd (false≢true (sym (get_or_past a i false ge) ∙ has))
 
 pub set_marked : (a : List Bool) (i : ℕ) → i < length a → IsTrue (get_or (set a i true) i false)
 set_marked a i lt = get_or-set_same a i true false lt

@@ -7,7 +7,6 @@ pub mod SimplerLaws
 pub mod SlotSteps
 pub mod BaseLaws
 pub mod ListLaws
-pub mod EliminationLaw
 pub mod CompactMarks
 pub mod CompactLaws
 pub mod UnreadLaws

@@ -8,9 +8,9 @@ use Rattle.std.proofs.lemmas.List.Elements.{All-contains, All-more, All-nil, All
 use Rattle.std.proofs.lemmas.List.Folds.{Any-from_list_any}
 use Rattle.sat_clauses.specs.Literal.{Literal, opposite}
 use Rattle.sat_clauses.specs.Derivation.{IsUpTo}
-use Rattle.sat_clauses.specs.Models.{TotalAssignment, literal_value, clause_value}
+use Rattle.sat_clauses.specs.Models.{TotalAssignment, literal_value, clause_value, Satisfies}
 use Rattle.sat_clauses.specs.Truth.{is_same}
-use Rattle.sat_clauses.proofs.ModelLemmas.{literal_value-opposite}
+use Rattle.sat_clauses.proofs.ModelLemmas.{literal_value-opposite, Satisfies-from_All}
 use Rattle.sat_clauses.proofs.FalseLemmas.{opposite-opposite}
 use Rattle.sat_clauses.proofs.ClauseLists.{member_true}
 use Rattle.sat_simplify.specs.SamePlaces.{IsMet, AreMetAlike, HasNoHigherVariable}
@@ -23,11 +23,14 @@ use Rattle.sat_simplify.specs.declared.base.Base.{Base}
 use Rattle.sat_simplify.specs.Unread.{is_clash, clash, clashes, is_closed_at, is_closed, AreTops, chosen, IsPlaceIn, IsLeft, CanGo, compacted_at, HasRead}
 use Rattle.sat_simplify.proofs.Members.{cons_cases, from_flat_map, is_same-refl, same_literal, contains_from_has, in_without, joined_left, joined_right, in_once}
 use Rattle.sat_simplify.proofs.ClauseLaws.{AreTrue, true_by, unless_true, turned, turned_other, lacking_stays, HasTurn, has_turn}
-use Rattle.sat_simplify.proofs.EliminationLaw.{all_of}
 use Rattle.sat_simplify.proofs.CompactMarks.{kept_mark}
 use Rattle.sat_simplify.proofs.CompactLaws.{compact_same, compact_low}
 use Rattle.sat_simplify.proofs.BaseLaws.{entered_next, entered_all, simplified_same, simplified_low}
 use Rattle.base_values.proofs.ListLaws.{all_from, none_contained, contains_here, from_filter, to_filter}
+
+-- each clause true makes the list true
+all_of : (w : TotalAssignment) (cs : List (List Literal)) → AreTrue w cs → Satisfies w cs
+all_of w cs each = Satisfies-from_All w cs (all_from (λ c. clause_value w c ≡ true) cs each)
 
 -- a resolvent that is a tautology is true
 clash_follows : (v : TotalAssignment) (l : Literal) (c d : List Literal) → clash l c d ≡ true → clause_value v (resolvent l c d) ≡ true

@@ -1,5 +1,5 @@
 -- Elimination of a variable: all resolvents on it stand in the place of the clauses that have it.
-use Rattle.std.specs.Prelude.{◌≡◌, if◌then◌else◌, List, [], ◌∷◌, ◌++◌, Contains, refl}
+use Rattle.std.specs.Prelude.{◌≡◌, if◌then◌else◌, List, [], ◌∷◌, refl}
 use Rattle.std.specs.List.{flat_map}
 use Rattle.sat_clauses.specs.Literal.{Literal, plain, opposite}
 use Rattle.sat_simplify.specs.Resolution.{resolvent, is_tautology}
@@ -20,15 +20,3 @@ resolvents l cs ds = flat_map (resolvents_with l ds) cs
 example : resolvents (plain 1) ((plain 1 ∷ plain 2 ∷ []) ∷ (plain 1 ∷ plain 3 ∷ []) ∷ []) ((opposite (plain 1) ∷ opposite (plain 2) ∷ [])
     ∷ []) ≡ (plain 3 ∷ opposite (plain 2) ∷ []) ∷ []
 example = refl
-
--- the list with all clauses of a variable, and the list after its elimination
-pub record IsElimination (l : Literal) (old new : List (List Literal)) : Type 0 where
-  pub with : List (List Literal)
-  pub against : List (List Literal)
-  pub rest : List (List Literal)
-  pub old_is : old ≡ rest ++ (with ++ against)
-  pub new_is : new ≡ rest ++ resolvents l with against
-  pub have : (c : List Literal) → Contains with c → Contains c l
-  pub have_opposite : (c : List Literal) → Contains against c → Contains c (opposite l)
-  pub rest_lacks : (c : List Literal) → Contains rest c → Contains c l → ⊥
-  pub rest_lacks_opposite : (c : List Literal) → Contains rest c → Contains c (opposite l) → ⊥

@@ -11,10 +11,9 @@
 //! Of the others, clauses of one literal are propagated; a clause that another one subsumes is taken out; and a variable that is no
 //! place is eliminated where its resolvents are no more than its clauses: all of them then stand in the place of the
 //! clauses that have it (`specs/Resolution.antt`, `specs/Elimination.antt`). Each of these is one change of a clause
-//! base, [`base`], with one law in `proofs/SimplerLaws.antt`; `proofs/EliminationLaw.antt` has the law of elimination on
-//! plain lists. The clauses lie in slots with an occurrence list for each literal, [`occurrences`], so that no change
-//! looks at all clauses. [`passes`] says what is tried when: no proof depends on that. What is left above the
-//! places is numbered anew, without gaps, [`compact`].
+//! base, [`base`], with one law in `proofs/SimplerLaws.antt`. The clauses lie in slots with an occurrence list for each
+//! literal, [`occurrences`], so that no change looks at all clauses. [`passes`] says what is tried when: no proof depends
+//! on that. What is left above the places is numbered anew, without gaps, [`compact`].
 //!
 //! ```text
 //! // places 2 and 3: the gate 4 is 2 and 3, and 4 is true

@@ -1,7 +1,5 @@
 -- What is right of what a kernel proposes.
-use Rattle.std.proofs.Common.{suc, ◌≡◌, ℕ, ◌<◌, Bool, true, false, List, [], ◌∷◌, ◌++◌, length, get_or, Option, Some, None, All, IfSome, refl, sym, ap, ◌∙◌, subst, arith}
-use Rattle.std.specs.Option.{option_map}
-use Rattle.std.proofs.lemmas.List.{append-nil}
+use Rattle.std.proofs.Common.{suc, ◌≡◌, ℕ, ◌<◌, Bool, true, false, List, [], ◌∷◌, length, get_or, Option, Some, None, All, IfSome, refl, sym, subst, arith}
 use Rattle.std.proofs.lemmas.List.Elements.{All-nil, All-cons}
 use Rattle.sat_clauses.specs.Literal.{Literal}
 use Rattle.sat_clauses.specs.Assignment.{Assignment}
@@ -16,14 +14,6 @@ use Rattle.sat_solver.specs.declared.solve.Verdict.{Verdict}
 use Rattle.sat_solver.specs.declared.solve.Verdict.TheVariants.{Sat, Unsat}
 use Rattle.sat_solver.proofs.VerdictLemmas.{all_follow, All-first}
 use Rattle.sat_solver.proofs.KeptLemmas.{models, all_added, steps_in_range}
-
-kept_nothing : (o : Option (List Step)) → o ≡ option_map (λ ks. ks ++ []) o
-kept_nothing None = refl
-kept_nothing (Some ks) = ap Some (sym (append-nil ks))
-
--- nothing was learned
-pub grows_none : (vars : ℕ) (cs ds : List (List Literal)) (k l : Option (List Step)) → ds ≡ cs → l ≡ k → Grows vars cs k ds l
-grows_none vars cs ds k l same kept = record { steps = []; are_steps = tt; clauses = same; kept = kept ∙ kept_nothing k }
 
 -- what was learned is in range
 pub grown_in_range : (vars : ℕ) (cs ds : List (List Literal)) (k l : Option (List Step)) → Grows vars cs k ds l → All (All (IsUpTo vars)) cs → All (All (IsUpTo vars)) ds

@@ -10,7 +10,6 @@ use Rattle.smv_flat_laws.specs.Rules as rules
 use Rattle.smv_flat_laws.specs.Rules.{IsFirstBroken, IsAccepted, use_sites}
 use Rattle.smv_flat_laws.specs.Items.{visits}
 use Rattle.smv_flat_laws.proofs.Laws.{accepted_unbroken}
-use Rattle.smv_flat_laws.proofs.Walkable.{accepted_walkable, main_is_there}
 use Rattle.smv_scope.specs.declared.fault.FlatFault.{FlatFault}
 use Rattle.smv_scope.specs.Faults.{rule_of, IsFaultOf, IsWant}
 use Rattle.smv_scope.specs.SceneTree.{module_from}
@@ -37,12 +36,6 @@ no_place k (m ∷ ms) x e = by_name (same_text m.name x) refl (λ h. no_place (s
     by_name : (b : Bool) → same_text m.name x ≡ b → (module_from (suc k) ms x ≡ None → find_module ms x ≡ None) → find_module (m ∷ ms) x ≡ None
     by_name true t rest = let bad : Some k ≡ None = rw t at e in cc
     by_name false t rest = ap (λ b. if b then Some m else find_module ms x) t ∙ rest (rw t at e)
-
--- an accepted program has a module `main`
-pub main_found : (p : ProgramTree) → IsAccepted p → module_from 0 p (codes "main") ≡ None → ⊥
-main_found p accepted e =
-    let main : (m : ModuleTree) × (find_module p (codes "main") ≡ Some m) = main_is_there p (accepted_walkable p accepted) in
-    let bad : None ≡ Some main.0 = sym (no_place 0 p (codes "main") e) ∙ main.1 in cc
 
 pub place_found : (k : ℕ) (p : ProgramTree) (x : Text) (j : ℕ) → module_from k p x ≡ Some j → find_module p x ≡ None → ⊥
 place_found k [] x j e f = cc

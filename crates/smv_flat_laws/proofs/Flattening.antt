@@ -6,12 +6,14 @@ use Rattle.smv_language.specs.Scope.{find_module}
 use Rattle.smv_language.specs.Flat.{FlatModel}
 use Rattle.smv_flat_laws.specs.Rules.{IsWalkable, IsAccepted}
 use Rattle.smv_flat_laws.specs.Model.{IsFlatOf, IsFlattened}
-use Rattle.smv_flat_laws.proofs.Sections.{flattened}
+use Rattle.smv_flat_laws.proofs.Sections.{AreInstances, flattened}
 use Rattle.smv_flat_laws.proofs.Places.{are_instances}
 use Rattle.smv_flat_laws.proofs.Walkable.{accepted_walkable, main_is_there}
 
-pub flattening : (p : ProgramTree) (m : FlatModel) → IsAccepted p → IsFlatOf p m → IsFlattened p m
-flattening p m accepted is =
-    let walkable : IsWalkable p = accepted_walkable p accepted in
+pub all_instances : (p : ProgramTree) → IsWalkable p → AreInstances p
+all_instances p walkable =
     let main : (k : ModuleTree) × (find_module p (codes "main") ≡ Some k) = main_is_there p walkable in
-    flattened p (are_instances p walkable main.0 main.1) m is
+    are_instances p walkable main.0 main.1
+
+pub flattening : (p : ProgramTree) (m : FlatModel) → IsAccepted p → IsFlatOf p m → IsFlattened p m
+flattening p m accepted is = flattened p (all_instances p (accepted_walkable p accepted)) m is

@@ -1,4 +1,4 @@
--- A program that is accepted, with its flat model: VAR on : boolean; DEFINE d := !on; ASSIGN init(on) := TRUE; next(on) := d;
+-- Worked example: a program that is accepted, with its flat model: VAR on : boolean; DEFINE d := !on; ASSIGN init(on) := TRUE; next(on) := d;
 use Rattle.std.proofs.Common.{◌≡◌, ℕ, zero, suc, arith, Bool, true, false, [], ◌∷◌, Option, Some, None, refl, sym, subst, inl, inr}
 use Rattle.std.specs.Prelude.{codes, slice_get, if◌then◌else◌}
 use Rattle.smv_language.specs.declared.expr.Op.TheVariants as op
@@ -15,15 +15,6 @@ use Rattle.smv_flat_laws.specs.Model.{IsFlatOf, comes, no_more, one_more}
 use Rattle.smv_language.specs.Texts.{same_text}
 use Rattle.smv_language.proofs.OneTree.{same_text_equal}
 use Rattle.std.proofs.lemmas.Option.{none-some as never_some}
-
-abbrev on_name : Text
-on_name = codes "on"
-
-abbrev d_name : Text
-d_name = codes "d"
-
-abbrev not_on : Formula
-not_on = not_of (leaf (codes "on" ∷ []))
 
 abbrev lamp_main : ModuleTree
 lamp_main = record {

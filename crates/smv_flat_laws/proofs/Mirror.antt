@@ -1,4 +1,4 @@
--- Two instances that read each other: MODULE M(p) VAR x : boolean; ASSIGN x := p; MODULE main VAR a : M(b.x); b : M(a.x);
+-- Worked example: two instances that read each other: MODULE M(p) VAR x : boolean; ASSIGN x := p; MODULE main VAR a : M(b.x); b : M(a.x);
 use Rattle.std.proofs.Common.{◌≡◌, ℕ, zero, suc, arith, Bool, true, false, [], ◌∷◌, ◌++◌, Option, Some, None, refl, sym, ◌∙◌, subst, inl, inr}
 use Rattle.std.specs.Prelude.{◌≤◌, ◌↔◌, List, IsTrue, codes, slice_get}
 use Rattle.smv_language.specs.declared.program.Moment.TheVariants.{Always}

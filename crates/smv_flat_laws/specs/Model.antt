@@ -7,7 +7,7 @@ use Rattle.smv_language.specs.declared.program.Moment.TheVariants.{Always, First
 use Rattle.smv_language.specs.declared.program.Member.{Member}
 use Rattle.smv_language.specs.declared.program.Member.TheVariants as member
 use Rattle.smv_language.specs.Tree.{Tree, leaf, next_of, binary}
-use Rattle.smv_language.specs.ProgramTree.{Text, Path, Formula, DeclaredTree, members, instance, ProgramTree}
+use Rattle.smv_language.specs.ProgramTree.{ModuleTree, Text, Path, Formula, DeclaredTree, members, instance, ProgramTree}
 use Rattle.smv_language.specs.Values.{Value}
 use Rattle.smv_language.specs.Scope.{Place, frozen_role, Key, define_key, actual_key, Meaning, an_expression_at, Means, plain_name}
 use Rattle.smv_language.specs.May.{Valuation}
@@ -156,6 +156,10 @@ symbols_of_item (a_declaration role d) = symbols_of_type d.what
 symbols_of_item (some_constants xs) = xs
 symbols_of_item _ = []
 
+-- and of a module
+abbrev pub symbols_of_module : ModuleTree → List Text
+symbols_of_module m = flat_map symbols_of_item (items_of m)
+
 -- each text once, where it first stands
 abbrev pub first_appearances : List Text → List Text → List Text
 first_appearances seen [] = seen
@@ -163,7 +167,7 @@ first_appearances seen (x ∷ xs) = first_appearances (if is_among seen x then s
 
 -- the symbols of a program
 abbrev pub symbols_of : ProgramTree → List Text
-symbols_of p = first_appearances [] (flat_map (λ m. flat_map symbols_of_item (items_of m)) p)
+symbols_of p = first_appearances [] (flat_map symbols_of_module p)
 
 -- Definitions, in the order of their instances and items: a define, and each actual that is no plain name.
 pub record Root : Type 0 where

@@ -20,6 +20,7 @@ use Rattle.smv_flat_laws.specs.Items.{NumberedItem, NumberedModule, modules_of, 
 use Rattle.smv_flat_laws.specs.Items.{instance_declared, variable_declared}
 use Rattle.smv_flat_laws.specs.Looks.{ComesBack, MeansNothing}
 use Rattle.smv_language.specs.Texts.{same_text, is_among}
+pub use Rattle.smv_language.specs.Scope.{is_missing}
 
 -- the fourteen rules of names, in the order of their numbers
 pub data Rule : Type 0 where
@@ -89,12 +90,7 @@ use_sites p = flat_map (λ at. map (a_use at) (items_named p at.module_name)) (i
 abbrev pub sites : ProgramTree → List Site
 sites p = the_program ∷ (module_sites p ++ (visit_sites [] (visits p) ++ use_sites p))
 
--- Rules 1 to 4.
-abbrev pub is_missing : Option ModuleTree → Bool
-is_missing None = true
-is_missing (Some m) = false
-
--- there is a formal
+-- Rules 1 to 4: there is a formal
 abbrev pub has_formals : List Text → Bool
 has_formals [] = false
 has_formals (x ∷ xs) = true

@@ -9,6 +9,7 @@ use Rattle.smv_language.specs.Texts.{same_text}
 use Rattle.smv_language.specs.Spells.{at_expr, at_iff, at_choice, at_or, at_neg, at_not, operator, minus, SpellsInt, plain_int, minus_int, SpellsDotted, one_name, more_names, begins_span, Spells, only_iff, implies, repeated, only_or, chooses, only_not, negates, only_atom, inverts, SpellsMore, no_operator, one_operator, SpellsAtom, is_true, is_false, is_number, is_span, is_name, in_parentheses, is_next, is_set, is_case, SpellsTrees, one_tree, more_trees, SpellsBranches, one_branch, more_branches}
 pub use Rattle.smv_language.proofs.ValueLaws.{same_text_equal}
 use Rattle.smv_language.proofs.Ends.{same_operator, Stops, stops_tighter, ends_question, ends_arrow, closes, head_ends, end_of_bracket, end_of_brace, end_of_comma, end_of_colon, end_of_semicolon, stops_more}
+use Rattle.std.proofs.lemmas.Bool.{false≢true}
 
 -- a word that is not reserved is none of the reserved ones
 pub not_reserved : (x w : List ℕ) → is_reserved w ≡ true → is_reserved x ≡ false → x ≡ w → ⊥
@@ -250,9 +251,6 @@ forms r s p q e u v = sym (atom_begins r p u) ∙ ap begins_with e ∙ atom_begi
 not_below_itself : (n : ℕ) → n < n → ⊥
 not_below_itself n h = omega (arith, h)
 
-unrepeated : false ≡ true → ⊥
-unrepeated h = cc
-
 brace_no_comma : {r s : List Lexeme} → ◌≡◌ {A = List Lexeme} (sign k.CloseBrace ∷ r) (sign k.Comma ∷ s) → ⊥
 brace_no_comma e = cc
 
@@ -315,22 +313,22 @@ mutual
   one_line r s (inverts p) (only_atom q) e u v = absurd (atom_no_bang s _ q (sym e))
   one_line r s (inverts {ts = xs} {t = a} p) (inverts {ts = ys} {t = b} q) e u v =
       let inner : Same xs ys a b r s = one_line r s p q (second e) u v in (rw inner.0 refl, rw inner.1 refl, inner.2)
-  one_line r s (repeated h p m) (only_iff q) e u v = absurd (unrepeated h)
-  one_line r s (repeated h p m) (implies q q') e u v = absurd (unrepeated h)
-  one_line r s (repeated h p m) (only_or q) e u v = absurd (unrepeated h)
-  one_line r s (repeated h p m) (chooses q q1 q2) e u v = absurd (unrepeated h)
-  one_line r s (repeated h p m) (only_not q) e u v = absurd (unrepeated h)
-  one_line r s (repeated h p m) (negates i q) e u v = absurd (unrepeated h)
-  one_line r s (repeated h p m) (only_atom q) e u v = absurd (unrepeated h)
-  one_line r s (repeated h p m) (inverts q) e u v = absurd (unrepeated h)
-  one_line r s (only_iff p) (repeated h q m) e u v = absurd (unrepeated h)
-  one_line r s (implies p p') (repeated h q m) e u v = absurd (unrepeated h)
-  one_line r s (only_or p) (repeated h q m) e u v = absurd (unrepeated h)
-  one_line r s (chooses p p1 p2) (repeated h q m) e u v = absurd (unrepeated h)
-  one_line r s (only_not p) (repeated h q m) e u v = absurd (unrepeated h)
-  one_line r s (negates i p) (repeated h q m) e u v = absurd (unrepeated h)
-  one_line r s (only_atom p) (repeated h q m) e u v = absurd (unrepeated h)
-  one_line r s (inverts p) (repeated h q m) e u v = absurd (unrepeated h)
+  one_line r s (repeated h p m) (only_iff q) e u v = absurd (false≢true h)
+  one_line r s (repeated h p m) (implies q q') e u v = absurd (false≢true h)
+  one_line r s (repeated h p m) (only_or q) e u v = absurd (false≢true h)
+  one_line r s (repeated h p m) (chooses q q1 q2) e u v = absurd (false≢true h)
+  one_line r s (repeated h p m) (only_not q) e u v = absurd (false≢true h)
+  one_line r s (repeated h p m) (negates i q) e u v = absurd (false≢true h)
+  one_line r s (repeated h p m) (only_atom q) e u v = absurd (false≢true h)
+  one_line r s (repeated h p m) (inverts q) e u v = absurd (false≢true h)
+  one_line r s (only_iff p) (repeated h q m) e u v = absurd (false≢true h)
+  one_line r s (implies p p') (repeated h q m) e u v = absurd (false≢true h)
+  one_line r s (only_or p) (repeated h q m) e u v = absurd (false≢true h)
+  one_line r s (chooses p p1 p2) (repeated h q m) e u v = absurd (false≢true h)
+  one_line r s (only_not p) (repeated h q m) e u v = absurd (false≢true h)
+  one_line r s (negates i p) (repeated h q m) e u v = absurd (false≢true h)
+  one_line r s (only_atom p) (repeated h q m) e u v = absurd (false≢true h)
+  one_line r s (inverts p) (repeated h q m) e u v = absurd (false≢true h)
 
   one_more : {l : ℕ} {xs ys : List Lexeme} {c a b : Tree Path} (r s : List Lexeme) → SpellsMore l xs c a → SpellsMore l ys c b → xs ++ r ≡ ys ++ s →
       Stops l r → Stops l s → Same xs ys a b r s

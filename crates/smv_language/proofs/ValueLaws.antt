@@ -1,5 +1,5 @@
 -- Values that the tests find equal are equal, and the other way round.
-use Rattle.std.proofs.Common.{◌≡◌, ℕ, Bool, true, false, List, [], ◌∷◌, refl, ap, eqb-true, eq-eqb, ◌≤ℤ◌, arith}
+use Rattle.std.proofs.Common.{◌≡◌, ℕ, Bool, true, false, List, [], ◌∷◌, ◌++◌, refl, ap, eqb-true, eq-eqb, ◌≤ℤ◌, arith}
 use Rattle.std.specs.Prelude.{ℤ, pos, negsuc, nat_eq, int_lt}
 pub use Rattle.smv_lexer.proofs.SignLemmas.{both_true}
 use Rattle.smv_language.specs.Values.{Value, truth, number, symbol, same_int, same_bool, same_value, at_most, opposite}
@@ -8,6 +8,7 @@ use Rattle.std.proofs.lemmas.Int.{ints}
 use Rattle.smv_language.specs.declared.program.Member.{Member}
 use Rattle.smv_language.specs.declared.program.Member.TheVariants as member
 use Rattle.smv_language.specs.Trace.{is_member}
+use Rattle.smv_language.specs.ProgramTree.{Text}
 
 pub same_text_equal : (a b : List ℕ) → same_text a b ≡ true → a ≡ b
 same_text_equal [] [] h = refl
@@ -21,6 +22,10 @@ same_text_equal (c ∷ cs) (d ∷ ds) h =
 pub same_text_refl : (a : List ℕ) → same_text a a ≡ true
 same_text_refl [] = refl
 same_text_refl (c ∷ cs) = rw (eq-eqb c c refl, same_text_refl cs) refl
+
+pub same_after : (x a b : Text) → same_text (x ++ a) (x ++ b) ≡ same_text a b
+same_after [] a b = refl
+same_after (c ∷ x) a b = rw (eq-eqb c c refl) (same_after x a b)
 
 pub same_int_equal : (a b : ℤ) → same_int a b ≡ true → a ≡ b
 same_int_equal (pos m) (pos n) h = ap pos (eqb-true m n h)

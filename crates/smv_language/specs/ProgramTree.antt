@@ -33,6 +33,11 @@ pub data DeclaredTree : Type 0 where
   members : List Member → DeclaredTree
   instance : Text → List Formula → DeclaredTree
 
+-- a type, and no instance
+abbrev pub IsType : DeclaredTree → Type 0
+IsType (instance m actuals) = ⊥
+IsType _ = Unit {0}
+
 -- a name and what it is declared to be
 pub record DeclTree : Type 0 where
   pub name : Text

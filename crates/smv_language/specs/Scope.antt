@@ -31,6 +31,11 @@ abbrev pub find_module : ProgramTree → Text → Option ModuleTree
 find_module [] x = None
 find_module (m ∷ ms) x = if same_text m.name x then Some m else find_module ms x
 
+-- there is no such module
+abbrev pub is_missing : Option ModuleTree → Bool
+is_missing None = true
+is_missing (Some m) = false
+
 -- the place of a formal, counted on from a number
 abbrev pub formal_from : ℕ → List Text → Text → Option ℕ
 formal_from i [] x = None

@@ -5,8 +5,15 @@ use Rattle.smv_language.specs.declared.program.Member.TheVariants as member
 use Rattle.smv_language.specs.ProgramTree.{DeclaredTree, boolean, range, members, instance, DeclTree, DefineTree, AssignmentTree}
 use Rattle.smv_language.specs.ProgramTree.{SectionTree, var, ivar, frozen, define, constants, assign, init, invar, trans, ModuleTree}
 use Rattle.smv_language.specs.ProgramTree.{ProgramTree}
+use Rattle.smv_language.specs.Values.{Value, truth, number, symbol}
 use Rattle.smv_language.specs.PrintedTokens.{IsName, AreNames, IsEnd, IsWritable}
 use Rattle.smv_language.specs.Trace.{Each}
+
+-- a value
+abbrev pub IsPlain : Value → Type 0
+IsPlain (truth b) = Unit {0}
+IsPlain (number n) = IsEnd n
+IsPlain (symbol x) = IsName x
 
 -- a member of a type
 abbrev pub IsWritableMember : Member → Type 0

@@ -1,6 +1,6 @@
 -- What formals, definitions and declarations are in the modules of instances.
 use Rattle.std.proofs.Common.{◌≡◌, ℕ, zero, suc, ◌+◌, arith, Bool, true, false, List, [], ◌∷◌, ◌++◌, Some, refl, sym, ◌∙◌, ap}
-use Rattle.std.specs.Prelude.{slice_get, flat_map, codes}
+use Rattle.std.specs.Prelude.{slice_get, flat_map}
 use Rattle.smv_language.specs.ProgramTree.{Text, DeclTree, DefineTree, ModuleTree, ProgramTree}
 use Rattle.smv_language.specs.Texts.{same_text, is_among}
 use Rattle.smv_language.specs.Scope.{Place, Role, a_formal, a_define, kind_declared, kind_in, kind_in_sections, kind_after_formals, kind_at, module_at, find_module, formal_from}
@@ -11,9 +11,7 @@ use Rattle.smv_flat_laws.specs.Items.{Item, a_declaration, a_definition, an_assi
 use Rattle.smv_flat_laws.specs.Rules.{has_twice, names_of_item, IsWalkable}
 use Rattle.smv_flat_laws.proofs.Conditions.{each_at}
 use Rattle.smv_flat_laws.proofs.KindLaws.{kind_in_items, sections_kind, ItemFacts, kind_of_declaration, among_split}
-use Rattle.smv_flat_laws.proofs.Places.{facts_named, are_instances}
-use Rattle.smv_flat_laws.proofs.Sections.{AreInstances}
-use Rattle.smv_flat_laws.proofs.Walkable.{main_is_there}
+use Rattle.smv_flat_laws.proofs.Places.{facts_named}
 use Rattle.smv_scope.specs.KnownFormals.{IsHead}
 use Rattle.smv_scope.proofs.LookSplit.{never}
 use Rattle.smv_scope.proofs.Heads.{among_there}
@@ -23,6 +21,7 @@ use Rattle.std.proofs.lemmas.Option.{same_Some as of_some}
 use Rattle.std.proofs.lemmas.Bool.{or_parts as neither}
 use Rattle.smv_language.proofs.BoolLaws.{not_both}
 use Rattle.smv_language.proofs.ProgramLaws.{no_formal}
+use Rattle.smv_flat_laws.proofs.Flattening.{all_instances}
 
 -- a formal that stands once is found by its name
 pub formal_first : (k : ℕ) (xs : List Text) (j : ℕ) (x : Text) → has_twice xs ≡ false → slice_get xs j ≡ Some x → formal_from k xs x ≡ Some (k + j)
@@ -39,11 +38,6 @@ formal_first k (y ∷ xs) (suc j) x once e =
     by_name : (b : Bool) → same_text y x ≡ b → is_among xs y ≡ false → formal_from (suc k) xs x ≡ Some (k + suc j) → formal_from k (y ∷ xs) x ≡ Some (k + suc j)
     by_name true t other rest = absurd (not_both (is_among xs y) (ap (is_among xs) (same_text_equal y x t) ∙ among_there xs j x e) other)
     by_name false t other rest = rw t rest
-
-pub all_instances : (p : ProgramTree) → IsWalkable p → AreInstances p
-all_instances p walkable =
-    let main : (m : ModuleTree) × (find_module p (codes "main") ≡ Some m) = main_is_there p walkable in
-    are_instances p walkable main.0 main.1
 
 -- the module of an instance
 pub module_there : (p : ProgramTree) → IsWalkable p → (k : ℕ) (i : FlatInstance) (m : ModuleTree) → slice_get (instances_of p) k ≡ Some i → find_module p i.module_name ≡ Some m → module_at p i.place ≡ Some m

@@ -3,7 +3,7 @@ use Rattle.std.proofs.Common.{◌≡◌, ℕ, suc, ◌+◌, List, [], ◌∷◌,
 use Rattle.std.specs.Prelude.{flat_map}
 use Rattle.smv_language.specs.ProgramTree.{Text, ModuleTree, program_tree}
 use Rattle.smv_flat_laws.specs.Items.{Item, NumberedModule, items_of, numbered_from, modules_from, modules_of}
-use Rattle.smv_flat_laws.specs.Model.{symbols_of_item, first_appearances, symbols_of}
+use Rattle.smv_flat_laws.specs.Model.{symbols_of_item, first_appearances, symbols_of, symbols_of_module}
 use Rattle.smv_scope.specs.ItemTree.{numbered_tree}
 use Rattle.smv_scope.specs.Symbols.{symbols_of_numbered, symbols_in}
 use Rattle.smv_scope.specs.SceneTree.{HasNames, AreModules, number_and_item}
@@ -26,9 +26,6 @@ item_symbols n before (i ∷ is) = ap (λ xs. symbols_of_item i ++ xs) (item_sym
 
 names_symbols : (m : NumberedModule) (names : ModuleNames) → HasNames m names → symbols_in names ≡ flat_map symbols_of_item (items_of m.tree)
 names_symbols m names has = numbered_symbols names.items.items ∙ ap symbols_of_pairs has.items ∙ item_symbols (suc m.number) [] (items_of m.tree)
-
-abbrev symbols_of_module : ModuleTree → List Text
-symbols_of_module m = flat_map symbols_of_item (items_of m)
 
 list_symbols : (ms : List NumberedModule) (list : List ModuleNames) → EachBoth HasNames ms list → flat_map symbols_in list ≡ flat_map (λ (m : NumberedModule). symbols_of_module m.tree) ms
 list_symbols [] [] has = refl

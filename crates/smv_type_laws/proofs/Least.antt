@@ -45,20 +45,3 @@ least_none (r ∷ rs) e = by (least rs) e
     by : (o : Option KindRule) → least_after r o ≡ None → r ∷ rs ≡ []
     by None e' = cc
     by (Some q) e' = cc
-
--- The least of two answers, in any order and grouping.
-rule_at : ℕ → KindRule
-rule_at n = elim (slice_get (mismatch ∷ mismatch ∷ not_boolean ∷ set_here ∷ may_divide_by_zero ∷ too_wide ∷ empty_range ∷ mixed_enum ∷ case_end ∷ too_large ∷ double_member ∷ []) n) [ None ↦ mismatch | Some r ↦ r ]
-
-at_number : (r : KindRule) → rule_at (number_of r) ≡ r
-unfolding rule_at
-at_number mismatch = refl
-at_number not_boolean = refl
-at_number set_here = refl
-at_number may_divide_by_zero = refl
-at_number too_wide = refl
-at_number empty_range = refl
-at_number mixed_enum = refl
-at_number case_end = refl
-at_number too_large = refl
-at_number double_member = refl

@@ -3,7 +3,7 @@ use Rattle.std.specs.Prelude.{◌≡◌, ◌↔◌, ℕ, ℤ, Bool, true, false,
 use Rattle.std.specs.Prelude.{if◌then◌else◌}
 use Rattle.smv_language.specs.declared.program.Member.{Member}
 use Rattle.smv_language.specs.declared.program.Member.TheVariants as member
-use Rattle.smv_language.specs.ProgramTree.{Text, DeclaredTree, boolean, range, members, instance, declared_tree}
+use Rattle.smv_language.specs.ProgramTree.{Text, DeclaredTree, boolean, range, members, instance, declared_tree, IsType}
 use Rattle.smv_language.specs.Trace.{in_domain}
 use Rattle.smv_language.specs.Values as told
 use Rattle.base_values.specs.declared.domain.Domain.{Domain}
@@ -92,11 +92,6 @@ StandsFor symbols (value.Bool b) (told.truth c) = b ≡ c
 StandsFor symbols (value.Num n) (told.number k) = n ≡ k
 StandsFor symbols (value.Sym i) (told.symbol x) = (slice_get symbols i ≡ Some x) × (symbol_number symbols x ≡ i)
 StandsFor symbols _ _ = ⊥
-
--- it is a type and no instance
-abbrev pub IsType : DeclaredTree → Type 0
-IsType (instance m actuals) = ⊥
-IsType _ = Unit {0}
 
 -- A domain has the values of a type that is no instance, a symbol by its number.
 abbrev pub HasValuesOf : List Text → DeclaredTree → Domain → Type 0

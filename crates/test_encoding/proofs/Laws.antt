@@ -5,7 +5,7 @@ use Rattle.std.specs.List.{list_any, AllByRecursion}
 use Rattle.std.proofs.lemmas.Bool.{ltb-true}
 use Rattle.std.proofs.lemmas.List.{length-map}
 use Rattle.std.proofs.lemmas.List.Elements.{recursion_from_All}
-use Rattle.smv_language.specs.ProgramTree.{Text, DeclaredTree, boolean, range, members, instance, declared_tree}
+use Rattle.smv_language.specs.ProgramTree.{Text, DeclaredTree, boolean, range, members, instance, declared_tree, IsType}
 use Rattle.smv_language.specs.Tree.{Tree, Trees, Branches, truth as a_truth, number as a_number, leaf, not_of, negate, next_of, binary, choice, case_of, set_of, span, no_tree, tree_then, no_branch, branch_then}
 use Rattle.smv_language.specs.Leaves.{tree_map, trees_map, branches_map}
 use Rattle.smv_language.specs.Laws.{AllLeaves, AllLeavesOfTrees, AllLeavesOfBranches}
@@ -30,7 +30,7 @@ use Rattle.smv_flat_laws.specs.NameResolution.{leaves_in}
 use Rattle.smv_flat_laws.specs.FlatTrace.{AreInDomains}
 use Rattle.smv_type_laws.specs.Laws.{IsKnown, ReadsOwn}
 use Rattle.smv_type_laws.specs.Models.{judged_in, broken_condition}
-use Rattle.smv_types.specs.Types.{StandsFor, IsType, AreValuesOf}
+use Rattle.smv_types.specs.Types.{StandsFor, AreValuesOf}
 use Rattle.sat_encoding_laws.specs.Inputs.{is_input, is_input_variable, names_input, reading_after}
 use Rattle.sat_encoding_laws.specs.Meanings.{AreSymbols}
 use Rattle.sat_encoding_laws.specs.Encodable.{IsListedType, IsEncodable, IsFitTop}

@@ -1,7 +1,7 @@
 -- How a run ends: its number, and the line that a refusal says.
 use Rattle.std.specs.Prelude.{◌≡◌, ℕ, ℤ, pos, ◌++◌, codes}
 use Rattle.std.specs.Fmt.{decimal}
-use Rattle.base_values.specs.declared.limits.TheConstants.{MOST_FILE_BYTES, MOST_TOP_BYTES}
+use Rattle.base_values.specs.declared.limits.TheConstants.{MOST_TOP_BYTES}
 use Rattle.smv_language.specs.ProgramTree.{Text}
 use Rattle.cut_text_laws.specs.Analysis.{Ending, complete, bounded}
 use Rattle.verb_command_line.specs.declared.fault.WordFault.{WordFault}
@@ -117,10 +117,6 @@ refusal_text (refusal.Set fault) = codes "refused set " ++ fault_text fault
 -- the file is not there
 abbrev pub absent : InputFault
 absent = record { part = part.Absent; number = 1; place = 0 }
-
--- the file has more bytes than `MOST_FILE_BYTES`
-abbrev pub too_long : InputFault
-too_long = record { part = part.Length; number = 1; place = MOST_FILE_BYTES }
 
 -- the text of a top event has more bytes than `MOST_TOP_BYTES`
 abbrev pub top_too_long : InputFault
