@@ -43,6 +43,7 @@ impl LineList {
         ensures value { result ≡ length self.now }
         ensures small { result < 2 ^ 63 }
     {
+        // Memory keeps the bytes below 2^63, and each line has one.
         let _bytes = self.text.as_slice().len();
         self.count
     }

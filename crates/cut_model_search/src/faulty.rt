@@ -96,6 +96,7 @@ impl<'a> FaultyModel<'a> {
     pub(crate) fn can_be_searched(&self)
         ensures { CanBeSearched self.now }
     {
+        // What always holds of a model is known where a field of it is read.
         let _plain = self.plain;
     }
 

@@ -34,6 +34,7 @@ fn copied(alloc: Global, sets: &[FaultSet]) -> Result<SetList, OutOfMemory>
     ensures same { IfOk result (λ copy. copy ≡ sets.now) }
     ensures few { length sets.now < 2 ^ 63 }
 {
+    // Memory keeps the number of sets below 2^63.
     let _count = sets.len();
     let mut copy = SetList::new(alloc);
     for set in sets {
@@ -47,6 +48,7 @@ fn copied_clauses(clauses: &ClauseList) -> Result<ClauseList, OutOfMemory>
     ensures same { IfOk result (λ copy. copy ≡ clauses.now) }
     ensures few { length clauses.now < 2 ^ 63 }
 {
+    // Memory keeps the number of clauses below 2^63.
     let _count = clauses.as_slice().len();
     let copy = clauses.copy()?;
     Ok(copy)

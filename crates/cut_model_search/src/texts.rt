@@ -32,6 +32,7 @@ fn text_of(alloc: Global, t: &Typed, trace: &MomentList) -> Result<LineList, Out
 {
     let text = print_trace(alloc, t, trace)?;
     let list = lines(alloc, text.as_slice())?;
+    // Memory keeps the number of lines below 2^63.
     let _count = list.len();
     Ok(list)
 }

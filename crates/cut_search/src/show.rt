@@ -40,6 +40,7 @@ fn bits_of(
     requires few { count < 2 ^ 31 }
     ensures { IfOk result (λ set. set ≡ bits_set moment.now first count) }
 {
+    // The values lie in memory, so that their number is below 2^63.
     let _all = moment.len();
     let mut set = FaultSet::new(alloc);
     for i in 0..count {

@@ -59,6 +59,7 @@ impl Alive {
             self.numbers.push(0)?;
             return Ok(());
         }
+        // The number of clauses is one of 64 bits.
         let _count = store.count();
         self.store.push(store.lits(place as u64 + 1))?;
         self.marks.push(is_learned(marks, place))?;

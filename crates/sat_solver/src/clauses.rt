@@ -24,6 +24,7 @@ pub fn lits<S: Store>(store: &S, i: usize) -> &[Lit]
     requires { i < length (S.held store.now).clauses }
     ensures { slice_get (S.held store.now).clauses i ≡ Some result.now }
 {
+    // The number of clauses is one of 64 bits.
     let _count = store.count();
     store.lits(i as u64 + 1)
 }

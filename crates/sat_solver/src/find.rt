@@ -47,6 +47,7 @@ fn see_positive(lits: &[Lit])
     ensures { All (λ l. 1 ≤ l.var) lits.now }
 {
     for lit in lits {
+        // (what `var` says)
         let _var = lit.var();
     }
 }

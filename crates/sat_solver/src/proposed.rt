@@ -123,6 +123,7 @@ fn is_settled(store: &Arena, marks: &[bool], assign: &Assign, place: usize) -> b
     if is_learned(marks, place) {
         return true;
     }
+    // The number of clauses is one of 64 bits.
     let _count = store.count();
     has_true(store.lits(place as u64 + 1), assign)
 }
