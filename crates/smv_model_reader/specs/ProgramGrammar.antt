@@ -18,6 +18,7 @@ use Rattle.smv_expression_reader.specs.Marks.{w_trans, w_skipped, w_boolean, w_f
 use Rattle.smv_expression_reader.specs.Marks.{s_close, s_open_brace, s_close_brace, s_comma, s_semicolon, s_colon, s_dot, s_minus, mark_of}
 use Rattle.smv_expression_reader.specs.Marks.{is_section}
 use Rattle.smv_expression_reader.specs.Stops.{IsExpression}
+use Rattle.smv_expression_reader.specs.MarkView.{is_mark}
 
 -- the lexemes that stand alone between others
 pub data Single : Type 0 where
@@ -61,17 +62,20 @@ pub data Tail (One : List Lexeme → Type 0) (end : Lexeme) : List Lexeme → Ty
   tail_end : Tail One end (end ∷ [])
   tail_more : {xs ys : List Lexeme} → One xs → Tail One end ys → Tail One end (sign k.Comma ∷ (xs ++ ys))
 
+-- the mark of a single lexeme
+abbrev pub mark_of_single : Single → Mark
+mark_of_single the_name = a_name
+mark_of_single the_number = a_number
+mark_of_single the_colon = s_colon
+mark_of_single the_becomes = s_becomes
+mark_of_single the_semicolon = s_semicolon
+mark_of_single the_open = s_open
+mark_of_single the_close = s_close
+mark_of_single the_dots = s_dots
+
 -- the mark is that of the lexeme
 abbrev pub is_single : Single → Mark → Bool
-is_single the_name a_name = true
-is_single the_number a_number = true
-is_single the_colon s_colon = true
-is_single the_becomes s_becomes = true
-is_single the_semicolon s_semicolon = true
-is_single the_open s_open = true
-is_single the_close s_close = true
-is_single the_dots s_dots = true
-is_single _ _ = false
+is_single w c = is_mark c (mark_of_single w)
 
 -- the list is some name
 abbrev pub IsName : List Lexeme → Type 0

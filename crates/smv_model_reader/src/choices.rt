@@ -9,81 +9,7 @@ ghost use Rattle.smv_model_reader.specs.Symbols.{symbol_view, choice, Chosen};
 
 use crate::symbols::{ExpectedSymbols, Symbol};
 use base_values::OutOfMemory;
-use smv_expression_reader::mark::Mark;
-
-// Parts that are one token: whether the mark is that of the token.
-
-fn is_name(mark: Mark) -> bool
-    ensures { result ≡ read.is_single read.the_name (mark_view mark) }
-{
-    match mark {
-        Mark::Name => true,
-        _ => false,
-    }
-}
-
-fn is_number(mark: Mark) -> bool
-    ensures { result ≡ read.is_single read.the_number (mark_view mark) }
-{
-    match mark {
-        Mark::Number => true,
-        _ => false,
-    }
-}
-
-fn is_colon(mark: Mark) -> bool
-    ensures { result ≡ read.is_single read.the_colon (mark_view mark) }
-{
-    match mark {
-        Mark::Colon => true,
-        _ => false,
-    }
-}
-
-fn is_becomes(mark: Mark) -> bool
-    ensures { result ≡ read.is_single read.the_becomes (mark_view mark) }
-{
-    match mark {
-        Mark::Becomes => true,
-        _ => false,
-    }
-}
-
-fn is_semicolon(mark: Mark) -> bool
-    ensures { result ≡ read.is_single read.the_semicolon (mark_view mark) }
-{
-    match mark {
-        Mark::Semicolon => true,
-        _ => false,
-    }
-}
-
-fn is_open(mark: Mark) -> bool
-    ensures { result ≡ read.is_single read.the_open (mark_view mark) }
-{
-    match mark {
-        Mark::Open => true,
-        _ => false,
-    }
-}
-
-fn is_close(mark: Mark) -> bool
-    ensures { result ≡ read.is_single read.the_close (mark_view mark) }
-{
-    match mark {
-        Mark::Close => true,
-        _ => false,
-    }
-}
-
-fn is_dots(mark: Mark) -> bool
-    ensures { result ≡ read.is_single read.the_dots (mark_view mark) }
-{
-    match mark {
-        Mark::Dots => true,
-        _ => false,
-    }
-}
+use smv_expression_reader::mark::{Mark, is_same};
 
 /// Modules: one with its name, formals and sections, and more modules.
 fn after_modules(symbols: &mut ExpectedSymbols, mark: Mark) -> Result<bool, OutOfMemory>
@@ -348,14 +274,14 @@ pub fn after(symbols: &mut ExpectedSymbols, symbol: Symbol, mark: Mark) -> Resul
     ensures { IfOk result (λ on. Chosen on (choice (symbol_view symbol) (mark_view mark)) symbols.old symbols.new) }
 {
     match symbol {
-        Symbol::Name => Ok(is_name(mark)),
-        Symbol::Number => Ok(is_number(mark)),
-        Symbol::Colon => Ok(is_colon(mark)),
-        Symbol::Becomes => Ok(is_becomes(mark)),
-        Symbol::Semicolon => Ok(is_semicolon(mark)),
-        Symbol::Open => Ok(is_open(mark)),
-        Symbol::Close => Ok(is_close(mark)),
-        Symbol::Dots => Ok(is_dots(mark)),
+        Symbol::Name => Ok(is_same(mark, Mark::Name)),
+        Symbol::Number => Ok(is_same(mark, Mark::Number)),
+        Symbol::Colon => Ok(is_same(mark, Mark::Colon)),
+        Symbol::Becomes => Ok(is_same(mark, Mark::Becomes)),
+        Symbol::Semicolon => Ok(is_same(mark, Mark::Semicolon)),
+        Symbol::Open => Ok(is_same(mark, Mark::Open)),
+        Symbol::Close => Ok(is_same(mark, Mark::Close)),
+        Symbol::Dots => Ok(is_same(mark, Mark::Dots)),
         Symbol::Modules => after_modules(symbols, mark),
         Symbol::Formals => after_formals(symbols, mark),
         Symbol::FirstFormal => after_first_formal(symbols, mark),
