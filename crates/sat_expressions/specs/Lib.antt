@@ -1,3 +1,4 @@
+pub mod ArithmeticGates
 pub mod Sorts
 pub mod ModelNames
 pub mod Parts

@@ -1,18 +1,19 @@
 //! The gates of operators on the signals of their operands.
 //!
 //! [`operator`] is the main function, for all operators with two operands; [`negated`] is the sign turned round.
-//! Each has a function of its own, which first sees that the circuit has room. Arithmetic goes to `sat_circuits`,
-//! cut to a width that the caller takes from what is known of the result.
-ghost use Rattle.std.specs.Prelude.{◌≤◌, IfOk};
+//! Each first sees that the circuit has room. The five of [`Arithmetic`] go to `sat_circuits`, cut to a width that the
+//! caller takes from what is known of the result.
+ghost use Rattle.std.specs.Prelude.{◌≤◌, ◌-◌, ◌^◌, length, IfOk};
 ghost use Rattle.sat_clauses.specs.Literal.{opposite};
 ghost use Rattle.sat_clauses.specs.Models.{IsBelow};
 ghost use Rattle.sat_circuits.specs.Gates.{and_gate, or_gate, xor_gate};
-ghost use Rattle.sat_circuits.specs.Sums.{add_gates, subtract_gates, negate_gates, less_gates};
-ghost use Rattle.sat_circuits.specs.Products.{multiply_gates};
-ghost use Rattle.sat_circuits.specs.Quotients.{divide_gates, remainder_gates};
+ghost use Rattle.sat_circuits.specs.Sums.{negate_gates, less_gates};
+ghost use Rattle.sat_circuits.specs.Words.{IsWordOf};
 ghost use Rattle.sat_encoding_laws.specs.Signals.{literal_in, word_in, as_bit, as_word, turned, same_gates, operator_gates};
 ghost use Rattle.sat_encoding_laws.specs.Meanings.{IsSignal};
+ghost use Rattle.sat_expressions.specs.declared.signal.Signal.TheVariants as built;
 ghost use Rattle.sat_expressions.specs.BuiltSignals.{signal_of, BuildsLiteral, BuildsSignal};
+ghost use Rattle.sat_expressions.specs.ArithmeticGates.{arithmetic_gates};
 
 use crate::room::{check_room, check_width};
 use crate::signal::{Signal, is_less, same};
@@ -21,9 +22,20 @@ use sat_circuits::gates::Gates;
 use sat_circuits::products::multiply;
 use sat_circuits::quotients::{divide, remainder};
 use sat_circuits::sums::{add, negate, subtract};
+use sat_circuits::word::Word;
 use sat_clauses::lit::Lit;
 use smv_language::Op;
 use std::alloc::Global;
+
+/// The operators on two numbers that give a number.
+#[derive(Clone, Copy, Debug, PartialEq, Eq)]
+pub enum Arithmetic {
+    Product,
+    Quotient,
+    Remainder,
+    Sum,
+    Difference,
+}
 
 /// An operator on two values; a number has that width. `union` and `in` have no gates of their own.
 pub fn operator(
@@ -40,11 +52,11 @@ pub fn operator(
     ensures { IfOk result (BuildsSignal g.old (operator_gates op width (signal_of a) (signal_of b) g.old) g.new) }
 {
     match op {
-        Op::Times => multiplied(alloc, g, width, a, b),
-        Op::Over => divided(alloc, g, width, a, b),
-        Op::Mod => remaining(alloc, g, width, a, b),
-        Op::Plus => added(alloc, g, width, a, b),
-        Op::Minus => subtracted(alloc, g, width, a, b),
+        Op::Times => calculated(alloc, g, Arithmetic::Product, width, a, b),
+        Op::Over => calculated(alloc, g, Arithmetic::Quotient, width, a, b),
+        Op::Mod => calculated(alloc, g, Arithmetic::Remainder, width, a, b),
+        Op::Plus => calculated(alloc, g, Arithmetic::Sum, width, a, b),
+        Op::Minus => calculated(alloc, g, Arithmetic::Difference, width, a, b),
         Op::Equal => alike(alloc, g, a, b),
         Op::Differs => unlike(alloc, g, a, b),
         Op::Less => below(alloc, g, a, b),
@@ -62,10 +74,11 @@ pub fn operator(
     }
 }
 
-/// The product of two numbers, cut to that width.
-fn multiplied(
+/// An operator on two numbers, cut to that width.
+fn calculated(
     alloc: Global,
     g: &mut Gates,
+    by: Arithmetic,
     width: u32,
     a: Signal,
     b: Signal,
@@ -74,100 +87,38 @@ fn multiplied(
     requires left { IsSignal g.old (signal_of a) }
     requires right { IsSignal g.old (signal_of b) }
     ensures { IfOk result
-        (BuildsSignal g.old (as_word (multiply_gates (word_in (signal_of a)) (word_in (signal_of b)) width g.old)) g.new) }
+        (BuildsSignal g.old (as_word (arithmetic_gates by (word_in (signal_of a)) (word_in (signal_of b)) width g.old)) g.new) }
 {
     check_room(g)?;
     check_width(width)?;
     let a = a.into_word(alloc)?;
     let b = b.into_word(alloc)?;
-    let word = multiply(alloc, g, &a, &b, width)?;
+    let word = word_of(alloc, g, by, width, &a, &b)?;
     Ok(Signal::Word(word))
 }
 
-/// The quotient of two numbers, cut to that width.
-fn divided(
+/// The same on words, where there is room.
+fn word_of(
     alloc: Global,
     g: &mut Gates,
+    by: Arithmetic,
     width: u32,
-    a: Signal,
-    b: Signal,
-) -> Result<Signal, OutOfMemory>
-    requires some { 1 ≤ width }
-    requires left { IsSignal g.old (signal_of a) }
-    requires right { IsSignal g.old (signal_of b) }
-    ensures { IfOk result (BuildsSignal g.old (as_word (divide_gates (word_in (signal_of a)) (word_in (signal_of b)) width g.old)) g.new) }
+    a: &Word,
+    b: &Word,
+) -> Result<Word, OutOfMemory>
+    requires widths { (1 ≤ width) × (width ≤ 34) × (length a.now ≤ 34) × (length b.now ≤ 34) }
+    requires left { IsWordOf g.old a.now }
+    requires right { IsWordOf g.old b.now }
+    requires room { g.old.free ≤ 2 ^ 31 - 20000 }
+    ensures { IfOk result (λ w. BuildsSignal g.old (as_word (arithmetic_gates by a.now b.now width g.old)) g.new (built.Word w)) }
 {
-    check_room(g)?;
-    check_width(width)?;
-    let a = a.into_word(alloc)?;
-    let b = b.into_word(alloc)?;
-    let word = divide(alloc, g, &a, &b, width)?;
-    Ok(Signal::Word(word))
-}
-
-/// The remainder of two numbers, cut to that width.
-fn remaining(
-    alloc: Global,
-    g: &mut Gates,
-    width: u32,
-    a: Signal,
-    b: Signal,
-) -> Result<Signal, OutOfMemory>
-    requires some { 1 ≤ width }
-    requires left { IsSignal g.old (signal_of a) }
-    requires right { IsSignal g.old (signal_of b) }
-    ensures { IfOk result
-        (BuildsSignal g.old (as_word (remainder_gates (word_in (signal_of a)) (word_in (signal_of b)) width g.old)) g.new) }
-{
-    check_room(g)?;
-    check_width(width)?;
-    let a = a.into_word(alloc)?;
-    let b = b.into_word(alloc)?;
-    let word = remainder(alloc, g, &a, &b, width)?;
-    Ok(Signal::Word(word))
-}
-
-/// The sum of two numbers, cut to that width.
-fn added(
-    alloc: Global,
-    g: &mut Gates,
-    width: u32,
-    a: Signal,
-    b: Signal,
-) -> Result<Signal, OutOfMemory>
-    requires some { 1 ≤ width }
-    requires left { IsSignal g.old (signal_of a) }
-    requires right { IsSignal g.old (signal_of b) }
-    ensures { IfOk result (BuildsSignal g.old (as_word (add_gates (word_in (signal_of a)) (word_in (signal_of b)) width g.old)) g.new) }
-{
-    check_room(g)?;
-    check_width(width)?;
-    let a = a.into_word(alloc)?;
-    let b = b.into_word(alloc)?;
-    let word = add(alloc, g, &a, &b, width)?;
-    Ok(Signal::Word(word))
-}
-
-/// The difference of two numbers, cut to that width.
-fn subtracted(
-    alloc: Global,
-    g: &mut Gates,
-    width: u32,
-    a: Signal,
-    b: Signal,
-) -> Result<Signal, OutOfMemory>
-    requires some { 1 ≤ width }
-    requires left { IsSignal g.old (signal_of a) }
-    requires right { IsSignal g.old (signal_of b) }
-    ensures { IfOk result
-        (BuildsSignal g.old (as_word (subtract_gates (word_in (signal_of a)) (word_in (signal_of b)) width g.old)) g.new) }
-{
-    check_room(g)?;
-    check_width(width)?;
-    let a = a.into_word(alloc)?;
-    let b = b.into_word(alloc)?;
-    let word = subtract(alloc, g, &a, &b, width)?;
-    Ok(Signal::Word(word))
+    match by {
+        Arithmetic::Product => Ok(multiply(alloc, g, a, b, width)?),
+        Arithmetic::Quotient => Ok(divide(alloc, g, a, b, width)?),
+        Arithmetic::Remainder => Ok(remainder(alloc, g, a, b, width)?),
+        Arithmetic::Sum => Ok(add(alloc, g, a, b, width)?),
+        Arithmetic::Difference => Ok(subtract(alloc, g, a, b, width)?),
+    }
 }
 
 /// Whether two values are the same.
