@@ -78,10 +78,7 @@ fn number_of(count: usize) -> Result<u32, OutOfMemory>
     ensures same { IfOk result (λ number. number ≡ count) }
     ensures fits { count < 2 ^ 32 → IsOk result }
 {
-    match u32::try_from(count) {
-        Ok(number) => Ok(number),
-        Err(_too_large) => Err(OutOfMemory),
-    }
+    u32::try_from(count).map_err(|_too_large| OutOfMemory)
 }
 
 /// The first rule that a cause breaks after others.
@@ -188,10 +185,7 @@ fn small(number: u64) -> Result<u32, OutOfMemory>
     ensures same { IfOk result (λ made. made ≡ number) }
     ensures fits { number < 2 ^ 32 → IsOk result }
 {
-    match u32::try_from(number) {
-        Ok(number) => Ok(number),
-        Err(_too_large) => Err(OutOfMemory),
-    }
+    u32::try_from(number).map_err(|_too_large| OutOfMemory)
 }
 
 /// The numbers of the faults with these names.

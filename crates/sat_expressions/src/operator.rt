@@ -242,6 +242,5 @@ pub fn either(g: &mut Gates, a: Lit, b: Lit) -> Result<Lit, OutOfMemory>
     ensures { IfOk result (BuildsLiteral g.old (or_gate a b g.old) g.new) }
 {
     check_room(g)?;
-    let l = g.or(a, b)?;
-    Ok(l)
+    g.or(a, b)
 }

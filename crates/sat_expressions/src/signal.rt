@@ -52,8 +52,7 @@ impl Signal {
     {
         match self {
             Signal::Bit(l) => {
-                let word = Items::from_slice(alloc, &[l])?;
-                Ok(word)
+                Items::from_slice(alloc, &[l])
             }
             Signal::Word(w) => {
                 check_narrow(&w)?;
@@ -69,13 +68,11 @@ impl Signal {
     {
         match self {
             Signal::Bit(l) => {
-                let word = Items::from_slice(alloc, &[*l])?;
-                Ok(word)
+                Items::from_slice(alloc, &[*l])
             }
             Signal::Word(w) => {
                 check_narrow(w)?;
-                let word = Items::from_slice(alloc, w.as_slice())?;
-                Ok(word)
+                Items::from_slice(alloc, w.as_slice())
             }
         }
     }
@@ -146,8 +143,7 @@ fn same_words(alloc: Global, g: &mut Gates, a: &Signal, b: &Signal) -> Result<Li
     check_room(g)?;
     let a = a.to_word(alloc)?;
     let b = b.to_word(alloc)?;
-    let l = equal(alloc, g, &a, &b)?;
-    Ok(l)
+    equal(alloc, g, &a, &b)
 }
 
 /// The first signal where the condition is true, else the second; words at that width.
@@ -217,8 +213,7 @@ fn word_at(alloc: Global, e: Signal, width: u32) -> Result<Word, OutOfMemory>
     ensures { IfOk result (λ w. w ≡ fit width (word_in (signal_of e))) }
 {
     let word = e.into_word(alloc)?;
-    let word = fitted(alloc, &word, width)?;
-    Ok(word)
+    fitted(alloc, &word, width)
 }
 
 /// Whether the word is a number from `lo` to `hi`: not less than the first, and the last not less than it.
@@ -239,8 +234,7 @@ fn is_under(alloc: Global, g: &mut Gates, w: &Word, lo: i64) -> Result<Lit, OutO
     ensures { IfOk result (BuildsLiteral g.old (less_gates w.now (number_word lo) g.old) g.new) }
 {
     let least = number_word(alloc, g, lo)?;
-    let l = is_less(alloc, g, w, &least)?;
-    Ok(l)
+    is_less(alloc, g, w, &least)
 }
 
 /// Whether a number is less than the word.
@@ -249,8 +243,7 @@ fn is_over(alloc: Global, g: &mut Gates, w: &Word, hi: i64) -> Result<Lit, OutOf
     ensures { IfOk result (BuildsLiteral g.old (less_gates (number_word hi) w.now g.old) g.new) }
 {
     let greatest = number_word(alloc, g, hi)?;
-    let l = is_less(alloc, g, &greatest, w)?;
-    Ok(l)
+    is_less(alloc, g, &greatest, w)
 }
 
 /// Whether the first word is less than the second.
@@ -262,6 +255,5 @@ pub fn is_less(alloc: Global, g: &mut Gates, a: &Word, b: &Word) -> Result<Lit, 
     check_room(g)?;
     check_narrow(a)?;
     check_narrow(b)?;
-    let l = less(alloc, g, a, b)?;
-    Ok(l)
+    less(alloc, g, a, b)
 }

@@ -45,10 +45,7 @@ pub struct GrownBranches {
 fn boxed(alloc: Global, tree: Expr<Dotted>) -> Result<Box<Expr<Dotted>>, OutOfMemory>
     ensures { IfOk result (λ made. tree_of made.value ≡ tree_of tree) }
 {
-    match Box::new(alloc, tree) {
-        Ok(made) => Ok(made),
-        Err(_refused) => Err(OutOfMemory),
-    }
+    Box::new(alloc, tree).map_err(|_refused| OutOfMemory)
 }
 
 /// The height of a node over children of this height.

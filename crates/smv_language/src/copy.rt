@@ -41,10 +41,7 @@ fn copy_boxed(alloc: Global, e: &Expr<Dotted>) -> Result<Box<Expr<Dotted>>, OutO
     ensures { IfOk result (λ made. tree_of made.value ≡ tree_of e.now) }
 {
     let made = e.copy(alloc)?;
-    match Box::new(alloc, made) {
-        Ok(boxed) => Ok(boxed),
-        Err(_refused) => Err(OutOfMemory),
-    }
+    Box::new(alloc, made).map_err(|_refused| OutOfMemory)
 }
 
 /// A list of its own with a copy of each expression.

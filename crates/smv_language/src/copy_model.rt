@@ -232,8 +232,5 @@ pub fn copy_faults(alloc: Global, faults: &[Fault]) -> Result<FaultList, OutOfMe
 pub fn boxed(alloc: Global, e: Expr<Flat>) -> Result<Box<Expr<Flat>>, OutOfMemory>
     ensures { IfOk result (λ made. made.value ≡ e) }
 {
-    match Box::new(alloc, e) {
-        Ok(made) => Ok(made),
-        Err(_refused) => Err(OutOfMemory),
-    }
+    Box::new(alloc, e).map_err(|_refused| OutOfMemory)
 }

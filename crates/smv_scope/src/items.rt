@@ -137,8 +137,5 @@ pub fn number_of(place: usize) -> Result<u32, OutOfMemory>
     ensures same { IfOk result (λ number. number ≡ place) }
     ensures fits { place < 2 ^ 32 → IsOk result }
 {
-    match u32::try_from(place) {
-        Ok(number) => Ok(number),
-        Err(_too_large) => Err(OutOfMemory),
-    }
+    u32::try_from(place).map_err(|_too_large| OutOfMemory)
 }

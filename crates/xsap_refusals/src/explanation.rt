@@ -60,8 +60,7 @@ impl Explanation {
 fn head(alloc: Global, meaning: &str, place: u64, found: &str) -> Result<String, OutOfMemory>
     ensures { IfOk result (λ head. string_bytes head ≡ head_text meaning.now place found.now) }
 {
-    let head = format!(in alloc; "means: {meaning}\nplace {place}: {found}\n")?;
-    Ok(head)
+    Ok(format!(in alloc; "means: {meaning}\nplace {place}: {found}\n")?)
 }
 
 /// The lines that show a place in a file.

@@ -205,8 +205,7 @@ impl RefusalLine {
 fn words_line(alloc: Global, number: u32, place: u64) -> Result<String, OutOfMemory>
     ensures { IfOk result (λ line. string_bytes line ≡ words_line number place) }
 {
-    let line = format!(in alloc; "refused words {number} at {place}")?;
-    Ok(line)
+    Ok(format!(in alloc; "refused words {number} at {place}")?)
 }
 
 /// The line of a refused input.
@@ -221,8 +220,7 @@ fn file_line(
 {
     let subject = subject.text();
     let part = part.text();
-    let line = format!(in alloc; "refused {subject} {part} {number} at {place}")?;
-    Ok(line)
+    Ok(format!(in alloc; "refused {subject} {part} {number} at {place}")?)
 }
 
 /// The line of a moment that is not accepted.
@@ -230,14 +228,12 @@ fn moment_line(alloc: Global, moment: u64, why: MomentReason) -> Result<String, 
     ensures { IfOk result (λ line. string_bytes line ≡ moment_line moment why) }
 {
     let why = why.text();
-    let line = format!(in alloc; "not accepted moment {moment} {why}")?;
-    Ok(line)
+    Ok(format!(in alloc; "not accepted moment {moment} {why}")?)
 }
 
 /// The line of a certificate's line that is not accepted.
 fn rule_line(alloc: Global, line: u64, rule: u32) -> Result<String, OutOfMemory>
     ensures { IfOk result (λ text. string_bytes text ≡ rule_line line rule) }
 {
-    let text = format!(in alloc; "not accepted line {line} rule {rule}")?;
-    Ok(text)
+    Ok(format!(in alloc; "not accepted line {line} rule {rule}")?)
 }
