@@ -213,6 +213,9 @@ waits_last s fs fs' f i w pushed = subst (λ xs. LastWaits (program_of s) xs f.h
 pub waits_open : (s : Scene) (f : LookUpFrame) (i : ℕ) → Waits (program_of s) (rows s) f i → IsOpen (formal_at s f.here i)
 waits_open s f i w = subst IsOpen (sym (formal_by_rows s f.here i)) w.unanswered
 
+pub waits_formal : (s : Scene) (f : LookUpFrame) (i : ℕ) → Waits (program_of s) (rows s) f i → IsFormal (program_of s) f.here i
+waits_formal s f i w = (w.waits.place, w.waits.part, w.waits.head)
+
 -- it ends
 pub ended_turn : (old new : Scene) (fs : List LookUpFrame) (f : LookUpFrame) (m : Found) → IsWaiting old (fs ++ f ∷ []) → IsOpen (formal_at old f.spot f.formal) → IsAnswer (program_of old) (rows old) f.spot f.formal m →
     IsSameButFormals old new → rows new ≡ rows_with (rows old) f.spot f.formal (known.Means m) → IsWaiting new fs

@@ -10,6 +10,7 @@ use Rattle.smv_flat_laws.specs.Items.{instances_of}
 use Rattle.smv_flat_laws.specs.Looks.{look_after}
 use Rattle.smv_flat_laws.specs.Model.{roots_of}
 use Rattle.smv_scope.specs.SceneTree.{IsFound, IsSet, program_of}
+use Rattle.smv_scope.specs.TableLookUps.{formal_at}
 use Rattle.smv_scope.specs.Steps.{is_open}
 use Rattle.smv_scope.specs.KnownFormals.{rows, rows_with, formal_of, IsHead, IsOpen, ShutAt, ShutBeyond, AreTold, IsActualTold}
 use Rattle.smv_scope.specs.declared.walk.Meaning.{Meaning}
@@ -25,6 +26,11 @@ use Rattle.smv_scope.specs.declared.formals.LookUpStop.TheVariants as stop
 -- there is such a formal
 abbrev pub IsFormal : ProgramTree → ℕ → ℕ → Type 0
 IsFormal p spot i = (at : Place) × (x : Text) × IsHead p spot i at x
+
+-- there is such a formal, and it has no answer
+pub record IsUnanswered (s : Scene) (spot i : ℕ) : Type 0 where
+  pub there : IsFormal (program_of s) spot i
+  pub no_answer : IsOpen (formal_at s spot i)
 
 -- a look-up that has come to some parts at an instance, past no formal without an answer
 pub record IsFrame (p : ProgramTree) (rs : List (List Formal)) (f : LookUpFrame) : Type 0 where

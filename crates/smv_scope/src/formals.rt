@@ -8,7 +8,7 @@ ghost use Rattle.smv_scope.specs.SceneTree.{IsScene, program_of};
 ghost use Rattle.smv_scope.specs.TableLookUps.{formal_at};
 ghost use Rattle.smv_scope.specs.Steps.{known_at, is_open as is_open_of, is_begun as is_begun_of, row_count, gone_inside};
 ghost use Rattle.smv_scope.specs.KnownFormals.{rows, formal_of, IsOpen, IsSameButFormals};
-ghost use Rattle.smv_scope.specs.WaitingLookUps.{IsFormal, IsFrame, LastWaits, IsReady, has_frame as frame_of_it, IsWaiting, IsProgress};
+ghost use Rattle.smv_scope.specs.WaitingLookUps.{IsUnanswered, IsFrame, LastWaits, IsReady, has_frame as frame_of_it, IsWaiting, IsProgress};
 ghost use Rattle.smv_scope.specs.WaitingLookUps.{IsStop, IsCircled, AreSettled, IsRowAnswered, IsTurn};
 
 use crate::names::{Formal, LookUpStep, Scene, plain_name_of, told};
@@ -93,8 +93,7 @@ impl<'a> Scene<'a> {
         formal: usize,
     ) -> Result<(), OutOfMemory>
         requires ready { IsReady self.old }
-        requires formal { IsFormal (program_of self.old) spot formal }
-        requires unanswered { IsOpen (formal_at self.old spot formal) }
+        requires unanswered { IsUnanswered self.old spot formal }
         ensures same { IsSameButFormals self.old self.new }
         ensures ready { OnOk result (IsReady self.new) }
         ensures settled { OnOk result (AreSettled (rows self.old) (rows self.new)) }
@@ -118,8 +117,7 @@ impl<'a> Scene<'a> {
     ) -> Result<(), OutOfMemory>
         requires waiting { IsWaiting self.old waiting.old.items }
         requires last { LastWaits (program_of self.old) waiting.old.items spot formal }
-        requires formal { IsFormal (program_of self.old) spot formal }
-        requires unanswered { IsOpen (formal_at self.old spot formal) }
+        requires unanswered { IsUnanswered self.old spot formal }
         requires fresh { frame_of_it waiting.old.items spot formal ≡ false }
         ensures same { IsSameButFormals self.old self.new }
         ensures waiting { OnOk result (IsWaiting self.new waiting.new.items) }
@@ -135,8 +133,7 @@ impl<'a> Scene<'a> {
     /// The look-up of a formal that has no answer, at its actual's first part.
     fn frame_of(&self, spot: usize, formal: usize) -> LookUpFrame<'a>
         requires ready { IsReady self.now }
-        requires formal { IsFormal (program_of self.now) spot formal }
-        requires unanswered { IsOpen (formal_at self.now spot formal) }
+        requires unanswered { IsUnanswered self.now spot formal }
         ensures frame { IsFrame (program_of self.now) (rows self.now) result }
         ensures spot { result.spot ≡ spot }
         ensures formal { result.formal ≡ formal }
@@ -191,8 +188,7 @@ impl<'a> Scene<'a> {
     ) -> Result<(), OutOfMemory>
         requires waiting { IsWaiting self.old waiting.old.items }
         requires last { LastWaits (program_of self.old) waiting.old.items spot formal }
-        requires formal { IsFormal (program_of self.old) spot formal }
-        requires unanswered { IsOpen (formal_at self.old spot formal) }
+        requires unanswered { IsUnanswered self.old spot formal }
         ensures same { IsSameButFormals self.old self.new }
         ensures waiting { OnOk result (IsWaiting self.new waiting.new.items) }
         ensures turn { OnOk result (IsTurn (rows self.old) (rows self.new) waiting.old.items waiting.new.items) }

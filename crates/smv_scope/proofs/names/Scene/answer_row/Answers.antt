@@ -1,19 +1,23 @@
 -- A formal of the instance.
-use Rattle.std.proofs.Common.{◌≡◌, false, ◌+◌, ◌<◌, ◌≤◌, rules, sym, subst}
+use Rattle.std.proofs.Common.{◌≡◌, true, false, ◌+◌, ◌<◌, ◌≤◌, rules, sym, subst}
 use Rattle.smv_scope.specs.TableLookUps.{formal_at}
 use Rattle.smv_scope.specs.Steps.{is_open, row_count}
 use Rattle.smv_scope.specs.WaitingLookUps.{IsFormal}
 use Rattle.smv_scope.proofs.Naming.{program_same}
-use Rattle.smv_scope.proofs.Turns.{formal_there}
+use Rattle.smv_scope.proofs.Turns.{formal_there, open_from}
 use Rattle.smv_scope.proofs.Answered.{RowTo, row_more, row_kept, row_done}
 use Rattle.smv_scope.proofs.names.Scene.answer_row.Goals as goal
 use Rattle.smv_scope.proofs.names.Scene.answer_row.Goals.{then-is_open+in_ok-answer_formal, else-is_open}
 
-pub answer_formal-requires-clause-formal : goal.answer_formal-requires-clause-formal
-answer_formal-requires-clause-formal c =
+pub answer_formal-requires-clause-unanswered : goal.answer_formal-requires-clause-unanswered
+answer_formal-requires-clause-unanswered c =
     let within : c.loop-formal.formal < row_count c.args.self.now c.args.spot = subst (λ n. c.loop-formal.formal < n) c.formal_count-formal-end.ensures c.loop-formal-test.true in
-    subst (λ p. IsFormal p c.args.spot c.loop-formal.formal) (sym (program_same c.args.self.now c.loop-formal.self c.loop-formal.invariant.same.modules))
-    (formal_there c.args.self.now c.requires c.args.spot c.loop-formal.formal within)
+    let opened : is_open (formal_at c.loop-formal.self c.args.spot c.loop-formal.formal) ≡ true = search rules in
+    record {
+      there = subst (λ p. IsFormal p c.args.spot c.loop-formal.formal) (sym (program_same c.args.self.now c.loop-formal.self c.loop-formal.invariant.same.modules))
+          (formal_there c.args.self.now c.requires c.args.spot c.loop-formal.formal within);
+      no_answer = open_from (formal_at c.loop-formal.self c.args.spot c.loop-formal.formal) opened;
+    }
 
 pub loop-formal-preserved : goal.loop-formal-preserved
 loop-formal-preserved c =

@@ -3,7 +3,7 @@ use Rattle.std.proofs.Common.{◌≡◌, [], ◌∷◌, ◌++◌, true, false, r
 use Rattle.std.proofs.lemmas.Result.{on_ok_weaker}
 use Rattle.smv_scope.specs.TableLookUps.{formal_at}
 use Rattle.smv_scope.specs.Steps.{is_open}
-use Rattle.smv_scope.proofs.Turns.{taken, taken_turn, gone_on, on_turned, waits_last, waits_open, ended_turn, ended_turned, open_from, not_open}
+use Rattle.smv_scope.proofs.Turns.{taken, taken_turn, gone_on, on_turned, waits_last, waits_formal, waits_open, ended_turn, ended_turned, open_from, not_open}
 use Rattle.smv_scope.proofs.names.Scene.take_turn.Goals as goal
 
 pub returns-then-not-is_open-clause-waiting : goal.returns-then-not-is_open-clause-waiting
@@ -38,7 +38,10 @@ wait_for-requires-clause-last c =
     waits_last c.args.self.now c.args.waiting.now.items c.push.new.self.items c.in-Waits.next c.in-Waits.formal c.in-Waits.ensures.1 pushed
 
 pub wait_for-requires-clause-unanswered : goal.wait_for-requires-clause-unanswered
-wait_for-requires-clause-unanswered c = waits_open c.args.self.now c.in-Waits.next c.in-Waits.formal c.in-Waits.ensures.1
+wait_for-requires-clause-unanswered c = record {
+  there = waits_formal c.args.self.now c.in-Waits.next c.in-Waits.formal c.in-Waits.ensures.1;
+  no_answer = waits_open c.args.self.now c.in-Waits.next c.in-Waits.formal c.in-Waits.ensures.1;
+}
 
 pub returns-in_ok-push-in-Waits-clause-turn : goal.returns-in_ok-push-in-Waits-clause-turn
 returns-in_ok-push-in-Waits-clause-turn c =

@@ -16,6 +16,6 @@ returns-then-comes_back-clause-waiting c =
 pub returns-then-comes_back-clause-turn : goal.returns-then-comes_back-clause-turn
 returns-then-comes_back-clause-turn c =
     let both : (is_begun (formal_at c.args.self.now c.args.spot c.args.formal) && has_frame c.args.waiting.now.items c.args.spot c.args.formal) ≡ true = search rules in
-    circle_turned c.args.self.now c.close_circle.new.self c.args.waiting.now.items c.args.spot c.args.formal c.requires.waiting c.requires.formal c.requires.unanswered
+    circle_turned c.args.self.now c.close_circle.new.self c.args.waiting.now.items c.args.spot c.args.formal c.requires.waiting c.requires.unanswered.there c.requires.unanswered.no_answer
     (right_true (is_begun (formal_at c.args.self.now c.args.spot c.args.formal)) (has_frame c.args.waiting.now.items c.args.spot c.args.formal) both)
     (subst (λ fs. IsCircled (rows c.args.self.now) (rows c.close_circle.new.self) fs c.args.spot c.args.formal) c.deref-then-comes_back.ensures.value c.close_circle.ensures.circle)
