@@ -12,7 +12,7 @@ use Rattle.sat_circuits.proofs.Extension.{AllBelow-more, Means-after, Means-done
 use Rattle.sat_circuits.proofs.Rows.{xor_gate-means, xor_gate-begins}
 use Rattle.sat_circuits.proofs.Turns.{Turns, Turns-end, Turns-between, Turns-here, Turns-next, Turns-stops}
 use Rattle.sat_circuits.specs.Bits.{signed_value, IsCutTo}
-use Rattle.sat_circuits.specs.Words.{word_value, fit, sign_of, zeros, IsWordOf, IsOfWidth}
+use Rattle.sat_circuits.specs.Words.{word_value, fit, sign_of, zeros, IsWordOf, IsOfWidth, IsSized}
 use Rattle.sat_circuits.specs.Sums.{subtract_gates, less_gates, negate_gates}
 use Rattle.sat_circuits.specs.Quotients.{choose_gates, negate_where_gates, magnitude_gates, divide_bit, quotient_step, long_division_gates, magnitudes_gates, divide_gates, remainder_gates}
 use Rattle.sat_circuits.proofs.Orders.{Fits}
@@ -21,12 +21,19 @@ use Rattle.sat_circuits.proofs.SumMeans.{subtract_gates-adds}
 use Rattle.sat_circuits.proofs.TestMeans.{less_gates-adds}
 use Rattle.sat_circuits.proofs.QuotientMeans.{choose_gates-means, choose_gates-adds, value_chosen, negate_where_gates-means, negate_where_gates-adds, magnitude_gates-means, magnitude_gates-adds, divide_cost, DivideShape, quotient_step-turn, quotient_step-adds, long_division_gates-means, long_division_gates-adds}
 
+pub choose_gates-sized : (c : Literal) (xs ys : List Literal) (s : Circuit) → length xs ≡ length ys → IsBelow s.free c → AllBelow s.free xs → AllBelow s.free ys
+    → Means s (choose_gates c xs ys s) (IsSized (length xs) (s.free + length xs)) (λ v w. word_value v w ≡ cond (literal_value v c) (word_value v xs) (word_value v ys))
+choose_gates-sized c xs ys s e hc hx hy =
+    Means-weaker s _ _ (IsSized (length xs) (s.free + length xs)) _ _ (choose_gates-means c xs ys s e hc hx hy)
+    (λ h. h)
+    (λ v i k. ap signed_value k ∙ value_chosen (literal_value v c) (map (literal_value v) xs) (map (literal_value v) ys))
+
 pub choose_gates-gives : (c : Literal) (xs ys : List Literal) (s : Circuit) → length xs ≡ length ys → IsBelow s.free c → AllBelow s.free xs → AllBelow s.free ys
     → Means s (choose_gates c xs ys s) (IsOfWidth (length xs)) (λ v w. word_value v w ≡ cond (literal_value v c) (word_value v xs) (word_value v ys))
 choose_gates-gives c xs ys s e hc hx hy =
-    Means-weaker s _ _ (IsOfWidth (length xs)) _ _ (choose_gates-means c xs ys s e hc hx hy)
+    Means-weaker s _ _ (IsOfWidth (length xs)) _ _ (choose_gates-sized c xs ys s e hc hx hy)
     (λ h. record { long = h.long; below = h.below })
-    (λ v i k. ap signed_value k ∙ value_chosen (literal_value v c) (map (literal_value v) xs) (map (literal_value v) ys))
+    (λ v i k. k)
 
 -- ---- the two without their signs
 

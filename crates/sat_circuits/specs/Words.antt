@@ -43,6 +43,12 @@ pub record IsSized (n limit : ℕ) (s : Circuit) (w : List Literal) : Type 0 whe
 abbrev pub GivesCut : Circuit → Circuit → List Literal → ℕ → (TotalAssignment → ℤ) → Type 0
 GivesCut old new w width z = Means old (new, w) (IsOfWidth width) (λ v x. IsCutTo width (z v) (word_value v x))
 
+-- two words of n literals each, after which `limit` is the next free variable
+pub record AreSized (n limit : ℕ) (s : Circuit) (r : List Literal × List Literal) : Type 0 where
+  pub first : IsOfWidth n s r.0
+  pub second : IsOfWidth n s r.1
+  pub free : s.free ≡ limit
+
 -- the literal of x stands after those of w
 unfoldable pub push_gate : {X : Type 0} → (X → Circuit → Circuit × Literal) → X → List Literal → Circuit → Circuit × List Literal
 push_gate gate x w s = after (gate x s) (λ l t. (t, w ++ l ∷ []))

@@ -4,7 +4,7 @@ ghost use Rattle.std.specs.Prelude.{int_div, int_rem, if◌then◌else◌};
 ghost use Rattle.sat_clauses.specs.Models.{literal_value, IsBelow};
 ghost use Rattle.sat_circuits.specs.Meaning.{AllBelow, Means, StopsWithin};
 ghost use Rattle.sat_circuits.specs.Bits.{IsCutTo};
-ghost use Rattle.sat_circuits.specs.Words.{IsOfWidth, IsSized, IsWordOf, word_value};
+ghost use Rattle.sat_circuits.specs.Words.{AreSized, IsOfWidth, IsSized, IsWordOf, word_value};
 ghost use Rattle.sat_circuits.specs.Quotients.{choose_gates, negate_where_gates, magnitude_gates, divide_bit, long_division_gates};
 ghost use Rattle.sat_circuits.specs.Quotients.{magnitudes_gates, divide_gates, remainder_gates};
 
@@ -30,9 +30,8 @@ pub fn choose(
     requires right { AllBelow g.old.free ys.now }
     requires room { g.old.free + length xs.now < 2 ^ 31 }
     ensures exact { IfOk result (λ w. choose_gates c xs.now ys.now g.old ≡ (g.new, w)) }
-    ensures value { IfOk result (λ w. Means g.old (g.new, w) (IsOfWidth (length xs.now)) (λ v u.
+    ensures value { IfOk result (λ w. Means g.old (g.new, w) (IsSized (length xs.now) (g.old.free + length xs.now)) (λ v u.
         word_value v u ≡ (if literal_value v c then word_value v xs.now else word_value v ys.now))) }
-    ensures next { OnOk result (g.new.free ≡ g.old.free + length xs.now) }
     ensures err { OnErr result (StopsWithin g.old g.new (choose_gates c xs.now ys.now g.old).0) }
 {
     let mut chosen = Items::new(alloc);
@@ -115,8 +114,8 @@ fn long_division(
     requires right { AllBelow g.old.free divisor.now }
     requires room { g.old.free + (11 * length divisor.now + 5) * length divisor.now < 2 ^ 31 }
     ensures exact { IfOk result (λ r. long_division_gates dividend divisor.now g.old ≡ (g.new, r)) }
-    ensures shape { IfOk result (λ r. IsOfWidth (length divisor.now) g.new r.0 × IsOfWidth (length divisor.now) g.new r.1) }
-    ensures next { OnOk result (g.new.free ≡ g.old.free + (11 * length divisor.now + 5) * length divisor.now) }
+    ensures shape { IfOk result (AreSized (length divisor.now)
+        (g.old.free + (11 * length divisor.now + 5) * length divisor.now) g.new) }
     ensures err { OnErr result (StopsWithin g.old g.new (long_division_gates dividend divisor.now g.old).0) }
 {
     // What a constant means is what makes the comparisons right.
@@ -162,8 +161,7 @@ fn magnitudes_divided(
     requires right { IsWordOf g.old b.now }
     requires room { g.old.free ≤ 2 ^ 31 - 20000 }
     ensures exact { IfOk result (λ r. magnitudes_gates a.now b.now width g.old ≡ (g.new, r)) }
-    ensures shape { IfOk result (λ r. IsOfWidth width g.new r.0 × IsOfWidth width g.new r.1) }
-    ensures next { OnOk result (g.new.free ≡ g.old.free + (12 * width + (11 * width + 5) * width)) }
+    ensures shape { IfOk result (AreSized width (g.old.free + (12 * width + (11 * width + 5) * width)) g.new) }
     ensures err { OnErr result (StopsWithin g.old g.new (magnitudes_gates a.now b.now width g.old).0) }
 {
     let dividend = magnitude(alloc, g, a, width)?;

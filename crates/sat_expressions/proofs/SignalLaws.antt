@@ -1,12 +1,12 @@
 -- What is built of signals, step by step.
-use Rattle.std.proofs.Common.{◌≡◌, ℕ, ◌<◌, ◌≤◌, ℤ, List, length, sym, ◌∙◌, ap, subst, arith}
+use Rattle.std.proofs.Common.{◌≡◌, ℕ, ◌+◌, ◌<◌, ◌≤◌, ℤ, List, length, sym, ◌∙◌, ap, subst, arith}
 use Rattle.sat_clauses.specs.Literal.{Literal, opposite}
 use Rattle.sat_clauses.specs.Models.{TotalAssignment, IsBelow}
 use Rattle.sat_circuits.specs.Circuit.{Circuit, after}
 use Rattle.sat_circuits.specs.Gates.{and_gate}
 use Rattle.sat_circuits.specs.Meaning.{AllBelow, Means}
 use Rattle.sat_circuits.specs.Numbers.{number_word}
-use Rattle.sat_circuits.specs.Words.{fit, IsWordOf, IsOfWidth}
+use Rattle.sat_circuits.specs.Words.{fit, IsWordOf, IsSized}
 use Rattle.sat_circuits.specs.Sums.{less_gates}
 use Rattle.sat_circuits.specs.Quotients.{choose_gates}
 use Rattle.sat_circuits.proofs.WordMeans.{length-fit, AllBelow-fit}
@@ -37,7 +37,7 @@ fitted_long n e w made = ap length made ∙ length-fit n e
 
 -- a choice between words
 pub chosen_is : (s t : Circuit) (n : ℕ) (c : Literal) (a b : Signal) (u v w : List Literal) (P : TotalAssignment → List Literal → Type 0) → u ≡ fit n (word_in a) → v ≡ fit n (word_in b) → 1 ≤ n
-    → choose_gates c u v s ≡ (t, w) → Means s (t, w) (IsOfWidth (length u)) P → BuildsSignal s (as_word (choose_gates c (fit n (word_in a)) (fit n (word_in b)) s)) t (Word w)
+    → choose_gates c u v s ≡ (t, w) → Means s (t, w) (IsSized (length u) (s.free + length u)) P → BuildsSignal s (as_word (choose_gates c (fit n (word_in a)) (fit n (word_in b)) s)) t (Word w)
 chosen_is s t n c a b u v w P first second some exact means = record {
   exact = ap (λ x. as_word (choose_gates c x (fit n (word_in b)) s)) (sym first) ∙ ap (λ x. as_word (choose_gates c u x s)) (sym second) ∙ ap as_word exact;
   usable = record { signed = omega (arith, means.shape.long, fitted_long n (word_in a) u first, some); below = means.shape.below };

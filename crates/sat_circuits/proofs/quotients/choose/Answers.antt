@@ -1,15 +1,15 @@
-use Rattle.std.proofs.Common.{◌≡◌, ◌+◌, ◌*◌, ◌∷◌, [], List, length, drop, cond, sym, ◌∙◌, ap, subst, arith}
+use Rattle.std.proofs.Common.{◌≡◌, ◌+◌, ◌*◌, ◌∷◌, [], List, length, drop, cond, subst, arith}
 use Rattle.std.specs.Prelude.{zip}
 use Rattle.sat_clauses.specs.Literal.{Literal}
 use Rattle.sat_clauses.specs.Models.{literal_value}
 use Rattle.sat_circuits.specs.Circuit.{Circuit}
 use Rattle.sat_circuits.specs.Meaning.{Means, StopsWithin}
 use Rattle.sat_circuits.proofs.Extension.{OnErr-from}
-use Rattle.sat_circuits.specs.Words.{IsOfWidth, word_value}
+use Rattle.sat_circuits.specs.Words.{IsSized, word_value}
 use Rattle.sat_circuits.specs.Quotients.{choose_gates}
 use Rattle.sat_circuits.proofs.WordMeans.{MapShape, zip-below, slice_get-zip, length-pairs, map_loop-start, map_loop-end, map_loop-between, map_loop-here, map_loop-next, map_loop-stops}
-use Rattle.sat_circuits.proofs.QuotientMeans.{Choosable, Choosable-zip, choice, chosen, choice-maps, choose_gates-means}
-use Rattle.sat_circuits.proofs.DivideMeans.{choose_gates-gives}
+use Rattle.sat_circuits.proofs.QuotientMeans.{Choosable, Choosable-zip, choice, chosen, choice-maps}
+use Rattle.sat_circuits.proofs.DivideMeans.{choose_gates-sized}
 use Rattle.sat_circuits.proofs.quotients.choose.Goals as goal
 
 pub loop-i-init : goal.loop-i-init
@@ -58,11 +58,6 @@ returns-clause-exact c = map_loop-end (choice c.args.c) 1 (Choosable c.args.c) (
 
 pub returns-clause-value : goal.returns-clause-value
 returns-clause-value c =
-    subst (λ (x : Circuit × List Literal). Means c.args.g.now x (IsOfWidth (length c.args.xs.now)) (λ v u. word_value v u ≡ cond (literal_value v c.args.c) (word_value v c.args.xs.now) (word_value v c.args.ys.now)))
+    subst (λ (x : Circuit × List Literal). Means c.args.g.now x (IsSized (length c.args.xs.now) (c.args.g.now.free + length c.args.xs.now)) (λ v u. word_value v u ≡ cond (literal_value v c.args.c) (word_value v c.args.xs.now) (word_value v c.args.ys.now)))
     (returns-clause-exact c)
-    (choose_gates-gives c.args.c c.args.xs.now c.args.ys.now c.args.g.now c.requires.same c.requires.choice c.requires.left c.requires.right)
-
-pub returns-clause-next : goal.returns-clause-next
-returns-clause-next c =
-    sym (ap (λ (x : Circuit × List Literal). x.0.free) (returns-clause-exact c))
-    ∙ (choose_gates-means c.args.c c.args.xs.now c.args.ys.now c.args.g.now c.requires.same c.requires.choice c.requires.left c.requires.right).shape.free
+    (choose_gates-sized c.args.c c.args.xs.now c.args.ys.now c.args.g.now c.requires.same c.requires.choice c.requires.left c.requires.right)

@@ -34,12 +34,12 @@ both c =
     subst (λ (k : ℕ). magnitudes_gates c.args.a.now c.args.b.now k c.args.g.now ≡ (c.magnitudes_divided.new.g, (c.in_ok-quotient.quotient, c.in_ok-quotient._rest))) width c.in_ok-quotient.ensures.exact
 
 more : (c : In_ok-quotient) → c.args.g.now.free ≤ c.magnitudes_divided.new.g.free
-more c = omega (arith, c.in_ok-quotient.ensures.next)
+more c = omega (arith, c.in_ok-quotient.ensures.shape.free)
 
 room : (c : In_ok-quotient) → c.magnitudes_divided.new.g.free + 1000 < 2147483648
 room c =
     let most : c.max.result + 1 ≤ 35 = omega (arith, c.requires.widths.2, c.requires.widths.3) in
-    omega (arith, c.in_ok-quotient.ensures.next, c.requires.room, most, mul-le-mul_left (11 * (c.max.result + 1) + 5) most)
+    omega (arith, c.in_ok-quotient.ensures.shape.free, c.requires.room, most, mul-le-mul_left (11 * (c.max.result + 1) + 5) most)
 
 pub xor-requires-clause-left : goal.xor-requires-clause-left
 xor-requires-clause-left c =
@@ -71,20 +71,20 @@ differs c =
     (subst (λ (l : Literal). xor_gate c.sign.result l c.magnitudes_divided.new.g ≡ (c.xor.new.self, c.in_ok-differ.differ)) c.sign-2.ensures c.in_ok-differ.ensures.exact)
 
 pub negated_where-requires-clause-short : goal.negated_where-requires-clause-short
-negated_where-requires-clause-short c = omega (arith, c.in_ok-quotient.ensures.shape.0.long, c.requires.widths.2, c.requires.widths.3)
+negated_where-requires-clause-short c = omega (arith, c.in_ok-quotient.ensures.shape.first.long, c.requires.widths.2, c.requires.widths.3)
 
 pub negated_where-requires-clause-choice : goal.negated_where-requires-clause-choice
 negated_where-requires-clause-choice c = c.in_ok-differ.ensures.value.shape
 
 pub negated_where-requires-clause-word : goal.negated_where-requires-clause-word
 negated_where-requires-clause-word c = record {
-  signed = omega (arith, c.in_ok-quotient.ensures.shape.0.long);
-  below = AllBelow-more c.magnitudes_divided.new.g.free c.xor.new.self.free (omega (arith, c.in_ok-differ.ensures.next)) _ c.in_ok-quotient.ensures.shape.0.below;
+  signed = omega (arith, c.in_ok-quotient.ensures.shape.first.long);
+  below = AllBelow-more c.magnitudes_divided.new.g.free c.xor.new.self.free (omega (arith, c.in_ok-differ.ensures.next)) _ c.in_ok-quotient.ensures.shape.first.below;
 }
 
 pub negated_where-requires-clause-room : goal.negated_where-requires-clause-room
 negated_where-requires-clause-room c =
-    omega (arith, room (goal.at.negated_where-requires-clause-room c).In_ok-quotient, c.in_ok-quotient.ensures.shape.0.long, c.requires.widths.2, c.requires.widths.3, c.in_ok-differ.ensures.next)
+    omega (arith, room (goal.at.negated_where-requires-clause-room c).In_ok-quotient, c.in_ok-quotient.ensures.shape.first.long, c.requires.widths.2, c.requires.widths.3, c.in_ok-differ.ensures.next)
 
 pub returns-in_err-signed-clause-err : goal.returns-in_err-signed-clause-err
 returns-in_err-signed-clause-err c =
@@ -103,7 +103,7 @@ whole c =
     divide-exact c.args.a.now c.args.b.now c.args.width c.args.g.now c.magnitudes_divided.new.g c.in_ok-quotient.quotient c.in_ok-quotient._rest parts c.xor.new.self c.in_ok-differ.differ apart c.negated_where.new.g c.in_ok-signed.signed c.in_ok-signed.ensures.exact
 
 pub fitted-requires : goal.fitted-requires
-fitted-requires c = omega (arith, c.in_ok-signed.ensures.shape.long, c.in_ok-quotient.ensures.shape.0.long)
+fitted-requires c = omega (arith, c.in_ok-signed.ensures.shape.long, c.in_ok-quotient.ensures.shape.first.long)
 
 pub returns-in_err-cut-clause-err : goal.returns-in_err-cut-clause-err
 returns-in_err-cut-clause-err c =

@@ -63,17 +63,12 @@ pub returns-clause-shape : goal.returns-clause-shape
 returns-clause-shape c =
     let last : DivideShape (length c.args.divisor.now - 2) (length c.args.dividend) (c.args.g.now.free + divide_cost (suc (suc (length c.args.divisor.now - 2))) * length c.args.dividend) c.args.divisor.now [] c.loop-i.g (c.loop-i.quotient, c.loop-i.rest) =
     Turns-last (quotient_step c.args.divisor.now) (DivideShape (length c.args.divisor.now - 2) (length c.args.dividend) (c.args.g.now.free + divide_cost (suc (suc (length c.args.divisor.now - 2))) * length c.args.dividend) c.args.divisor.now) (quotient_step-adds c.args.divisor.now) (reverse c.args.dividend) c.args.g.now _ c.loop-i.i (c.loop-i.quotient, c.loop-i.rest) c.loop-i.g c.loop-i.invariant (omega (arith, ap length c.reversed-bits.ensures))
-    in (
-      rw c.reversed-quotient.ensures
-          (record { long = length-reverse c.loop-i.quotient ∙ omega (arith, last.long, c.requires.same); below = AllBelow-reverse c.loop-i.g.free c.loop-i.quotient last.quotient }),
-      record { long = last.rest.long ∙ sym last.divisor.long; below = last.rest.below },
-    )
-
-pub returns-clause-next : goal.returns-clause-next
-returns-clause-next c =
-    let last : DivideShape (length c.args.divisor.now - 2) (length c.args.dividend) (c.args.g.now.free + divide_cost (suc (suc (length c.args.divisor.now - 2))) * length c.args.dividend) c.args.divisor.now [] c.loop-i.g (c.loop-i.quotient, c.loop-i.rest) =
-    Turns-last (quotient_step c.args.divisor.now) (DivideShape (length c.args.divisor.now - 2) (length c.args.dividend) (c.args.g.now.free + divide_cost (suc (suc (length c.args.divisor.now - 2))) * length c.args.dividend) c.args.divisor.now) (quotient_step-adds c.args.divisor.now) (reverse c.args.dividend) c.args.g.now _ c.loop-i.i (c.loop-i.quotient, c.loop-i.rest) c.loop-i.g c.loop-i.invariant (omega (arith, ap length c.reversed-bits.ensures))
     in
     let cost : divide_cost (suc (suc (length c.args.divisor.now - 2))) ≡ 11 * length c.args.divisor.now + 5 = omega (arith, c.requires.widths.0) in
     let all : divide_cost (suc (suc (length c.args.divisor.now - 2))) * length c.args.dividend ≡ (11 * length c.args.divisor.now + 5) * length c.args.divisor.now = ap (λ k. k * length c.args.dividend) cost ∙ ap (λ k. (11 * length c.args.divisor.now + 5) * k) c.requires.same in
-    omega (arith, last.room, all)
+    record {
+      first = rw c.reversed-quotient.ensures
+          (record { long = length-reverse c.loop-i.quotient ∙ omega (arith, last.long, c.requires.same); below = AllBelow-reverse c.loop-i.g.free c.loop-i.quotient last.quotient });
+      second = record { long = last.rest.long ∙ sym last.divisor.long; below = last.rest.below };
+      free = omega (arith, last.room, all);
+    }

@@ -62,9 +62,9 @@ returns-clause-exact c =
     (c.in_ok-quotient.quotient, c.in_ok-quotient.rest) c.in_ok-quotient.ensures.exact
 
 pub returns-clause-shape : goal.returns-clause-shape
-returns-clause-shape c =
-    subst (λ (k : ℕ). IsOfWidth k c.long_division.new.g c.in_ok-quotient.quotient × IsOfWidth k c.long_division.new.g c.in_ok-quotient.rest) c.in_ok-divisor.ensures.shape.long c.in_ok-quotient.ensures.shape
-
-pub returns-clause-next : goal.returns-clause-next
-returns-clause-next c =
-    omega (arith, c.in_ok-quotient.ensures.next, c.in_ok-dividend.ensures.shape.free, c.in_ok-divisor.ensures.shape.free, ap (λ k. (11 * k + 5) * k) c.in_ok-divisor.ensures.shape.long)
+returns-clause-shape c = record {
+  first = subst (λ (k : ℕ). IsOfWidth k c.long_division.new.g c.in_ok-quotient.quotient) c.in_ok-divisor.ensures.shape.long c.in_ok-quotient.ensures.shape.first;
+  second = subst (λ (k : ℕ). IsOfWidth k c.long_division.new.g c.in_ok-quotient.rest) c.in_ok-divisor.ensures.shape.long c.in_ok-quotient.ensures.shape.second;
+  free =
+      omega (arith, c.in_ok-quotient.ensures.shape.free, c.in_ok-dividend.ensures.shape.free, c.in_ok-divisor.ensures.shape.free, ap (λ k. (11 * k + 5) * k) c.in_ok-divisor.ensures.shape.long);
+}

@@ -44,5 +44,5 @@ pub returns-clause-shape : goal.returns-clause-shape
 returns-clause-shape c = record {
   long = c.in_ok-chosen.ensures.value.shape.long ∙ c.in_ok-negated.ensures.value.shape.long ∙ c.len.ensures;
   below = c.in_ok-chosen.ensures.value.shape.below;
-  free = omega (arith, c.in_ok-chosen.ensures.next, c.in_ok-negated.ensures.next, c.in_ok-negated.ensures.value.shape.long, c.len.ensures);
+  free = omega (arith, c.in_ok-chosen.ensures.value.shape.free, c.in_ok-negated.ensures.next, c.in_ok-negated.ensures.value.shape.long, c.len.ensures);
 }

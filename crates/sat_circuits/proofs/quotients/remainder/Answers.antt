@@ -33,15 +33,15 @@ both c =
     subst (λ (k : ℕ). magnitudes_gates c.args.a.now c.args.b.now k c.args.g.now ≡ (c.magnitudes_divided.new.g, (c.in_ok-_quotient._quotient, c.in_ok-_quotient.rest))) width c.in_ok-_quotient.ensures.exact
 
 more : (c : In_ok-_quotient) → c.args.g.now.free ≤ c.magnitudes_divided.new.g.free
-more c = omega (arith, c.in_ok-_quotient.ensures.next)
+more c = omega (arith, c.in_ok-_quotient.ensures.shape.free)
 
 room : (c : In_ok-_quotient) → c.magnitudes_divided.new.g.free + 1000 < 2147483648
 room c =
     let most : c.max.result + 1 ≤ 35 = omega (arith, c.requires.widths.2, c.requires.widths.3) in
-    omega (arith, c.in_ok-_quotient.ensures.next, c.requires.room, most, mul-le-mul_left (11 * (c.max.result + 1) + 5) most)
+    omega (arith, c.in_ok-_quotient.ensures.shape.free, c.requires.room, most, mul-le-mul_left (11 * (c.max.result + 1) + 5) most)
 
 pub negated_where-requires-clause-short : goal.negated_where-requires-clause-short
-negated_where-requires-clause-short c = omega (arith, c.in_ok-_quotient.ensures.shape.1.long, c.requires.widths.2, c.requires.widths.3)
+negated_where-requires-clause-short c = omega (arith, c.in_ok-_quotient.ensures.shape.second.long, c.requires.widths.2, c.requires.widths.3)
 
 pub negated_where-requires-clause-choice : goal.negated_where-requires-clause-choice
 negated_where-requires-clause-choice c =
@@ -51,11 +51,11 @@ negated_where-requires-clause-choice c =
     (AllBelow-more c.args.g.now.free c.magnitudes_divided.new.g.free wider c.args.a.now c.requires.left.below))
 
 pub negated_where-requires-clause-word : goal.negated_where-requires-clause-word
-negated_where-requires-clause-word c = record { signed = omega (arith, c.in_ok-_quotient.ensures.shape.1.long); below = c.in_ok-_quotient.ensures.shape.1.below }
+negated_where-requires-clause-word c = record { signed = omega (arith, c.in_ok-_quotient.ensures.shape.second.long); below = c.in_ok-_quotient.ensures.shape.second.below }
 
 pub negated_where-requires-clause-room : goal.negated_where-requires-clause-room
 negated_where-requires-clause-room c =
-    omega (arith, room (goal.at.negated_where-requires-clause-room c).In_ok-_quotient, c.in_ok-_quotient.ensures.shape.1.long, c.requires.widths.2, c.requires.widths.3)
+    omega (arith, room (goal.at.negated_where-requires-clause-room c).In_ok-_quotient, c.in_ok-_quotient.ensures.shape.second.long, c.requires.widths.2, c.requires.widths.3)
 
 pub returns-in_err-signed-clause-err : goal.returns-in_err-signed-clause-err
 returns-in_err-signed-clause-err c =
@@ -70,7 +70,7 @@ whole c =
     remainder-exact c.args.a.now c.args.b.now c.args.width c.args.g.now c.magnitudes_divided.new.g c.in_ok-_quotient._quotient c.in_ok-_quotient.rest parts c.negated_where.new.g c.in_ok-signed.signed (subst (λ (l : Literal). negate_where_gates l c.in_ok-_quotient.rest c.magnitudes_divided.new.g ≡ (c.negated_where.new.g, c.in_ok-signed.signed)) c.sign.ensures c.in_ok-signed.ensures.exact)
 
 pub fitted-requires : goal.fitted-requires
-fitted-requires c = omega (arith, c.in_ok-signed.ensures.shape.long, c.in_ok-_quotient.ensures.shape.1.long)
+fitted-requires c = omega (arith, c.in_ok-signed.ensures.shape.long, c.in_ok-_quotient.ensures.shape.second.long)
 
 pub returns-in_err-cut-clause-err : goal.returns-in_err-cut-clause-err
 returns-in_err-cut-clause-err c =
