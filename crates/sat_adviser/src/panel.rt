@@ -139,11 +139,7 @@ impl Panel {
             ≡ map (λ b. (⟦<dyn Adviser as Adviser>⟧ b.vtable).told b.value) self.old.advisers.items }
         ensures asks { map (λ b. (⟦<dyn Adviser as Adviser>⟧ b.vtable).asked b.value) self.new.advisers.items
             ≡ map (λ b. (⟦<dyn Adviser as Adviser>⟧ b.vtable).asked b.value) self.old.advisers.items }
-        ensures present { self.new.present ≡ self.old.present }
-        ensures last { self.new.last ≡ self.old.last }
-        ensures asked { self.new.asked ≡ self.old.asked }
-        ensures misses { self.new.misses ≡ self.old.misses }
-        ensures rotated { self.new.rotated ≡ self.old.rotated }
+        ensures same { self.new ≡ record self.old { advisers = self.new.advisers; vars = self.new.vars } }
     {
         let mut i = 0;
         while i < self.advisers.len() {
@@ -161,10 +157,8 @@ impl Panel {
         ensures nobody { length self.old.advisers.items ≤ self.old.present → result ≡ 0 }
         ensures last { self.new.last ≡ result }
         ensures asked { self.new.asked ≡ next_count self.old.asked }
-        ensures misses { self.new.misses ≡ self.old.misses }
-        ensures present { self.new.present ≡ self.old.present }
-        ensures vars { self.new.vars ≡ self.old.vars }
-        ensures rotated { self.new.rotated ≡ self.old.rotated }
+        ensures same { self.new
+            ≡ record self.old { advisers = self.new.advisers; last = self.new.last; asked = self.new.asked } }
         ensures room { map (λ b. (⟦<dyn Adviser as Adviser>⟧ b.vtable).room b.value) self.new.advisers.items
             ≡ map (λ b. (⟦<dyn Adviser as Adviser>⟧ b.vtable).room b.value) self.old.advisers.items }
         ensures told { map (λ b. (⟦<dyn Adviser as Adviser>⟧ b.vtable).told b.value) self.new.advisers.items
@@ -183,11 +177,7 @@ impl Panel {
         ensures answer { Gives (map (λ b. (⟦<dyn Adviser as Adviser>⟧ b.vtable).answer b.value) self.old.advisers.items)
             self.old.present result }
         ensures nobody { length self.old.advisers.items ≤ self.old.present → result ≡ 0 }
-        ensures misses { self.new.misses ≡ self.old.misses }
-        ensures asked { self.new.asked ≡ self.old.asked }
-        ensures present { self.new.present ≡ self.old.present }
-        ensures vars { self.new.vars ≡ self.old.vars }
-        ensures rotated { self.new.rotated ≡ self.old.rotated }
+        ensures same { self.new ≡ record self.old { advisers = self.new.advisers } }
         ensures room { map (λ b. (⟦<dyn Adviser as Adviser>⟧ b.vtable).room b.value) self.new.advisers.items
             ≡ map (λ b. (⟦<dyn Adviser as Adviser>⟧ b.vtable).room b.value) self.old.advisers.items }
         ensures told { map (λ b. (⟦<dyn Adviser as Adviser>⟧ b.vtable).told b.value) self.new.advisers.items
@@ -212,12 +202,7 @@ impl Panel {
             ≡ map (λ b. (⟦<dyn Adviser as Adviser>⟧ b.vtable).asked b.value) self.old.advisers.items }
         ensures room { map (λ b. (⟦<dyn Adviser as Adviser>⟧ b.vtable).room b.value) self.new.advisers.items
             ≡ map (λ b. (⟦<dyn Adviser as Adviser>⟧ b.vtable).room b.value) self.old.advisers.items }
-        ensures present { self.new.present ≡ self.old.present }
-        ensures last { self.new.last ≡ self.old.last }
-        ensures asked { self.new.asked ≡ self.old.asked }
-        ensures misses { self.new.misses ≡ self.old.misses }
-        ensures vars { self.new.vars ≡ self.old.vars }
-        ensures rotated { self.new.rotated ≡ self.old.rotated }
+        ensures same { self.new ≡ record self.old { advisers = self.new.advisers } }
     {
         if self.present < self.advisers.len() {
             tell(&mut self.advisers[self.present], lits);
@@ -232,12 +217,7 @@ impl Panel {
             ≡ map (λ b. (⟦<dyn Adviser as Adviser>⟧ b.vtable).asked b.value) self.old.advisers.items }
         ensures room { map (λ b. (⟦<dyn Adviser as Adviser>⟧ b.vtable).room b.value) self.new.advisers.items
             ≡ map (λ b. (⟦<dyn Adviser as Adviser>⟧ b.vtable).room b.value) self.old.advisers.items }
-        ensures present { self.new.present ≡ self.old.present }
-        ensures last { self.new.last ≡ self.old.last }
-        ensures asked { self.new.asked ≡ self.old.asked }
-        ensures misses { self.new.misses ≡ self.old.misses }
-        ensures vars { self.new.vars ≡ self.old.vars }
-        ensures rotated { self.new.rotated ≡ self.old.rotated }
+        ensures same { self.new ≡ record self.old { advisers = self.new.advisers } }
     {
         if self.present < self.advisers.len() {
             tell_news(&mut self.advisers[self.present], news);

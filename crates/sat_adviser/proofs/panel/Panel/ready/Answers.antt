@@ -1,4 +1,4 @@
-use Rattle.std.proofs.Common.{rules, ◌∙◌}
+use Rattle.std.proofs.Common.{rules, ◌∙◌, refl}
 use Rattle.std.proofs.lemmas.Result.{err_from_is_err_and}
 use Rattle.sat_adviser.proofs.PanelLemmas.{counts_same, next_mapped, map_mapped, some_ready}
 use Rattle.sat_adviser.proofs.panel.Panel.ready.Goals as goal
@@ -26,12 +26,7 @@ loop-i-preserved g c = record {
       c.index_mut.ensures.value c.ready.ensures.told ∙ c.loop-i.invariant.told;
   asks = counts_same _ c.loop-i.self.advisers.items c.loop-i.i c.index_mut.result.now c.ready.new.adviser
       c.index_mut.ensures.value c.ready.ensures.asked ∙ c.loop-i.invariant.asks;
-  present = c.loop-i.invariant.present;
-  last = c.loop-i.invariant.last;
-  asked = c.loop-i.invariant.asked;
-  misses = c.loop-i.invariant.misses;
-  rotated = c.loop-i.invariant.rotated;
-  same_vars = c.loop-i.invariant.same_vars;
+  same = rw c.loop-i.invariant.same refl;
   room = next_mapped _ _ c.loop-i.self.advisers.items _ c.loop-i.i c.index_mut.result.now c.ready.new.adviser
       (search rules) c.index_mut.ensures.value c.in_ok-ready.ensures.room c.loop-i.invariant.room;
 }

@@ -9,12 +9,7 @@ invariant-loop-i g l = record {
       ≡ map (λ b. (goal.Adviser-dyn g (b.vtable, b.value)).told b.value) l.initial.self.advisers.items;
   asks : map (λ b. (goal.Adviser-dyn g (b.vtable, b.value)).asked b.value) l.self.advisers.items
       ≡ map (λ b. (goal.Adviser-dyn g (b.vtable, b.value)).asked b.value) l.initial.self.advisers.items;
-  present : l.self.present ≡ l.initial.self.present;
-  last : l.self.last ≡ l.initial.self.last;
-  asked : l.self.asked ≡ l.initial.self.asked;
-  misses : l.self.misses ≡ l.initial.self.misses;
-  rotated : l.self.rotated ≡ l.initial.self.rotated;
-  same_vars : l.self.vars ≡ l.initial.self.vars;
+  same : l.self ≡ record l.initial.self { advisers = l.self.advisers };
   room : map (λ b. (goal.Adviser-dyn g (b.vtable, b.value)).room b.value) l.self.advisers.items
       ≡ first_mapped (option_map (λ _. l.vars)) l.i (map (λ b. (goal.Adviser-dyn g (b.vtable, b.value)).room b.value) l.initial.self.advisers.items);
 }
