@@ -20,7 +20,7 @@ use crate::build::{
 use crate::cause::Cause;
 use crate::names::numbered;
 use crate::staging::{in_window, stands};
-use base_values::{Dotted, FaultSet, OutOfMemory};
+use base_values::{FaultSet, OutOfMemory};
 use smv_language::model::{Fault, FaultList, Flat, FlatModel, Formula};
 use smv_language::{Expr, Op};
 use smv_scope::items::number_of;
@@ -45,29 +45,31 @@ pub(crate) fn add_own_events(
 {
     for (i, fault) in faults.iter().enumerate() {
         let number = number_of(i + 1)?;
-        let event = add_own_event(alloc, made, faults, causes, ages, &fault.name, number)?;
-        events.push(event)?;
+        let event = add_own_event(alloc, made, faults, causes, ages, number)?;
+        events.push(Fault {
+            name: fault.name.copy()?,
+            variable: event.own,
+            symbol: event.itself,
+        })?;
     }
     Ok(())
 }
 
-/// Adds the event of the fault of a number, which is told with this name.
+/// Adds the event of the fault of a number.
 fn add_own_event(
     alloc: Global,
     made: &mut FlatModel,
     faults: &[Fault],
     causes: &[Cause],
     ages: &[u32],
-    name: &Dotted,
     number: u32,
-) -> Result<Fault, OutOfMemory>
+) -> Result<MarkedFault, OutOfMemory>
     requires number { (0 < number) × (number ≤ length faults.now) }
     requires ages { length ages.now ≡ length causes.now }
     ensures model { OnOk result (model_tree made.new
         ≡ own_with (map mode_of faults.now) (map cause_of causes.now) ages.now number (model_tree made.old)) }
-    ensures event { IfOk result (λ f. mode_of f
-        ≡ record { variable = length (model_tree made.old).variables; symbol = suc (length (model_tree made.old).symbols) }) }
-    ensures name { IfOk result (λ f. name_of_fault f ≡ name.now) }
+    ensures own { IfOk result (λ event. event.own ≡ length (model_tree made.old).variables) }
+    ensures itself { IfOk result (λ event. event.itself ≡ suc (length (model_tree made.old).symbols)) }
 {
     let own = number_of(made.variables.len())?;
     let none = number_of(made.symbols.len())?;
@@ -87,11 +89,7 @@ fn add_own_event(
         .push(own_at_first(alloc, faults, causes, ages, number, mark)?)?;
     made.trans
         .push(own_at_step(alloc, faults, causes, ages, number, mark)?)?;
-    Ok(Fault {
-        name: name.copy()?,
-        variable: own,
-        symbol: itself,
-    })
+    Ok(mark)
 }
 
 /// A fault's event: the number of its variable, and those of the symbols that say that the fault does not begin by itself

@@ -154,7 +154,11 @@ fn add_hits(
         ≡ with_hits (map mode_of faults.now) (cause_of cause.now) age 1 strikes.now (model_tree made.old)) }
 {
     for (k, strike) in strikes.iter().enumerate() {
-        add_hit(alloc, made, faults, cause, age, k + 1, *strike)?;
+        let strike = Strike {
+            number: k + 1,
+            fault: *strike,
+        };
+        add_hit(alloc, made, faults, cause, age, strike)?;
     }
     Ok(())
 }
@@ -237,28 +241,33 @@ fn event_at_each(
     within(alloc, event, choice(alloc, is_one, happens, rests)?)
 }
 
-/// Adds the hit of a fault, which is the cause's strike of a number.
+/// A strike of a cause: its number among the cause's, from 1 on, and that of the fault that it strikes.
+#[derive(Clone, Copy)]
+struct Strike {
+    number: usize,
+    fault: u32,
+}
+
+/// Adds the hit of a strike of a cause.
 fn add_hit(
     alloc: Global,
     made: &mut FlatModel,
     faults: &[Fault],
     cause: &Cause,
     age: u32,
-    number: usize,
-    fault: u32,
+    strike: Strike,
 ) -> Result<(), OutOfMemory>
-    requires { (0 < fault) × (fault ≤ length faults.now) }
+    requires { (0 < strike.fault) × (strike.fault ≤ length faults.now) }
     ensures { OnOk result (model_tree made.new
-        ≡ hit_of (map mode_of faults.now) (cause_of cause.now) age number fault (model_tree made.old)) }
+        ≡ hit_of (map mode_of faults.now) (cause_of cause.now) age strike.number strike.fault (model_tree made.old)) }
 {
     let hit = number_of(made.variables.len())?;
-    let name = numbered(alloc, cause.name.text(), b"#hit#", number)?;
+    let name = numbered(alloc, cause.name.text(), b"#hit#", strike.number)?;
     made.variables.push(state(alloc, name, Declared::Boolean)?)?;
-    made.init
-        .push(hit_at_first(alloc, faults, cause, hit, age, fault)?)?;
+    made.init.push(hit_at_first(alloc, faults, cause, hit, age, strike.fault)?)?;
     made.invar.push(landed_at_each(alloc, cause, hit, age)?)?;
     made.trans
-        .push(hit_at_step(alloc, faults, cause, hit, age, fault)?)
+        .push(hit_at_step(alloc, faults, cause, hit, age, strike.fault)?)
 }
 
 /// That a hit is TRUE at first where the fault stands in the window.
