@@ -1,5 +1,5 @@
 -- What a contract sees of the clauses of a search that is kept, and what it can be asked.
-use Rattle.std.specs.Prelude.{ℕ, Bool, List, All}
+use Rattle.std.specs.Prelude.{◌≡◌, ◌+◌, ◌^◌, ◌<◌, ℕ, Bool, List, All}
 use Rattle.sat_clauses.specs.Literal.{Literal}
 use Rattle.sat_clauses.specs.Derivation.{IsUpTo}
 use Rattle.sat_clauses.specs.Hints.{HasNoOpposites}
@@ -15,3 +15,8 @@ pub record KeptValue : Type 0 where
 pub record CanAssume (vars : ℕ) (assumptions : List Literal) : Type 0 where
   pub in_range : All (IsUpTo vars) assumptions
   pub apart : HasNoOpposites assumptions
+
+-- the variable that comes after those up to `vars`: each is below 2^62
+pub record IsNextVariable (vars var : ℕ) : Type 0 where
+  pub next : var ≡ vars + 1
+  pub small : var < 2 ^ 62

@@ -1,5 +1,5 @@
 -- What a search keeps, and what it answers.
-use Rattle.std.specs.Prelude.{◌<◌, ◌^◌, ◌≡◌, ◌+◌, ℕ, true, List, [], ◌∷◌, ◌++◌, All, Any, Contains, Option, Some, reverse, take, length}
+use Rattle.std.specs.Prelude.{◌<◌, ◌≤◌, ◌^◌, ◌≡◌, ◌+◌, ℕ, true, List, [], ◌∷◌, ◌++◌, All, Any, Contains, Option, Some, reverse, take, length}
 use Rattle.std.specs.Option.{option_map}
 use Rattle.sat_clauses.specs.Literal.{Literal, opposite}
 use Rattle.sat_clauses.specs.Assignment.{Assignment, IsInRange, value_of}
@@ -83,3 +83,9 @@ pub record Extends (vars : ℕ) (old new : List (List Literal)) : Type 0 where
   pub steps : List Step
   pub are_steps : AreSteps vars old steps
   pub clauses : new ≡ with_steps old steps
+
+-- what a search leaves of the panel that advised it: it is ready for the same variables, and was turned to its next adviser at most
+-- 64 times
+pub record HasAdvised (vars_old rotated_old vars_new rotated_new : ℕ) : Type 0 where
+  pub ready : vars_new ≡ vars_old
+  pub restarts : rotated_new ≤ rotated_old + 64

@@ -23,6 +23,11 @@ pub record Keeps (old new : StoreValue) : Type 0 where
   pub vars : new.vars ≡ old.vars
   pub extends : Extends old.vars old.clauses new.clauses
 
+-- over the same variables the clauses have grown by steps that were kept
+pub record HasGrown (old new : StoreValue) (kept_old kept_new : Option (List Step)) : Type 0 where
+  pub vars : new.vars ≡ old.vars
+  pub grows : Grows old.vars old.clauses kept_old new.clauses kept_new
+
 -- the clauses have grown by steps that were kept, and the search is running with this trail
 pub record GoesOn (assumptions : List Literal) (old new : StoreValue) (kept_old kept_new : Option (List Step)) (t : TrailValue) : Type 0
   where

@@ -10,10 +10,9 @@ ghost use Rattle.std.specs.Prelude.{IfSome, Some, OnOk, OnErr, IsErr};
 ghost use Rattle.sat_solver.specs.declared.solve.Verdict.TheVariants.{Unsat};
 ghost use Rattle.sat_clauses.specs.Models.{FollowsFrom};
 ghost use Rattle.sat_clauses.specs.Derivation.{IsUpTo};
-ghost use Rattle.sat_clauses.specs.Hints.{HasNoOpposites};
-ghost use Rattle.sat_solver.specs.KeptRecord.{CanAssume};
+ghost use Rattle.sat_solver.specs.KeptRecord.{CanAssume, IsNextVariable};
 ghost use Rattle.sat_solver.specs.LearnedClauses.{added_of, HasLearned, IsAnswer};
-ghost use Rattle.sat_solver.specs.Search.{CanSolve};
+ghost use Rattle.sat_solver.specs.Search.{CanSolve, HasAdvised};
 ghost use Rattle.sat_solver.specs.Trail.{IsIdle};
 ghost use Rattle.sat_solver.specs.Proposals.{IsAnswered};
 
@@ -131,8 +130,7 @@ impl Kept {
 
     /// Raises the highest variable by one, and answers it.
     fn fresh(&mut self, panel: &mut Panel) -> Result<u64, OutOfMemory>
-        ensures var { IfOk result (λ var. var ≡ self.old.vars + 1) }
-        ensures small { IfOk result (λ var. var < 2 ^ 62) }
+        ensures var { IfOk result (IsNextVariable self.old.vars) }
         ensures ready { IfOk result (λ var. panel.new.vars ≡ var) }
         ensures rotated { panel.new.rotated ≡ panel.old.rotated }
         ensures ok { IfOk result (λ _. self.new ≡ record self.old { vars = self.old.vars + 1 }) }
@@ -216,8 +214,7 @@ impl Kept {
         ensures learned { IfOk result (λ _. HasLearned self.old.vars self.old.clauses self.old.marks
             (R.kept recorder.old) self.new.clauses self.new.marks (R.kept recorder.new)) }
         ensures vars { IfOk result (λ _. self.new.vars ≡ self.old.vars) }
-        ensures ready { panel.new.vars ≡ panel.old.vars }
-        ensures restarts { panel.new.rotated ≤ panel.old.rotated + 64 }
+        ensures advised { HasAdvised panel.old.vars panel.old.rotated panel.new.vars panel.new.rotated }
         ensures failed { self.old.failed ≡ true → IsErr result }
         ensures fails { OnErr result (self.new.failed ≡ true) }
     {
@@ -259,8 +256,7 @@ impl Kept {
         ensures learned { IfOk result (λ _. HasLearned self.old.vars self.old.clauses self.old.marks
             (R.kept recorder.old) self.new.clauses self.new.marks (R.kept recorder.new)) }
         ensures vars { IfOk result (λ _. self.new.vars ≡ self.old.vars) }
-        ensures ready { panel.new.vars ≡ panel.old.vars }
-        ensures restarts { panel.new.rotated ≤ panel.old.rotated + 64 }
+        ensures advised { HasAdvised panel.old.vars panel.old.rotated panel.new.vars panel.new.rotated }
         ensures failed { self.old.failed ≡ true → IsErr result }
         ensures fails { OnErr result (self.new.failed ≡ true) }
     {
@@ -301,8 +297,7 @@ fn answered<R: Recorder>(
     requires idle { IsIdle store.old.vars trail.old }
     ensures answered { IfOk result (IsAnswered question.entry.cores question.entry.assumptions.now
         (added_of store.old.clauses proposer.entry.marks.now) store.old store.new (R.kept recorder.old) (R.kept recorder.new) trail.new) }
-    ensures ready { panel.new.vars ≡ panel.old.vars }
-    ensures restarts { panel.new.rotated ≤ panel.old.rotated + 64 }
+    ensures advised { HasAdvised panel.old.vars panel.old.rotated panel.new.vars panel.new.rotated }
 {
     let told = proposed(proposer, store, question, panel, recorder)?;
     if let Some(verdict) = told {
@@ -431,8 +426,7 @@ impl<R: Recorder + Drop> Search<R> {
 
     /// Raises the highest variable by one, and answers it.
     pub fn fresh(&mut self, panel: &mut Panel) -> Result<u64, OutOfMemory>
-        ensures var { IfOk result (λ var. var ≡ self.old.kept.vars + 1) }
-        ensures small { IfOk result (λ var. var < 2 ^ 62) }
+        ensures var { IfOk result (IsNextVariable self.old.kept.vars) }
         ensures ready { IfOk result (λ var. panel.new.vars ≡ var) }
         ensures rotated { panel.new.rotated ≡ panel.old.rotated }
         ensures ok { IfOk result (λ _. self.new.kept ≡ record self.old.kept { vars = self.old.kept.vars + 1 }) }
@@ -459,16 +453,14 @@ impl<R: Recorder + Drop> Search<R> {
 
     /// Asks for an assignment that makes all added clauses and the assumptions true.
     pub fn ask(&mut self, assumptions: &[Lit], panel: &mut Panel) -> Result<Verdict, OutOfMemory>
-        requires in_range { All (IsUpTo self.old.kept.vars) assumptions.now }
-        requires apart { HasNoOpposites assumptions.now }
+        requires can_assume { CanAssume self.old.kept.vars assumptions.now }
         ensures answer { IfOk result (λ verdict. IsAnswer self.old.cores self.old.kept.vars
             (added_of self.old.kept.clauses self.old.kept.marks) self.new.kept.clauses assumptions.now verdict) }
         ensures learned { IfOk result (λ _. HasLearned self.old.kept.vars self.old.kept.clauses self.old.kept.marks
             (R.kept self.old.recorder) self.new.kept.clauses self.new.kept.marks (R.kept self.new.recorder)) }
         ensures vars { IfOk result (λ _. self.new.kept.vars ≡ self.old.kept.vars) }
         ensures cores { self.new.cores ≡ self.old.cores }
-        ensures ready { panel.new.vars ≡ panel.old.vars }
-        ensures restarts { panel.new.rotated ≤ panel.old.rotated + 64 }
+        ensures advised { HasAdvised panel.old.vars panel.old.rotated panel.new.vars panel.new.rotated }
         ensures failed { self.old.kept.failed ≡ true → IsErr result }
         ensures fails { OnErr result (self.new.kept.failed ≡ true) }
     {
@@ -489,16 +481,14 @@ impl<R: Recorder + Drop> Search<R> {
         assumptions: &[Lit],
         panel: &mut Panel,
     ) -> Result<Option<Clause>, OutOfMemory>
-        requires in_range { All (IsUpTo self.old.kept.vars) assumptions.now }
-        requires apart { HasNoOpposites assumptions.now }
+        requires can_assume { CanAssume self.old.kept.vars assumptions.now }
         ensures answer { IfOk result (λ r. IfSome r (λ core. IsAnswer self.old.cores self.old.kept.vars
             (added_of self.old.kept.clauses self.old.kept.marks) self.new.kept.clauses assumptions.now (Unsat core))) }
         ensures learned { IfOk result (λ _. HasLearned self.old.kept.vars self.old.kept.clauses self.old.kept.marks
             (R.kept self.old.recorder) self.new.kept.clauses self.new.kept.marks (R.kept self.new.recorder)) }
         ensures vars { IfOk result (λ _. self.new.kept.vars ≡ self.old.kept.vars) }
         ensures cores { self.new.cores ≡ self.old.cores }
-        ensures ready { panel.new.vars ≡ panel.old.vars }
-        ensures restarts { panel.new.rotated ≤ panel.old.rotated + 64 }
+        ensures advised { HasAdvised panel.old.vars panel.old.rotated panel.new.vars panel.new.rotated }
         ensures failed { self.old.kept.failed ≡ true → IsErr result }
         ensures fails { OnErr result (self.new.kept.failed ≡ true) }
     {

@@ -14,10 +14,10 @@ ghost use Rattle.sat_clauses.specs.Assignment.{IsInRange, value_of};
 ghost use Rattle.sat_clauses.specs.Derivation.{IsUpTo};
 ghost use Rattle.sat_clauses.specs.Hints.{truth_at};
 ghost use Rattle.sat_solver.specs.Trail.{IsLawful, IsIdle};
-ghost use Rattle.sat_solver.specs.Search.{Extends, CanSolve, HasKept, IsReason, Grows};
+ghost use Rattle.sat_solver.specs.Search.{Extends, CanSolve, HasAdvised, HasKept, IsReason};
 ghost use Rattle.sat_solver.specs.ClauseFindings.{IsUseful};
 ghost use Rattle.sat_solver.specs.LearnedClauses.{IsFound};
-ghost use Rattle.sat_solver.specs.SearchSteps.{IsRunning, Keeps, GoesOn};
+ghost use Rattle.sat_solver.specs.SearchSteps.{IsRunning, Keeps, HasGrown, GoesOn};
 ghost use Rattle.sat_solver.specs.Verdict.{IsAmong, IsAt, IsCore, IsFurther, IsLesson, IsAdvance, IsVerdict};
 
 use crate::analysis::analyse;
@@ -102,14 +102,11 @@ pub fn solve_in<S: Store, R: Recorder>(
     requires empty { (S.held store.old).trail ≡ [] }
     ensures verdict { IfOk result (λ verdict. IsVerdict (S.held store.old).vars
         (S.held store.old).clauses assumptions.now (R.kept recorder.old) (R.kept recorder.new) verdict) }
-    ensures grows { IfOk result (λ _. Grows (S.held store.old).vars (S.held store.old).clauses
-        (R.kept recorder.old) (S.held store.new).clauses (R.kept recorder.new)) }
+    ensures grows { IfOk result (λ _. HasGrown (S.held store.old) (S.held store.new) (R.kept recorder.old) (R.kept recorder.new)) }
     ensures err { OnErr result (Extends (S.held store.old).vars (S.held store.old).clauses (S.held store.new).clauses) }
     ensures listed { IfOk result (IsAmong (S.held store.new).clauses) }
-    ensures vars { IfOk result (λ _. (S.held store.new).vars ≡ (S.held store.old).vars) }
     ensures trail { (S.held store.new).trail ≡ [] }
-    ensures ready { panel.new.vars ≡ panel.old.vars }
-    ensures restarts { panel.new.rotated ≤ panel.old.rotated + 64 }
+    ensures advised { HasAdvised panel.old.vars panel.old.rotated panel.new.vars panel.new.rotated }
 {
     let mut trail = Trail::with_vars(alloc, store.vars())?;
     let question = SearchQuestion {
@@ -138,8 +135,7 @@ pub(crate) fn solve_on<S: Store, R: Recorder>(
     ensures err { OnErr result (Extends (S.held store.old).vars (S.held store.old).clauses (S.held store.new).clauses) }
     ensures vars { IfOk result (λ _. (S.held store.new).vars ≡ (S.held store.old).vars) }
     ensures trail { (S.held store.new).trail ≡ [] }
-    ensures ready { panel.new.vars ≡ panel.old.vars }
-    ensures restarts { panel.new.rotated ≤ panel.old.rotated + 64 }
+    ensures advised { HasAdvised panel.old.vars panel.old.rotated panel.new.vars panel.new.rotated }
 {
     let answer = search(trail, store, question, panel, recorder);
     store.undo(0);
@@ -160,8 +156,7 @@ fn search<S: Store, R: Recorder>(
         (S.held store.old).clauses (S.held store.new).clauses (R.kept recorder.old) (R.kept recorder.new) trail.new) }
     ensures err { OnErr result (Extends (S.held store.old).vars (S.held store.old).clauses (S.held store.new).clauses) }
     ensures vars { IfOk result (λ _. (S.held store.new).vars ≡ (S.held store.old).vars) }
-    ensures ready { panel.new.vars ≡ panel.old.vars }
-    ensures restarts { panel.new.rotated ≤ panel.old.rotated + 64 }
+    ensures advised { HasAdvised panel.old.vars panel.old.rotated panel.new.vars panel.new.rotated }
 {
     let mut restarts = MOST_RESTARTS;
     let mut limit = len(store).saturating_add(LESSONS);

@@ -1,4 +1,5 @@
+use Rattle.std.proofs.Common.{rules}
 use Rattle.test_search.proofs.searches.ask.Goals as goal
 
-pub ask-requires-clause-apart : goal.ask-requires-clause-apart
-ask-requires-clause-apart g c = c.has_no_opposites.ensures.0 c.if-not-has_no_opposites.false
+pub ask-requires-clause-can_assume : goal.ask-requires-clause-can_assume
+ask-requires-clause-can_assume g c = record { in_range = search rules; apart = c.has_no_opposites.ensures.0 c.if-not-has_no_opposites.false }
