@@ -3,7 +3,7 @@ use Rattle.std.specs.Prelude.{◌≡◌, false, ℕ, ◌-◌, List, IsTrue, All,
 use Rattle.sat_clauses.specs.Literal.{Literal, opposite}
 use Rattle.sat_clauses.specs.Models.{TotalAssignment, literal_value}
 use Rattle.sat_clauses.specs.declared.system.System.{System}
-use Rattle.cut_frames.specs.Chain.{State, state_values, IsBad}
+use Rattle.cut_frames.specs.Chain.{State, state_values, IsBad, IsOverBits}
 use Rattle.cut_frames.specs.FrameLists.{InNumber}
 use Rattle.cut_frames.specs.Path.{state_in}
 use Rattle.cut_frames.specs.declared.clear.Look.{Look}
@@ -12,6 +12,11 @@ use Rattle.cut_frames.specs.declared.clear.Look.TheVariants.{Deeper}
 -- the literal is a variable, not turned round
 abbrev pub IsPlain : Literal → Type 0
 IsPlain l = l.negated ≡ false
+
+-- literals of which as few as can be are to be true at a bad state: state bits, none of them turned round
+pub record IsHistory (system : System) (history : List Literal) : Type 0 where
+  pub over_bits : IsOverBits system history
+  pub positive : All IsPlain history
 
 -- each of the literals that the first values make true is true under the second ones
 abbrev pub IsWithin : List Literal → TotalAssignment → TotalAssignment → Type 0

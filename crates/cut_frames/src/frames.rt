@@ -5,14 +5,14 @@
 //! reachability, with the work done in [`crate::clear`] and [`crate::advance`]; [`Frames::begin_again`] goes back
 //! to the frontier 0 for other bad states. Once memory was wanted the frames are spent, and each later call answers
 //! want of memory.
-ghost use Rattle.std.specs.Prelude.{◌≡◌, ◌↔◌, IsTrue, ◌+◌, ◌∷◌, ◌++◌, [], IfOk, OnOk, OnErr, IsErr, All, true, false};
+ghost use Rattle.std.specs.Prelude.{◌≡◌, ◌↔◌, IsTrue, ◌+◌, ◌∷◌, ◌++◌, [], IfOk, OnOk, All, false};
 ghost use Rattle.cut_frames.specs.Chain.{IsOverBits};
 ghost use Rattle.cut_frames.specs.Condition.{IsOverNow, IsFit};
 ghost use Rattle.cut_frames.specs.FrameLists.{AreStronger, ArePushed};
 ghost use Rattle.cut_frames.specs.ClearLooks.{IsCleared};
-ghost use Rattle.cut_frames.specs.Minimal.{IsPlain};
+ghost use Rattle.cut_frames.specs.Minimal.{IsHistory};
 ghost use Rattle.cut_frames.specs.Advance.{IsAdvanced};
-ghost use Rattle.cut_frames.specs.FramesRecord.{frontier};
+ghost use Rattle.cut_frames.specs.FramesRecord.{frontier, StaysSpent};
 ghost use Rattle.cut_frames.specs.FramesByNumber.{AreNumbered};
 
 use crate::advance::{Advanced, advance_frames};
@@ -127,8 +127,7 @@ impl Frames {
         ensures frames { self.new.frames ≡ self.old.frames }
         ensures numbered { AreNumbered self.new.system self.new.frames }
         ensures bad { OnOk result (self.new.bad ≡ bad) }
-        ensures spent { self.old.spent ≡ true → IsErr result }
-        ensures spends { OnErr result (self.new.spent ≡ true) }
+        ensures spent { StaysSpent self.old.spent self.new.spent result }
     {
         if self.spent {
             return Err(OutOfMemory);
@@ -154,8 +153,7 @@ impl Frames {
         ensures frames { self.new.frames ≡ self.old.frames }
         ensures numbered { AreNumbered self.new.system self.new.frames }
         ensures bad { OnOk result (self.new.bad ≡ self.old.bad ++ clause ∷ []) }
-        ensures spent { self.old.spent ≡ true → IsErr result }
-        ensures spends { OnErr result (self.new.spent ≡ true) }
+        ensures spent { StaysSpent self.old.spent self.new.spent result }
     {
         if self.spent {
             return Err(OutOfMemory);
@@ -175,16 +173,14 @@ impl Frames {
     /// Returns a path from a first state into a bad one, or that no state of the frontier's frame is bad. A bad state is taken that makes
     /// as few of these literals true as any bad state of that frame that makes no other of them true.
     pub fn clear(&mut self, history: &[Lit], panel: &mut Panel) -> Result<Cleared, OutOfMemory>
-        requires history { IsOverBits self.old.system history.now }
-        requires positive { All IsPlain history.now }
+        requires history { IsHistory self.old.system history.now }
         ensures system { self.new.system ≡ self.old.system }
         ensures frontier { frontier self.new ≡ frontier self.old }
         ensures numbered { AreNumbered self.new.system self.new.frames }
         ensures stronger { AreStronger self.old.system self.old.frames self.new.frames }
         ensures bad { self.new.bad ≡ self.old.bad }
         ensures cleared { IfOk result (λ answer. IsCleared self.old.system self.old.bad self.new.frames answer) }
-        ensures spent { self.old.spent ≡ true → IsErr result }
-        ensures spends { OnErr result (self.new.spent ≡ true) }
+        ensures spent { StaysSpent self.old.spent self.new.spent result }
     {
         if self.spent {
             return Err(OutOfMemory);
@@ -220,8 +216,7 @@ impl Frames {
         ensures bad { self.new.bad ≡ self.old.bad }
         ensures pushed { OnOk result (ArePushed self.old.system self.new.frames) }
         ensures advanced { IfOk result (λ answer. IsAdvanced self.old.system self.old.frames self.new.frames answer) }
-        ensures spent { self.old.spent ≡ true → IsErr result }
-        ensures spends { OnErr result (self.new.spent ≡ true) }
+        ensures spent { StaysSpent self.old.spent self.new.spent result }
     {
         if self.spent {
             return Err(OutOfMemory);
@@ -250,8 +245,7 @@ impl Frames {
         ensures frontier { OnOk result (frontier self.new ≡ 0) }
         ensures numbered { AreNumbered self.new.system self.new.frames }
         ensures empty { OnOk result (self.new.frames ≡ [] ∷ []) }
-        ensures spent { self.old.spent ≡ true → IsErr result }
-        ensures spends { OnErr result (self.new.spent ≡ true) }
+        ensures spent { StaysSpent self.old.spent self.new.spent result }
     {
         if self.spent {
             return Err(OutOfMemory);

@@ -28,8 +28,8 @@ pub clear_noting-answer-requires-clause-problem : goal.clear_noting-answer-requi
 clear_noting-answer-requires-clause-problem g c = record {
   fit = c.self.invariant.fit;
   bad = c.self.invariant.bad c.if-self.false;
-  history = subst (λ (v : FramesValue). IsOverBits v.system c.args.history.now) (sym c.self.view_is) c.requires.history;
-  positive = c.requires.positive;
+  history = subst (λ (v : FramesValue). IsOverBits v.system c.args.history.now) (sym c.self.view_is) c.requires.history.over_bits;
+  positive = c.requires.history.positive;
 }
 
 when_ok : {T E P : Type 0} (r : Result T E) → is_err r ≡ false → IfOk r (λ x. P) → P
