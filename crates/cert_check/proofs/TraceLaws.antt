@@ -13,7 +13,7 @@ use Rattle.base_values.specs.declared.value.Value.TheVariants.{Bool as ABool, Nu
 use Rattle.smv_language.specs.Flat.{FlatVariable, FlatModel}
 use Rattle.smv_flat_laws.specs.FlatTrace.{AreInDomains}
 use Rattle.cut_text_laws.specs.Lines.{Line, fed}
-use Rattle.smv_evaluation.specs.EvaluableModels.{IsPlaceOf, IsNumbered, IsLawful}
+use Rattle.smv_evaluation.specs.EvaluableModels.{IsPlaceOf, IsNumbered, IsLawful, CanBeReplayed}
 use Rattle.smv_language.specs.NumberedValues.{told_value, told_moment, told_trace}
 use Rattle.cut_text_laws.specs.TraceOfText.{IsPrintable, GivesMoments, GivesTrace, BytesGive}
 use Rattle.std.specs.List.{AllByRecursion}
@@ -25,7 +25,7 @@ use Rattle.cut_report.specs.Faults.{IsFaultOf}
 use Rattle.cut_report.specs.declared.fault.TraceFault.{TraceFault}
 use Rattle.cut_report.specs.declared.fault.TraceFault.TheVariants as fault
 use Rattle.cert_check.specs.Fit.{IsShortText}
-use Rattle.cert_check.specs.Moments.{CanBeReplayed, IsTextFault}
+use Rattle.cert_check.specs.Moments.{IsTextFault}
 use Rattle.smv_language.specs.Texts.{text_or_none}
 
 -- The empty text is no value of a type that can be written.

@@ -1,24 +1,14 @@
 -- What is found of a trace that a text gives.
-use Rattle.std.specs.Prelude.{◌&&◌, ℕ, ◌<◌, ◌^◌, Bool, true, not, List, [], ◌∷◌, suc, Option, Some, None, if◌then◌else◌, length}
+use Rattle.std.specs.Prelude.{◌&&◌, ℕ, Bool, true, not, List, [], ◌∷◌, suc, Option, Some, None, if◌then◌else◌}
 use Rattle.smv_language.specs.Values.{Value}
-use Rattle.smv_language.specs.Trace.{Each}
-use Rattle.base_values.specs.declared.value.Value.{Value as Numbered}
 use Rattle.smv_flat_laws.specs.FlatTrace.{IsFlatTrace}
 use Rattle.smv_flat_laws.specs.History.{Mode}
-use Rattle.smv_language.specs.Flat.{FlatModel}
 use Rattle.sat_encoding_laws.specs.FlatTraces.{ReachesTop, HasFailedNumber}
-use Rattle.smv_evaluation.specs.EvaluableModels.{IsLawful}
 use Rattle.cut_right_laws.specs.Sets.{has_number}
 use Rattle.cut_right_laws.specs.Right.{HasFailedExactly, Shows}
 use Rattle.cut_report.specs.declared.fault.TraceFault.{TraceFault}
 use Rattle.cut_report.specs.declared.fault.TraceFault.TheVariants as fault
 use Rattle.cert_check.specs.Matter.{Matter}
-
--- moments by number that can be replayed: there are some, fewer than 2^32, and each has a value of its type for each variable
-pub record CanBeReplayed (m : FlatModel) (trace : List (List Numbered)) : Type 0 where
-  pub some : 0 < length trace
-  pub few : length trace < 2 ^ 32
-  pub lawful : Each (IsLawful m) trace
 
 module _ (a : Matter) (set : List ℕ) (trace : List (List Value)) where
   abbrev pub FailsExactly : Type 0

@@ -5,12 +5,13 @@
 ghost use Rattle.std.specs.Prelude.{◌≡◌, ◌↔◌, Some, IsTrue, IfOk, map};
 ghost use Rattle.smv_flat_laws.specs.FaultModes.{mode_of};
 ghost use Rattle.smv_flat_laws.specs.FlatTrace.{stands_in_some};
+ghost use Rattle.smv_evaluation.specs.EvaluableModels.{CanBeReplayed};
 ghost use Rattle.smv_evaluation.specs.Replay.{IsReaching};
 ghost use Rattle.cert_laws.specs.Certificate.{a_trace};
 ghost use Rattle.cert_check.specs.QuestionMatter.{asked};
 ghost use Rattle.cert_check.specs.Fit.{IsFit, IsShortText};
 ghost use Rattle.cert_check.specs.SiteFindings.{FindsAt};
-ghost use Rattle.cert_check.specs.Moments.{CanBeReplayed, FindsMoments, FailsExactly, IsTextFault, are_those_of};
+ghost use Rattle.cert_check.specs.Moments.{FindsMoments, FailsExactly, IsTextFault, are_those_of};
 ghost use Rattle.smv_language.specs.NumberedValues.{told_trace};
 
 use crate::question::CertificateQuestion;

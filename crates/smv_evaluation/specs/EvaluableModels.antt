@@ -1,5 +1,5 @@
 -- What can be evaluated: models, values whose symbols have texts, and tables of values and of what definitions give.
-use Rattle.std.specs.Prelude.{◌≡◌, ℕ, Option, Some, List, [], map, slice_get}
+use Rattle.std.specs.Prelude.{◌≡◌, ℕ, ◌<◌, ◌^◌, Option, Some, false, List, [], length, map, slice_get}
 use Rattle.smv_language.specs.ProgramTree.{Text}
 use Rattle.smv_language.specs.Tree.{Tree}
 use Rattle.smv_language.specs.Trace.{Each}
@@ -9,7 +9,8 @@ use Rattle.base_values.specs.declared.value.Value.{Value}
 use Rattle.base_values.specs.declared.value.Value.TheVariants.{Bool as truth, Num, Sym}
 use Rattle.smv_language.specs.Flat.{FlatLeaf, FlatModel, table_after, FlatGives, FlatMay}
 use Rattle.smv_flat_laws.specs.FlatTrace.{AreInDomains}
-use Rattle.smv_type_laws.specs.Laws.{IsClosed}
+use Rattle.smv_type_laws.specs.Laws.{IsClosed, ReadsOwn}
+use Rattle.smv_type_laws.specs.Models.{judged_in, broken_condition}
 use Rattle.smv_evaluation.specs.Entries.{Entries}
 use Rattle.smv_language.specs.Texts.{AreApart}
 use Rattle.smv_language.specs.NumberedValues.{told_moment, told_value}
@@ -38,6 +39,17 @@ pub record IsLawful (m : FlatModel) (v : List Value) : Type 0 where
 -- what a definition gives that has this one value
 abbrev pub gives_one : List Text → Value → Option Values
 gives_one symbols v = Some (one (told_value symbols v))
+
+-- moments by number that can be replayed: there are some, fewer than 2^32, and each has a value of its type for each variable
+pub record CanBeReplayed (m : FlatModel) (trace : List (List Value)) : Type 0 where
+  pub some : 0 < length trace
+  pub few : length trace < 2 ^ 32
+  pub lawful : Each (IsLawful m) trace
+
+-- an expression that is TRUE or FALSE at a moment: it names what the model has, and breaks no rule of conditions
+pub record IsCondition (m : FlatModel) (e : Tree FlatLeaf) : Type 0 where
+  pub own : ReadsOwn m e
+  pub right : broken_condition (judged_in m false e) ≡ []
 
 -- a table with the values of a moment, and what the definitions give there
 pub record IsFilled (m : FlatModel) (e : Entries) : Type 0 where

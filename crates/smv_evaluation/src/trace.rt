@@ -1,13 +1,10 @@
 //! Whether a list of moments is a trace that reaches a top event, or where and why it stops being one ([`replay`]). Two
 //! tables go over the moments, one for the moment before and one for the next.
-ghost use Rattle.std.specs.Prelude.{◌≡◌, ◌<◌, ◌^◌, [], drop, length, All, false};
-ghost use Rattle.smv_language.specs.Trace.{Each};
+ghost use Rattle.std.specs.Prelude.{◌≡◌, ◌<◌, ◌^◌, drop, length, All};
 ghost use Rattle.smv_language.specs.ExpressionTree.{tree_of};
 ghost use Rattle.smv_language.specs.ModelTree.{model_tree, flat_tree};
-ghost use Rattle.smv_type_laws.specs.Laws.{ReadsOwn};
-ghost use Rattle.smv_type_laws.specs.Models.{judged_in, broken_condition};
 ghost use Rattle.smv_evaluation.specs.MomentTables.{filled, step_holds, HasRoom, HasValues};
-ghost use Rattle.smv_evaluation.specs.EvaluableModels.{IsEvaluable, IsLawful};
+ghost use Rattle.smv_evaluation.specs.EvaluableModels.{IsEvaluable, CanBeReplayed, IsCondition};
 ghost use Rattle.smv_evaluation.specs.Replay.{ended, replayed_from, replayed, IsReplayed};
 ghost use Rattle.smv_language.specs.NumberedValues.{told_trace};
 
@@ -41,11 +38,8 @@ pub fn replay(
     next: &mut Table,
 ) -> Replayed
     requires model { IsEvaluable (model_tree t.now.model) }
-    requires some { 0 < length trace.now }
-    requires few { length trace.now < 2 ^ 32 }
-    requires lawful { Each (IsLawful (model_tree t.now.model)) trace.now }
-    requires own { ReadsOwn (model_tree t.now.model) (flat_tree top.now) }
-    requires kept { broken_condition (judged_in (model_tree t.now.model) false (flat_tree top.now)) ≡ [] }
+    requires trace { CanBeReplayed (model_tree t.now.model) trace.now }
+    requires top { IsCondition (model_tree t.now.model) (flat_tree top.now) }
     requires room_now { HasRoom t.now.model now.old }
     requires room_next { HasRoom t.now.model next.old }
     ensures answer { IsReplayed (model_tree t.now.model) (flat_tree top.now) (told_trace t.now.model.symbols trace.now) result }

@@ -8,7 +8,7 @@ use Rattle.cut_text_laws.specs.Lines.{Line, fed}
 use Rattle.smv_language.specs.NumberedValues.{told_trace}
 use Rattle.cut_text_laws.specs.TraceOfText.{IsPrintable, BytesGive}
 use Rattle.cert_check.proofs.TraceLaws.{all_lawful, few_moments, some_moments}
-use Rattle.cert_check.specs.Moments.{CanBeReplayed}
+use Rattle.smv_evaluation.specs.EvaluableModels.{CanBeReplayed}
 
 module _ (m : FlatModel) (printable : IsPrintable m) where
   -- there are no more lines than bytes

@@ -7,7 +7,7 @@ ghost use Rattle.smv_flat_laws.specs.FaultModes.{mode_of};
 ghost use Rattle.smv_flat_laws.specs.FlatTrace.{stands_in_some};
 ghost use Rattle.smv_type_laws.specs.Laws.{ReadsOwn};
 ghost use Rattle.smv_type_laws.specs.Models.{judged_in, broken_condition};
-ghost use Rattle.smv_evaluation.specs.EvaluableModels.{IsEvaluable};
+ghost use Rattle.smv_evaluation.specs.EvaluableModels.{IsEvaluable, CanBeReplayed};
 ghost use Rattle.smv_evaluation.specs.Replay.{IsReaching};
 ghost use Rattle.fault_extend.specs.WovenFaults.{fault_tree};
 ghost use Rattle.fault_extend.specs.NumberedFaults.{IsNumbered, AreNumbered};
@@ -21,7 +21,6 @@ ghost use Rattle.verb_loading.specs.declared.status.Refusal.{Refusal};
 ghost use Rattle.verb_loading.specs.declared.status.Refusal.TheVariants as refusal;
 ghost use Rattle.verb_loading.specs.declared.status.Objection.TheVariants as objection;
 ghost use Rattle.verb_loading.specs.declared.input.Stop.TheVariants as stop;
-ghost use Rattle.cert_check.specs.Moments.{CanBeReplayed};
 ghost use Rattle.smv_language.specs.NumberedValues.{told_trace};
 
 use crate::trace::load_trace;

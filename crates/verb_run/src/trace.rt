@@ -9,7 +9,7 @@ ghost use Rattle.cut_text_laws.specs.TraceOfText.{IsPrintable, HasItsSymbols};
 ghost use Rattle.verb_run.specs.Replays.{RefusesTrace, HoldsTrace, stop_at_text};
 ghost use Rattle.verb_loading.specs.declared.status.Refusal.{Refusal};
 ghost use Rattle.verb_loading.specs.declared.input.Stop.TheVariants as stop;
-ghost use Rattle.cert_check.specs.Moments.{CanBeReplayed};
+ghost use Rattle.smv_evaluation.specs.EvaluableModels.{CanBeReplayed};
 
 use base_files::Desk;
 use base_values::MomentList;

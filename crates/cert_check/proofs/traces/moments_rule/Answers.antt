@@ -7,6 +7,9 @@ use Rattle.cert_check.proofs.Exactly.{first_no_trace, step_no_trace, top_parts}
 use Rattle.cert_check.proofs.traces.moments_rule.Goals as goal
 use Rattle.smv_language.specs.NumberedValues.{told_trace}
 
+pub replay-requires-clause-top : goal.replay-requires-clause-top
+replay-requires-clause-top c = record { own = c.requires.fit.reads_own; right = c.requires.fit.right }
+
 pub returns-in-BadFirst : goal.returns-in-BadFirst
 returns-in-BadFirst c =
     let a = asked c.args.q.now in

@@ -10,15 +10,15 @@ use Rattle.smv_evaluation.proofs.trace.replay.Goals as goal
 use Rattle.smv_language.specs.NumberedValues.{told_trace}
 
 pub replay_in-requires-clause-some : goal.replay_in-requires-clause-some
-replay_in-requires-clause-some c = subst (λ ms. 0 < length ms) (sym c.as_slice.ensures) c.requires.some
+replay_in-requires-clause-some c = subst (λ ms. 0 < length ms) (sym c.as_slice.ensures) c.requires.trace.some
 
 pub replay_in-requires-clause-few : goal.replay_in-requires-clause-few
-replay_in-requires-clause-few c = subst (λ ms. length ms < 2 ^ 32) (sym c.as_slice.ensures) c.requires.few
+replay_in-requires-clause-few c = subst (λ ms. length ms < 2 ^ 32) (sym c.as_slice.ensures) c.requires.trace.few
 
 pub replay_in-requires-clause-lengths : goal.replay_in-requires-clause-lengths
 replay_in-requires-clause-lengths c =
     subst (λ m. All (HasValues m) c.as_slice.result.now) (sym c.model.ensures.model)
-    (subst (All (HasValues c.args.t.now.model)) (sym c.as_slice.ensures) (all_lawful c.args.t.now.model c.args.trace.now c.requires.lawful))
+    (subst (All (HasValues c.args.t.now.model)) (sym c.as_slice.ensures) (all_lawful c.args.t.now.model c.args.trace.now c.requires.trace.lawful))
 
 pub replay_in-requires-clause-room_now : goal.replay_in-requires-clause-room_now
 replay_in-requires-clause-room_now c = subst (λ m. HasRoom m c.args.now.now) (sym c.model.ensures.model) c.requires.room_now
@@ -33,4 +33,4 @@ returns-clause-answer c =
     c.replay_in.ensures.answer
     ∙ (ap (λ n. replayed n (tree_of c.args.top.now) c.as_slice.result.now) c.model.ensures.model ∙ ap (replayed m (tree_of c.args.top.now)) c.as_slice.ensures) in
     subst (IsReplayed (model_tree m) (flat_tree c.args.top.now) (told_trace m.symbols c.args.trace.now)) (sym same)
-    (replayed_law m c.requires.model c.args.t.now.typed c.args.top.now c.requires.own c.requires.kept c.args.trace.now c.requires.some c.requires.lawful)
+    (replayed_law m c.requires.model c.args.t.now.typed c.args.top.now c.requires.top.own c.requires.top.right c.args.trace.now c.requires.trace.some c.requires.trace.lawful)

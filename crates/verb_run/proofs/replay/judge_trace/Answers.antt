@@ -9,6 +9,9 @@ use Rattle.verb_run.proofs.replay.judge_trace.Goals as goal
 use Rattle.base_values.proofs.ResultLaws.{same_fault}
 use Rattle.smv_language.specs.NumberedValues.{told_trace}
 
+pub replay-requires-clause-top : goal.replay-requires-clause-top
+replay-requires-clause-top c = record { own = c.requires.own; right = c.requires.kept }
+
 pub returns-in-Reaches-clause-ok : goal.returns-in-Reaches-clause-ok
 returns-in-Reaches-clause-ok c = subst (IsReplayed _ _ _) c.in-Reaches.is c.replay.ensures.answer
 
