@@ -1,6 +1,6 @@
 -- What a weave tells, by what its parts tell.
 use Rattle.std.proofs.Common.{◌≡◌, ℕ, List, [], ◌∷◌, map, refl, sym, ap, subst}
-use Rattle.std.specs.Prelude.{Result, Ok, Err, IfErr}
+use Rattle.std.specs.Prelude.{Result, Ok, Err, OnOk, IfErr}
 use Rattle.std.proofs.Common.{inl, inr}
 use Rattle.smv_language.specs.ProgramTree.{Text, ProgramTree}
 use Rattle.fault_instructions.specs.Instructions.{InstructionTree}
@@ -14,10 +14,14 @@ use Rattle.smv_language.specs.ModelTree.{instance_tree}
 use Rattle.smv_types.specs.Faults.{IsOfMemory, IsToldOf}
 use Rattle.smv_types.specs.declared.fault.TypeFault.{TypeFault}
 use Rattle.fault_extend_laws.specs.Uses.{uses}
+use Rattle.fault_extend_laws.specs.Expressions.{AllUsesKept}
+use Rattle.fault_rules.specs.CountLimits.{count_broken_at}
+use Rattle.fault_rules.specs.FirstBroken.{AllKept}
+use Rattle.fault_rules.specs.Sites.{item_sites}
 use Rattle.fault_extend.specs.declared.fault.WeaveCause.{WeaveCause}
 use Rattle.fault_extend.specs.declared.fault.WeaveCause.TheVariants.{Weave, Flat, Kinds}
 use Rattle.fault_extend.specs.declared.fault.WeaveFault.{WeaveFault}
-use Rattle.fault_extend.specs.FirstRefusal.{modules_in, modules_at, KeepsRules, IsToldBy, IsTold, IsOfExpressions, IsFromExpressions, IsWant, IsFirstFault, IsToldSomewhere}
+use Rattle.fault_extend.specs.FirstRefusal.{modules_in, modules_at, KeepsRules, KeepsModelRules, IsToldBy, IsTold, IsOfExpressions, IsFromExpressions, IsWant, IsFirstFault, IsToldSomewhere}
 
 module _ (p : ProgramTree) (m : FlatModel) (i : InstructionTree) (modules : List Text) where
   fault_told : (cause : WeaveCause) (item : ℕ) → KeepsRules p i modules → IsOfExpressions cause → (IsAccepted p → IsFlatOf p m → IsFirstFault p m (uses p i) (record { cause = cause; item = item })) → IsToldBy p m i modules cause item
@@ -46,3 +50,8 @@ typed_wants m f typed (inr told) = absurd (typed_has_none m told.rule f.item typ
 pub told_somewhere : {T : Type 0} (p : ProgramTree) (m : FlatModel) (i : InstructionTree) (r : Result T WeaveFault) → IsFlatOf p m → IfErr r (IsTold p m i (modules_at m)) → IfErr r (IsToldSomewhere p i)
 told_somewhere p m i (Ok x) is told = tt
 told_somewhere p m i (Err f) is told = λ other. (m, is, told)
+
+-- no rule is broken that is judged over the flat model, on numbers or on expressions
+pub both_kept : {T E : Type 0} (p : ProgramTree) (m : FlatModel) (i : InstructionTree) (r : Result T E) → OnOk r (AllKept (count_broken_at (modules_at m)) (item_sites i)) → OnOk r (AllUsesKept p m i) → OnOk r (KeepsModelRules p m i)
+both_kept p m i (Ok x) counts uses = record { counts = counts; uses = uses }
+both_kept p m i (Err x) counts uses = tt

@@ -10,7 +10,7 @@ use Rattle.smv_scope.specs.Faults.{rule_of}
 use Rattle.smv_types.specs.Answers.{told_rule}
 use Rattle.smv_types.specs.Calls.{fault_of}
 use Rattle.fault_extend_laws.specs.Uses.{Use}
-use Rattle.fault_extend_laws.specs.Expressions.{UseRule, of_names, of_kinds, IsFirstAmong, IsFirstUse}
+use Rattle.fault_extend_laws.specs.Expressions.{UseRule, of_names, of_kinds, IsFirstAmong, IsFirstUse, AllUsesKept}
 use Rattle.fault_rules.specs.Sites.{item_sites}
 use Rattle.fault_rules.specs.Rules.{broken_at}
 use Rattle.fault_rules.specs.CountLimits.{count_broken_at}
@@ -98,6 +98,12 @@ IsFirstFault p m among fault = IsWantOr fault.cause (λ r. IsFirstAmong p m amon
 -- the modules of all instances
 abbrev pub modules_at : FlatModel → List Text
 modules_at m = map (λ (at : FlatInstance). at.module_name) m.instances
+
+-- no item breaks a rule that is judged over the program's flat model: one on numbers, with the modules of its instances, or one on
+-- expressions
+pub record KeepsModelRules (p : ProgramTree) (m : FlatModel) (i : InstructionTree) : Type 0 where
+  pub counts : AllKept (count_broken_at (modules_at m)) (item_sites i)
+  pub uses : AllUsesKept p m i
 
 -- the same of a program whose model isn't at hand: a fault with item 0 is one of the program itself
 abbrev pub IsToldSomewhere : ProgramTree → InstructionTree → WeaveFault → Type 0

@@ -22,7 +22,7 @@ ghost use Rattle.smv_language.specs.ModelTree.{model_tree};
 ghost use Rattle.smv_language.specs.Flat.{FlatModel};
 ghost use Rattle.smv_type_laws.specs.Models.{IsTyped};
 ghost use Rattle.fault_extend_laws.specs.Expressions.{AllUsesKept};
-ghost use Rattle.fault_extend.specs.FirstRefusal.{modules_in, modules_at, KeepsRules, IsTold, IsToldSomewhere, IsWant};
+ghost use Rattle.fault_extend.specs.FirstRefusal.{modules_in, modules_at, KeepsRules, KeepsModelRules, IsTold, IsToldSomewhere, IsWant};
 
 use crate::fault::{WeaveCause, WeaveFault};
 use crate::faults::{Woven, woven_faults};
@@ -48,10 +48,8 @@ pub fn weave(alloc: Global, p: &Program, i: &Instructions) -> Result<Woven, Weav
     ensures faults { HasInstancesInVar (program_tree p.now) →
         IfOk result (λ w. HasFaults (program_tree p.now) (instruction_tree i.now) (map fault_tree w.faults)) }
     ensures kept { OnOk result (AllKept (broken_at (program_tree p.now)) (item_sites (instruction_tree i.now))) }
-    ensures counts { (m : FlatModel) → IsFlatOf (program_tree p.now) m →
-        OnOk result (AllKept (count_broken_at (modules_at m)) (item_sites (instruction_tree i.now))) }
-    ensures uses { (m : FlatModel) → IsFlatOf (program_tree p.now) m →
-        OnOk result (AllUsesKept (program_tree p.now) m (instruction_tree i.now)) }
+    ensures judged { (m : FlatModel) → IsFlatOf (program_tree p.now) m →
+        OnOk result (KeepsModelRules (program_tree p.now) m (instruction_tree i.now)) }
     ensures told { IfErr result (IsToldSomewhere (program_tree p.now) (instruction_tree i.now)) }
     ensures exact { (m : FlatModel) → IsAccepted (program_tree p.now) → IsFlatOf (program_tree p.now) m →
         IsTyped m → IfErr result (IsTold (program_tree p.now) m (instruction_tree i.now) (modules_at m)) }

@@ -13,7 +13,7 @@ use Rattle.fault_weave.specs.Faults.{HasFaults}
 use Rattle.fault_extend.specs.WovenFaults.{fault_tree, AreInstancesOf}
 use Rattle.fault_extend.proofs.InstanceLaws.{instances_listed}
 use Rattle.fault_extend.proofs.GuardLaws.{made_extends}
-use Rattle.fault_extend.proofs.Telling.{want_is_told, modules_same, told_somewhere}
+use Rattle.fault_extend.proofs.Telling.{want_is_told, modules_same, told_somewhere, both_kept}
 use Rattle.fault_extend.proofs.weaving.weave.Goals as goal
 
 pub returns-clause-extension : goal.returns-clause-extension
@@ -26,19 +26,17 @@ returns-in_err-typed-clause-exact c = λ m accepted flat typed.
     let exit = err_from_is_err_and c.from_residual.result c.from_residual.ensures.1 in
     rw (exit.1, exit.2) (want_is_told (program_tree c.args.p.now) m (instruction_tree c.args.i.now) (modules_at m) c.in_err-typed.field-0.0 (c.in_err-typed.ensures.want m accepted flat typed))
 
-pub returns-clause-counts : goal.returns-clause-counts
-returns-clause-counts c = λ m flat.
+pub returns-clause-judged : goal.returns-clause-judged
+returns-clause-judged c = λ m flat.
     let sites = item_sites (instruction_tree c.args.i.now) in
     let names = modules_in c.in_ok-typed.typed.model.instances in
-    subst (λ k. OnOk c.weave_typed.result (AllKept (count_broken_at (modules_at k)) sites)) (sym (c.in_ok-typed.ensures.alone m flat))
+    let counts : OnOk c.weave_typed.result (AllKept (count_broken_at (modules_at m)) sites) = subst (λ k. OnOk c.weave_typed.result (AllKept (count_broken_at (modules_at k)) sites)) (sym (c.in_ok-typed.ensures.alone m flat))
     (subst (λ (xs : List Text). OnOk c.weave_typed.result (AllKept (count_broken_at xs) sites)) (modules_same c.in_ok-typed.typed.model.instances)
     (IfOk-weaker c.weave_typed.result (λ w. KeepsRules (program_tree c.args.p.now) (instruction_tree c.args.i.now) names) (λ w. AllKept (count_broken_at names) sites)
-    (λ w kept. kept.counts) c.weave_typed.ensures.kept))
-
-pub returns-clause-uses : goal.returns-clause-uses
-returns-clause-uses c = λ m flat.
-    subst (λ k. OnOk c.weave_typed.result (AllUsesKept (program_tree c.args.p.now) k (instruction_tree c.args.i.now))) (sym (c.in_ok-typed.ensures.alone m flat))
-    (c.weave_typed.ensures.uses c.in_ok-typed.ensures.accepted c.in_ok-typed.ensures.flat)
+    (λ w kept. kept.counts) c.weave_typed.ensures.kept)) in
+    let uses : OnOk c.weave_typed.result (AllUsesKept (program_tree c.args.p.now) m (instruction_tree c.args.i.now)) = subst (λ k. OnOk c.weave_typed.result (AllUsesKept (program_tree c.args.p.now) k (instruction_tree c.args.i.now))) (sym (c.in_ok-typed.ensures.alone m flat))
+    (c.weave_typed.ensures.uses c.in_ok-typed.ensures.accepted c.in_ok-typed.ensures.flat) in
+    both_kept (program_tree c.args.p.now) m (instruction_tree c.args.i.now) c.weave_typed.result counts uses
 
 pub returns-clause-told : goal.returns-clause-told
 returns-clause-told c =
