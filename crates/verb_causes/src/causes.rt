@@ -11,7 +11,7 @@ ghost use Rattle.cut_text_laws.specs.Analysis.{told_ending};
 ghost use Rattle.cut_model_search.specs.FaultyModels.{faulty_of};
 ghost use Rattle.verb_loading.specs.declared.status.Refusal.{Refusal};
 ghost use Rattle.verb_loading.specs.declared.input.Stop.TheVariants as stop;
-ghost use Rattle.verb_loading.specs.Statuses.{ended_with, IsBoundedAt, IsFinished};
+ghost use Rattle.verb_loading.specs.Statuses.{ended_with, EndsWithin, IsBoundedAt, IsFinished};
 ghost use Rattle.verb_causes.specs.Causes.{staged_in, events_in, IsStagedEvent, CertifiesStaged, AcceptsStaged, AcceptsCauses};
 ghost use Rattle.verb_causes.specs.Causes.{HasCheckedCauses, LeavesCheck, IsCausesFinding, FindsCauses, HasFoundCauses, LeavesCauses};
 ghost use Rattle.verb_causes.specs.Refusals.{RefusesStaged, BreaksLine, RefusesJudged, RefusesCauseCheck};
@@ -45,8 +45,7 @@ pub fn find_causes<D: Desk>(
         HasFoundCauses files asked.now.model.now asked.now.faults.now asked.now.causes.now asked.now.top.now
         asked.now.cert.now asked.now.depth s
         (D.told desk.old).files (D.told desk.new).files (D.told desk.old).said (D.told desk.new).said)) }
-    ensures finished { IfOk result IsFinished }
-    ensures depth { IfOk result (IsBoundedAt asked.now.depth) }
+    ensures ends { IfOk result (EndsWithin asked.now.depth) }
     ensures refused { (r : Refusal) → IsErrOf result (stop.Refused r) →
         IfSome (D.told desk.old).files
         (λ files. RefusesStaged files asked.now.model.now asked.now.faults.now asked.now.causes.now asked.now.top.now r) }

@@ -47,6 +47,11 @@ IsFinished _ = ⊥
 abbrev pub IsBoundedAt : ℕ → Status → Type 0
 IsBoundedAt depth s = (k : ℕ) → s ≡ status.Bounded k → k ≡ depth
 
+-- the work is done as it was asked for: for all traces, or for those of at most this many steps
+pub record EndsWithin (depth : ℕ) (s : Status) : Type 0 where
+  pub finished : IsFinished s
+  pub bounded : IsBoundedAt depth s
+
 -- a run ends done where its analysis is complete, and else bounded
 abbrev pub ended_with : Ending → Status
 ended_with complete = status.Done

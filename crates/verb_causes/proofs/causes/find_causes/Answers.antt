@@ -39,8 +39,11 @@ returns-clause-ok g c =
     (c.in_ok-conclude.ensures.ok.0 ∙ ap (λ t. told_maybe t c.args.asked.now.cert.now c.in_ok-found.found.cert) c.prepare_causes.ensures.stays.files)
     (c.in_ok-conclude.ensures.ok.1 ∙ ap (λ t. said_more t c.in_ok-found.found.report) c.prepare_causes.ensures.stays.said)
 
-pub returns-clause-depth : goal.returns-clause-depth
-returns-clause-depth g c = subst (IsBoundedAt c.args.asked.now.depth) (sym c.ended_as.ensures.ends) c.in_ok-found.ensures.depth
+pub returns-clause-ends : goal.returns-clause-ends
+returns-clause-ends g c = record {
+  finished = c.ended_as.ensures.finished;
+  bounded = subst (IsBoundedAt c.args.asked.now.depth) (sym c.ended_as.ensures.ends) c.in_ok-found.ensures.depth;
+}
 
 pub returns-clause-left : goal.returns-clause-left
 returns-clause-left g c =

@@ -1,4 +1,5 @@
 use Rattle.std.proofs.Common.{List, ⊎_elim, refl}
+use Rattle.std.proofs.lemmas.Result.{IfOk-weaker}
 use Rattle.base_files.specs.declared.files.NamedFile.{NamedFile}
 use Rattle.verb_causes.specs.Causes.{HasFoundCauses, FindsCausesInPart}
 use Rattle.verb_loading.specs.declared.status.Status.{Status}
@@ -7,6 +8,7 @@ use Rattle.verb_run.proofs.FurtherLaws.{answers_work, leaves_work, rose_before, 
 use Rattle.verb_causes.proofs.OneRefusal.{staged_of_caused}
 use Rattle.verb_command_line.specs.declared.command.Command.TheVariants as ask
 use Rattle.verb_command_line.specs.CommandView.{seen}
+use Rattle.verb_loading.specs.Statuses.{EndsWithin, IsBoundedAt, IsFinished}
 use Rattle.verb_loading.proofs.SaidLaws.{rose_later}
 use Rattle.verb_run.proofs.StatusLaws.{concluded_of, work_of}
 use Rattle.base_files.proofs.Stays.{later_on}
@@ -54,8 +56,10 @@ returns-clause-stays g c = later_on _ _ _ c.find_causes-done.ensures.stays c.con
 pub returns-clause-status : goal.returns-clause-status
 returns-clause-status g c =
     concluded_of (seen (ask.Causes c.args.asked.now)) c.concluded.result c.find_causes-done.result _ _ _ _
-    (work_of (seen (ask.Causes c.args.asked.now)) c.args.asked.now.depth refl c.find_causes-done.result c.find_causes-done.ensures.finished c.find_causes-done.ensures.depth)
+    (work_of (seen (ask.Causes c.args.asked.now)) c.args.asked.now.depth refl c.find_causes-done.result
+    (IfOk-weaker c.find_causes-done.result (EndsWithin c.args.asked.now.depth) IsFinished (λ s e. e.finished) c.find_causes-done.ensures.ends)
+    (IfOk-weaker c.find_causes-done.result (EndsWithin c.args.asked.now.depth) (IsBoundedAt c.args.asked.now.depth) (λ s e. e.bounded) c.find_causes-done.ensures.ends))
     c.concluded.ensures.concluded
 
 pub concluded-requires : goal.concluded-requires
-concluded-requires g c = c.find_causes-done.ensures.finished
+concluded-requires g c = IfOk-weaker c.find_causes-done.result (EndsWithin c.args.asked.now.depth) IsFinished (λ s e. e.finished) c.find_causes-done.ensures.ends
