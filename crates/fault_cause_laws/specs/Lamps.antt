@@ -4,7 +4,8 @@ use Rattle.smv_language.specs.ProgramTree.{Path, boolean, instance, var, ModuleT
 use Rattle.smv_language.specs.Values.{truth}
 use Rattle.fault_instructions.specs.declared.instructions.Dynamics.TheVariants.{Permanent}
 use Rattle.fault_instructions.specs.declared.instructions.Start.TheVariants.{Nominal}
-use Rattle.fault_instructions.specs.Instructions.{InstructionTree, stuck_at}
+use Rattle.fault_instructions.specs.declared.effects.ConstantEffect.TheVariants.{StuckAt}
+use Rattle.fault_instructions.specs.Instructions.{InstructionTree, of_constant}
 use Rattle.fault_weave.specs.Faults.{Fault}
 use Rattle.fault_cause_laws.specs.CauseRules.{fault_path}
 use Rattle.fault_cause_laws.specs.FaultNamesLaws.{AreFaultsOf}
@@ -36,7 +37,8 @@ bulbs = record {
       name = codes "Bulb";
       target = codes "on";
       start = Nominal;
-      modes = record { name = codes "dark"; mark = None; dynamics = Permanent; effect = stuck_at (truth false); guard = None } ∷ [];
+      modes = record { name = codes "dark"; mark = None; dynamics = Permanent; effect = of_constant StuckAt (truth false); guard = None }
+          ∷ [];
     } ∷ [];
   } ∷ [];
 }

@@ -6,7 +6,7 @@ use Rattle.smv_language.specs.ProgramTree.{Text, Formula, DeclaredTree, ModuleTr
 use Rattle.smv_language.specs.Texts.{same_text}
 use Rattle.smv_language.specs.Trace.{Each, IsInstance}
 use Rattle.smv_language.specs.Scope.{Place, find_module}
-use Rattle.fault_instructions.specs.Instructions.{EffectTree, follows, stuck_at, inverted, random, erroneous, frozen, stuck_at_pick, offset, ramp_down, ModeTree, SliceTree, ExtensionTree, InstructionTree, slices_from}
+use Rattle.fault_instructions.specs.Instructions.{EffectTree, plain, of_constant, of_expression, of_number, of_numbers, ModeTree, SliceTree, ExtensionTree, InstructionTree, slices_from}
 use Rattle.smv_language.specs.Flat.{FlatLeaf, FlatInstance, FlatModel}
 use Rattle.smv_flat_laws.specs.Items.{instances_of}
 use Rattle.smv_flat_laws.specs.Looks.{ActualsMean}
@@ -72,15 +72,11 @@ module _ (p : ProgramTree) (m : FlatModel) (is : IsFlatOf p m) (at : Place) wher
 
   of_effect : (effect : EffectTree) (flat : Option (Tree FlatLeaf)) → ((r : Rule) → SomeBreaks p at false (followed effect) r → ⊥) → IsForm p m at (followed effect) flat → broken_by m flat ≡ [] →
       IsGoodEffect p m is.written at effect
-  of_effect (follows e) flat names form kept = good_value e flat names form kept
-  of_effect (stuck_at c) flat names form kept = tt
-  of_effect inverted flat names form kept = tt
-  of_effect random flat names form kept = tt
-  of_effect erroneous flat names form kept = tt
-  of_effect frozen flat names form kept = tt
-  of_effect stuck_at_pick flat names form kept = tt
-  of_effect (offset d) flat names form kept = tt
-  of_effect (ramp_down d f) flat names form kept = tt
+  of_effect (plain k) flat names form kept = tt
+  of_effect (of_constant k c) flat names form kept = tt
+  of_effect (of_expression k e) flat names form kept = good_value e flat names form kept
+  of_effect (of_number k n) flat names form kept = tt
+  of_effect (of_numbers k n n') flat names form kept = (tt, tt)
 
   of_guard : (guard : Option Formula) (flat : Option (Tree FlatLeaf)) → ((r : Rule) → SomeBreaks p at true guard r → ⊥) → IsForm p m at guard flat → broken_by m flat ≡ [] → class_of_guard m flat ≡ [] →
       IsGoodGuard p m is.written at guard

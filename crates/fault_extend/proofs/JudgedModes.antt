@@ -7,9 +7,9 @@ use Rattle.smv_language.specs.Tree.{Tree, Trees, Branches, truth as is_truth, nu
 use Rattle.smv_language.specs.ProgramTree.{Formula, DeclaredTree, boolean, range, members, instance, ModuleTree, ProgramTree}
 use Rattle.smv_language.specs.Scope.{Place, find_module}
 use Rattle.smv_language.specs.Trace.{Each, IsVariable, EachBoth}
-use Rattle.fault_instructions.specs.Instructions.{EffectTree, stuck_at, follows, inverted, random, erroneous, frozen, stuck_at_pick, offset, ramp_down}
+use Rattle.fault_instructions.specs.Instructions.{EffectTree, plain, of_constant, of_expression, of_number, of_numbers}
 use Rattle.fault_instructions.specs.Types.{IsUniform, IsNumberMember, IsSymbolMember}
-use Rattle.fault_instructions.specs.Weavable.{NoNext, NoNextInTrees, NoNextInBranches, HasMeaning, IsReadable, IsLawfulGuard}
+use Rattle.fault_instructions.specs.Weavable.{NoNext, NoNextInTrees, NoNextInBranches, HasMeaning, IsReadable, IsReadableEffect, IsLawfulGuard}
 use Rattle.smv_language.specs.Flat.{FlatLeaf, FlatVariable, FlatModel}
 use Rattle.smv_flat_laws.specs.Items.{Visit, visits, variables_of}
 use Rattle.smv_flat_laws.specs.NameResolution.{Definition, Resolver, IsSound, IsResolved, leaves_in, has_next, trees_have_next, branches_have_next}
@@ -27,7 +27,7 @@ use Rattle.smv_type_laws.specs.Models.{variable_breaches, IsTyped}
 use Rattle.smv_type_laws.proofs.Parts.{none_first, none_second, class_kept}
 use Rattle.smv_type_laws.proofs.ClosedLaws.{all_leaves}
 use Rattle.smv_type_laws.proofs.WrittenLaws.{written_conditions_decided}
-use Rattle.fault_rules.specs.Prerequisites.{IsReadableEffect, IsJudgedMode}
+use Rattle.fault_rules.specs.Prerequisites.{IsJudgedMode}
 use Rattle.fault_extend.specs.JudgedLaws.{IsGoodMode, IsGoodEffect, IsGoodGuard, GoodModesAreJudged, TypesAreUniform, GoodIsJudged}
 use Rattle.smv_type_laws.proofs.TraceLaws.{one_type}
 use Rattle.smv_type_laws.proofs.SetRows.{or_false_second as or_right, or_false_first as or_left}
@@ -65,15 +65,11 @@ resolved_readable p m ds r sound at e flat is =
     (λ name known. let found = sound at name known.found known.is in (found.0, found.1)) (names_known (λ l. Unit {0}) (r at) e flat is (each_leaf (leaves_in flat))))
 
 effect_readable : (p : ProgramTree) (m : FlatModel) (ds : List Definition) (at : Place) (e : EffectTree) → IsGoodEffect p m ds at e → IsReadableEffect p at e
-effect_readable p m ds at (follows e) good = resolved_readable p m ds good.resolver good.sound at e good.flat good.resolved
-effect_readable p m ds at (stuck_at c) good = tt
-effect_readable p m ds at inverted good = tt
-effect_readable p m ds at random good = tt
-effect_readable p m ds at erroneous good = tt
-effect_readable p m ds at frozen good = tt
-effect_readable p m ds at stuck_at_pick good = tt
-effect_readable p m ds at (offset d) good = tt
-effect_readable p m ds at (ramp_down d f) good = tt
+effect_readable p m ds at (plain k) good = tt
+effect_readable p m ds at (of_constant k c) good = tt
+effect_readable p m ds at (of_expression k e) good = resolved_readable p m ds good.resolver good.sound at e good.flat good.resolved
+effect_readable p m ds at (of_number k n) good = tt
+effect_readable p m ds at (of_numbers k m' n) good = (tt, tt)
 
 guard_lawful : (p : ProgramTree) (m : FlatModel) → IsAccepted p → (is : IsFlatOf p m) → IsTyped m → (at : Place) (k : ModuleTree) (g : Option Formula) → IsGoodGuard p m is.written at g → IsLawfulGuard p at k g
 guard_lawful p m accepted is typed at k None good = tt

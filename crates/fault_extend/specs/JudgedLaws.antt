@@ -4,8 +4,7 @@ use Rattle.smv_language.specs.Tree.{Tree}
 use Rattle.smv_language.specs.ProgramTree.{Text, Formula, DeclaredTree, ModuleTree, ProgramTree}
 use Rattle.smv_language.specs.Scope.{Place, Role, a_variable, kind_in}
 use Rattle.smv_language.specs.Trace.{IsInstance, Each}
-use Rattle.fault_instructions.specs.Instructions.{EffectTree, stuck_at, follows, inverted, random, erroneous, frozen, stuck_at_pick, offset}
-use Rattle.fault_instructions.specs.Instructions.{ramp_down, ModeTree, SliceTree, InstructionTree, slices_of}
+use Rattle.fault_instructions.specs.Instructions.{EffectTree, EachArgument, ModeTree, SliceTree, InstructionTree, slices_of}
 use Rattle.fault_instructions.specs.Types.{IsUniform}
 use Rattle.smv_language.specs.Flat.{FlatLeaf, FlatModel}
 use Rattle.smv_flat_laws.specs.NameResolution.{Definition, Resolver, IsSound, IsResolved, has_next}
@@ -37,15 +36,7 @@ module _ (p : ProgramTree) (m : FlatModel) (written : List Definition) (at : Pla
 
   -- what an effect follows at an instance, if it follows something, is good
   abbrev pub IsGoodEffect : EffectTree → Type 0
-  IsGoodEffect (follows e) = IsGoodValue e
-  IsGoodEffect (stuck_at c) = Unit {0}
-  IsGoodEffect inverted = Unit {0}
-  IsGoodEffect random = Unit {0}
-  IsGoodEffect erroneous = Unit {0}
-  IsGoodEffect frozen = Unit {0}
-  IsGoodEffect stuck_at_pick = Unit {0}
-  IsGoodEffect (offset d) = Unit {0}
-  IsGoodEffect (ramp_down d f) = Unit {0}
+  IsGoodEffect e = EachArgument (λ c. Unit {0}) IsGoodValue (λ n. Unit {0}) e
 
   -- a guard, if one is written, is good
   abbrev pub IsGoodGuard : Option Formula → Type 0

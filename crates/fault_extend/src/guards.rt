@@ -261,7 +261,7 @@ fn follows_of(effect: &Effect) -> Option<&Expr<Dotted>>
     ensures { written result ≡ followed (effect_tree effect.now) }
 {
     match effect {
-        Effect::Follows(e) => Some(e),
+        Effect::OfExpression(_, e) => Some(e),
         _ => None,
     }
 }

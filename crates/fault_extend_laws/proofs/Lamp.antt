@@ -6,7 +6,8 @@ use Rattle.smv_language.specs.ProgramTree.{boolean, var, ProgramTree}
 use Rattle.smv_language.specs.Values.{truth}
 use Rattle.fault_instructions.specs.declared.instructions.Dynamics.TheVariants.{Permanent}
 use Rattle.fault_instructions.specs.declared.instructions.Start.TheVariants.{Nominal}
-use Rattle.fault_instructions.specs.Instructions.{stuck_at, ModeTree, InstructionTree}
+use Rattle.fault_instructions.specs.declared.effects.ConstantEffect.TheVariants.{StuckAt}
+use Rattle.fault_instructions.specs.Instructions.{of_constant, ModeTree, InstructionTree}
 use Rattle.smv_language.specs.Flat.{FlatModel}
 use Rattle.smv_flat_laws.specs.Rules.{Rule, no_main, main_has_parameters, double_module, double_name, no_such_module, wrong_count, module_loop, no_such_name, not_a_target, double_assign, define_loop, next_here, input_here, too_many}
 use Rattle.smv_type_laws.specs.ExpressionKinds.{not_boolean}
@@ -18,7 +19,7 @@ abbrev lamp : ProgramTree
 lamp = record { name = codes "main"; formals = []; sections = var (record { name = codes "on"; what = boolean } ∷ []) ∷ [] } ∷ []
 
 abbrev dark : ModeTree
-dark = record { name = codes "dark"; mark = None; dynamics = Permanent; effect = stuck_at (truth false); guard = Some (number (pos 3)) }
+dark = record { name = codes "dark"; mark = None; dynamics = Permanent; effect = of_constant StuckAt (truth false); guard = Some (number (pos 3)) }
 
 abbrev dimmed : InstructionTree
 dimmed = record {

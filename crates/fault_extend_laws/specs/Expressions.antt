@@ -4,8 +4,7 @@ use Rattle.smv_language.specs.Tree.{Tree}
 use Rattle.smv_language.specs.ProgramTree.{Formula, DeclaredTree, ProgramTree}
 use Rattle.smv_language.specs.Scope.{Place}
 use Rattle.smv_language.specs.Trace.{Each}
-use Rattle.fault_instructions.specs.Instructions.{EffectTree, follows, stuck_at, inverted, random, erroneous, frozen, stuck_at_pick, offset}
-use Rattle.fault_instructions.specs.Instructions.{ramp_down, InstructionTree}
+use Rattle.fault_instructions.specs.Instructions.{EffectTree, of_expression, InstructionTree}
 use Rattle.smv_language.specs.Flat.{FlatLeaf, FlatModel}
 use Rattle.smv_flat_laws.specs.Rules.{Rule, number_of}
 use Rattle.smv_flat_laws.specs.ValueRules.{BreaksValue}
@@ -17,15 +16,8 @@ use Rattle.fault_extend_laws.specs.Uses.{Use, uses}
 
 -- what an effect follows
 abbrev pub followed : EffectTree → Option Formula
-followed (follows e) = Some e
-followed (stuck_at c) = None
-followed inverted = None
-followed random = None
-followed erroneous = None
-followed frozen = None
-followed stuck_at_pick = None
-followed (offset d) = None
-followed (ramp_down d f) = None
+followed (of_expression k e) = Some e
+followed _ = None
 
 -- the expression, where there is one, breaks the rule as the value of a DEFINE, which may read inputs or not
 abbrev pub SomeBreaks : ProgramTree → Place → Bool → Option Formula → Rule → Type 0

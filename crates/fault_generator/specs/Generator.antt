@@ -10,7 +10,8 @@ use Rattle.smv_language.specs.ProgramTree.{ProgramTree}
 use Rattle.smv_language.specs.Values.{truth as truth_value}
 use Rattle.fault_instructions.specs.declared.instructions.Start.TheVariants.{Nominal}
 use Rattle.fault_instructions.specs.declared.instructions.Dynamics.TheVariants.{Permanent}
-use Rattle.fault_instructions.specs.Instructions.{stuck_at, ModeTree, SliceTree, ExtensionTree, InstructionTree}
+use Rattle.fault_instructions.specs.declared.effects.ConstantEffect.TheVariants.{StuckAt}
+use Rattle.fault_instructions.specs.Instructions.{of_constant, ModeTree, SliceTree, ExtensionTree, InstructionTree}
 
 -- the number after this one
 abbrev pub next_number : ℕ → ℕ
@@ -88,7 +89,7 @@ generated_model number stages = relay_module ∷ main_module (rails_of number st
 
 -- a relay's output may be stuck at FALSE for good
 abbrev pub off_mode : ModeTree
-off_mode = record { name = codes "off"; mark = None; dynamics = Permanent; effect = stuck_at (truth_value false); guard = None }
+off_mode = record { name = codes "off"; mark = None; dynamics = Permanent; effect = of_constant StuckAt (truth_value false); guard = None }
 
 -- the slice of a relay's output
 abbrev pub relay_slice : SliceTree

@@ -10,7 +10,7 @@ ghost use Rattle.fault_generator.specs.Generator.{relay_slice as slice_of_relay,
 use crate::parts::one;
 use base_values::{Name, OutOfMemory};
 use fault_instructions::{
-    Constant, Dynamics, Effect, Extension, Instructions, ModeRule, Slice, Start,
+    Constant, ConstantEffect, Dynamics, Effect, Extension, Instructions, ModeRule, Slice, Start,
 };
 use std::alloc::Global;
 
@@ -69,7 +69,7 @@ fn off_mode(alloc: Global) -> Result<ModeRule, OutOfMemory>
         name,
         mark: None,
         dynamics: Dynamics::Permanent,
-        effect: Effect::StuckAt(Constant::Truth(false)),
+        effect: Effect::OfConstant(ConstantEffect::StuckAt, Constant::Truth(false)),
         guard: None,
     })
 }

@@ -9,9 +9,9 @@ use Rattle.smv_language.specs.Text.{text_of, declared_text, line, decl_line, def
 use Rattle.smv_language.specs.Trace.{Each}
 use Rattle.smv_language.specs.Lexemes.{Lexeme, word, lexemes_of}
 use Rattle.smv_flat_laws.proofs.Lists.{each_more}
-use Rattle.fault_instructions.specs.Instructions.{EffectTree, stuck_at, ModeTree, SliceTree, ExtensionTree, InstructionTree}
+use Rattle.fault_instructions.specs.Instructions.{EffectTree, EachArgument, ModeTree, SliceTree, ExtensionTree, InstructionTree}
 use Rattle.fault_instructions.specs.InstructionText.{instructions_text, extension_words}
-use Rattle.fault_instructions.specs.SpellsInstructions.{SpellsEffect, e_stuck, e_follows, e_inverted, e_random, e_erroneous, e_frozen, e_pick, e_offset, e_ramp, SpellsGuard, no_guard, a_guard, SpellsMode, a_mode, SpellsSlice, a_slice, SpellsExtension, an_extension, SpellsInstructions, unnamed, named}
+use Rattle.fault_instructions.specs.SpellsInstructions.{no_argument, a_constant, an_expression, a_number, two_numbers, SpellsEffect, an_effect, SpellsGuard, no_guard, a_guard, SpellsMode, a_mode, SpellsSlice, a_slice, SpellsExtension, an_extension, SpellsInstructions, unnamed, named}
 use Rattle.fault_reader.specs.InstructionDepths.{in_effect, in_guard, in_mode, in_slice, in_extension, in_instructions}
 use Rattle.smv_expression_reader.specs.ExpressionDepths.{AreWithin}
 use Rattle.smv_model_reader.specs.ProgramDepths.{HasProgramDepths}
@@ -121,8 +121,7 @@ unfolding extension_words
 instruction_text_short = omega arith
 
 abbrev FollowsNone : EffectTree → Type 0
-FollowsNone (stuck_at v) = Unit {0}
-FollowsNone _ = ⊥
+FollowsNone e = EachArgument (λ c. Unit {0}) (λ f. ⊥) (λ n. Unit {0}) e
 
 abbrev IsNone : {A : Type 0} → Option A → Type 0
 IsNone None = Unit {0}
@@ -138,15 +137,11 @@ abbrev ExtensionHasNone : ExtensionTree → Type 0
 ExtensionHasNone x = Each SliceHasNone x.slices
 
 effect_within : {ts : List Lexeme} {e : EffectTree} (p : SpellsEffect ts e) → FollowsNone e → AreWithin (in_effect p)
-effect_within (e_stuck p) h = tt
-effect_within (e_follows p) h = absurd h
-effect_within e_inverted h = tt
-effect_within e_random h = tt
-effect_within e_erroneous h = tt
-effect_within e_frozen h = tt
-effect_within e_pick h = tt
-effect_within (e_offset p) h = tt
-effect_within (e_ramp p q) h = tt
+effect_within (an_effect no_argument) h = tt
+effect_within (an_effect (a_constant p)) h = tt
+effect_within (an_effect (an_expression p)) h = absurd h
+effect_within (an_effect (a_number p)) h = tt
+effect_within (an_effect (two_numbers p q)) h = tt
 
 guard_within : {ts : List Lexeme} {g : Option Formula} (p : SpellsGuard ts g) → IsNone g → AreWithin (in_guard p)
 guard_within no_guard h = tt

@@ -1,85 +1,156 @@
 -- Each effect's branch and rule sections, and the row of what it allows.
-use Rattle.std.proofs.Common.{◌≡◌, ◌≢◌, ◌↔◌, Bool, true, false, Some, refl, sym, ◌∙◌, ap, subst}
+use Rattle.std.proofs.Common.{◌≡◌, ◌≢◌, ◌↔◌, ℕ, ◌+◌, ◌<◌, Bool, true, false, List, [], ◌∷◌, ◌++◌, length, get_or, drop, Option, Some, refl, sym, ◌∙◌, ap, subst}
 use Rattle.std.specs.Prelude.{ℤ, int_lt, ◌+ℤ◌, ◌-ℤ◌, IsTrue, if◌then◌else◌, codes, ◌||◌, ◌&&◌}
+use Rattle.std.proofs.lemmas.List.{drop_more}
+use Rattle.smv_lexer.specs.Bytes.{is_word_start}
+use Rattle.smv_lexer.specs.Runs.{Runs, takes_word}
+use Rattle.smv_lexer.specs.Tokens.{IsWord}
+use Rattle.smv_language.specs.Texts.{same_text}
 use Rattle.smv_language.specs.declared.expr.Op.TheVariants as op
 use Rattle.smv_language.specs.Tree.{binary, next_of}
 use Rattle.smv_language.specs.ProgramTree.{Text, Path, Formula, DeclaredTree, boolean, range, members, instance}
 use Rattle.smv_language.specs.Values.{Value, truth, number, symbol, Values, one, has, same_value, opposite}
 use Rattle.smv_language.specs.Evaluate.{Leaves, evaluate, gives_choice}
 use Rattle.smv_language.specs.Trace.{in_domain}
-use Rattle.smv_language.proofs.ValueLaws.{same_value_equal, same_value_refl}
-use Rattle.fault_instructions.specs.Instructions.{EffectTree, stuck_at, follows, inverted, random, erroneous, frozen, stuck_at_pick, offset, ramp_down, SliceTree}
+use Rattle.smv_language.proofs.ValueLaws.{same_value_equal, same_value_refl, both_true}
+use Rattle.fault_instructions.specs.declared.effects.PlainEffect.TheVariants.{Inverted, Random, Erroneous, Frozen, StuckAtPick}
+use Rattle.fault_instructions.specs.declared.effects.ConstantEffect.TheVariants.{StuckAt}
+use Rattle.fault_instructions.specs.declared.effects.ExpressionEffect.TheVariants.{Follows}
+use Rattle.fault_instructions.specs.declared.effects.NumberEffect.TheVariants.{Offset}
+use Rattle.fault_instructions.specs.declared.effects.NumbersEffect.TheVariants.{RampDown}
+use Rattle.fault_instructions.specs.declared.effects.EffectKind.{EffectKind}
+use Rattle.fault_instructions.specs.declared.effects.EffectKind.TheVariants as kind
+use Rattle.fault_instructions.specs.declared.effects.EffectRule.{EffectRule}
+use Rattle.fault_instructions.specs.declared.effects.EffectRule.TheVariants.{NotOwn, AsBefore, AsEntered, Falling}
+use Rattle.fault_instructions.specs.Instructions.{EffectTree, plain, of_constant, of_expression, of_number, of_numbers, EachArgument, SliceTree}
+use Rattle.fault_instructions.specs.EffectForms.{Branch, the_constant, the_formula, the_opposite, the_sum, any_value}
+use Rattle.fault_instructions.specs.AllowedEffects.{offset_fits, ramp_fits}
 use Rattle.fault_instructions.specs.AddedNames.{ModeState}
-use Rattle.fault_instructions.specs.Effects.{Allows, clipped, IsOffset, IsRamp, IsInverse}
+use Rattle.fault_instructions.specs.Effects.{keyword, effect_kinds, first_kind, row, branch_of, rule_of, Allows, clipped, IsOffset, IsRamp, IsInverse, IsPick}
 use Rattle.fault_instructions.specs.AddedNames.{own_name}
-use Rattle.fault_instructions.specs.Templates.{named, number_tree, domain_tree, clipped_tree, branch, greater_tree, stands, stands_next, stays_tree, frozen_first, ramp_first}
-use Rattle.fault_instructions.specs.Types.{IsKnown, IsUniform}
+use Rattle.fault_instructions.specs.Templates.{named, number_tree, clipped_tree, branch_tree, greater_tree, stands, stands_next, stays_tree, frozen_first, ramp_first}
+use Rattle.fault_instructions.specs.Types.{IsKnown, IsUniform, IsBoolean, IsRange, Demanded}
 use Rattle.fault_instructions.specs.EffectLaw.{SliceLeaves, stands_at}
 use Rattle.fault_instructions.proofs.TemplateLaws.{one_has, same_state, number_value, domain_values, domain_has, domain_value, constant_gives, compared}
 
--- the part of an effect's row that its branch says
-abbrev pub BranchAllows : EffectTree → (Formula → Value → Type 0) → DeclaredTree → Value → Value → Type 0
-BranchAllows (stuck_at c) gives type own x = x ≡ c
-BranchAllows (follows e) gives type own x = gives e x
-BranchAllows inverted gives type own x = IsInverse own x
-BranchAllows random gives type own x = IsTrue (in_domain type x)
-BranchAllows erroneous gives type own x = IsTrue (in_domain type x)
-BranchAllows frozen gives type own x = IsTrue (in_domain type x)
-BranchAllows stuck_at_pick gives type own x = IsTrue (in_domain type x)
-BranchAllows (offset d) gives type own x = IsOffset type d own x
-BranchAllows (ramp_down d f) gives type own x = IsTrue (in_domain type x)
+-- the read values that a branch leaves
+abbrev pub BranchAllows : Branch → (Formula → Value → Type 0) → DeclaredTree → Value → Value → Type 0
+BranchAllows (the_constant c) gives type own x = x ≡ c
+BranchAllows (the_formula e) gives type own x = gives e x
+BranchAllows the_opposite gives type own x = IsInverse own x
+BranchAllows (the_sum d) gives type own x = IsOffset type d own x
+BranchAllows any_value gives type own x = IsTrue (in_domain type x)
 
--- that its INVAR says
-abbrev pub RuleNow : EffectTree → Value → Value → Type 0
-RuleNow erroneous own x = x ≢ own
-RuleNow (stuck_at c) own x = Unit {0}
-RuleNow (follows e) own x = Unit {0}
-RuleNow inverted own x = Unit {0}
-RuleNow random own x = Unit {0}
-RuleNow frozen own x = Unit {0}
-RuleNow stuck_at_pick own x = Unit {0}
-RuleNow (offset d) own x = Unit {0}
-RuleNow (ramp_down d f) own x = Unit {0}
+-- what a rule's INVAR says
+abbrev pub RuleNow : Option EffectRule → Value → Value → Type 0
+RuleNow (Some NotOwn) own x = x ≢ own
+RuleNow _ own x = Unit {0}
 
--- and that its TRANS says
-abbrev pub RuleStep : EffectTree → Value → Bool → Value → Type 0
-RuleStep frozen before entered x = x ≡ before
-RuleStep stuck_at_pick before entered x = entered ≡ false → x ≡ before
-RuleStep (ramp_down d f) before entered x = IsRamp d f before x
-RuleStep erroneous before entered x = Unit {0}
-RuleStep (stuck_at c) before entered x = Unit {0}
-RuleStep (follows e) before entered x = Unit {0}
-RuleStep inverted before entered x = Unit {0}
-RuleStep random before entered x = Unit {0}
-RuleStep (offset d) before entered x = Unit {0}
+-- and what its TRANS says
+abbrev pub RuleStep : Option EffectRule → Value → Bool → Value → Type 0
+RuleStep (Some AsBefore) before entered x = x ≡ before
+RuleStep (Some AsEntered) before entered x = entered ≡ false → x ≡ before
+RuleStep (Some (Falling d f)) before entered x = IsRamp d f before x
+RuleStep _ before entered x = Unit {0}
 
--- the three together are the row, for a value of the domain
-pub row : (e : EffectTree) (gives : Formula → Value → Type 0) (type : DeclaredTree) (own before : Value) (entered : Bool) (x : Value) → IsTrue (in_domain type x) →
-    Allows e gives type own before entered x ↔ (BranchAllows e gives type own x × RuleNow e own x × RuleStep e before entered x)
-row (stuck_at c) gives type own before entered x d = ((λ h. (h, tt, tt)), (λ h. h.0))
-row (follows e) gives type own before entered x d = ((λ h. (h, tt, tt)), (λ h. h.0))
-row inverted gives type own before entered x d = ((λ h. (h, tt, tt)), (λ h. h.0))
-row random gives type own before entered x d = ((λ h. (h, tt, tt)), (λ h. h.0))
-row erroneous gives type own before entered x d = ((λ h. (h.0, h.1, tt)), (λ h. (h.0, h.1)))
-row frozen gives type own before entered x d = ((λ h. (d, tt, h)), (λ h. h.2))
-row stuck_at_pick gives type own before true x d = ((λ h. (h, tt, λ e. cc)), (λ h. h.0))
-row stuck_at_pick gives type own before false x d = ((λ h. (d, tt, λ e. h)), (λ h. h.2 refl))
-row (offset n) gives type own before entered x d = ((λ h. (h, tt, tt)), (λ h. h.0))
-row (ramp_down n f) gives type own before entered x d = ((λ h. (d, tt, h)), (λ h. h.2))
+-- what a branch asks of a type, given what is known of a constant, of truth values and of a range; a formula is judged apart
+abbrev pub BranchAsks : (Value → Type 0) → Type 0 → ((ℤ → ℤ → Bool) → Type 0) → Branch → Type 0
+BranchAsks V B R (the_constant c) = V c
+BranchAsks V B R the_opposite = B
+BranchAsks V B R (the_sum d) = R (offset_fits d)
+BranchAsks V B R _ = Unit {0}
 
--- the effect may stand at a variable of the type; a Follows is judged apart
-abbrev pub Fits : EffectTree → DeclaredTree → Type 0
-Fits (stuck_at c) type = IsTrue (in_domain type c)
-Fits inverted boolean = Unit {0}
-Fits inverted _ = ⊥
-Fits (offset d) (range lo hi) = Unit {0}
-Fits (offset d) _ = ⊥
-Fits (follows e) type = ⊥
-Fits random type = Unit {0}
-Fits erroneous type = Unit {0}
-Fits frozen type = Unit {0}
-Fits stuck_at_pick type = Unit {0}
-Fits (ramp_down d f) type = Unit {0}
+-- and what a rule asks
+abbrev pub RuleAsks : ((ℤ → ℤ → Bool) → Type 0) → Option EffectRule → Type 0
+RuleAsks R (Some (Falling d f)) = R (ramp_fits d f)
+RuleAsks R _ = Unit {0}
+
+-- the arguments in a branch
+abbrev pub BranchHolds : (Value → Type 0) → (Formula → Type 0) → (ℤ → Type 0) → Branch → Type 0
+BranchHolds V F N (the_constant c) = V c
+BranchHolds V F N (the_formula e) = F e
+BranchHolds V F N (the_sum d) = N d
+BranchHolds V F N _ = Unit {0}
+
+-- and in a rule
+abbrev pub NumbersHold : (ℤ → Type 0) → Option EffectRule → Type 0
+NumbersHold N (Some (Falling d f)) = N d × N f
+NumbersHold N _ = Unit {0}
+
+-- The law of a row: the branch and the rule leave the values that the effect allows, their arguments are the effect's, and
+-- what they ask of a type is demanded.
+pub record RowLaw (e : EffectTree) : Type 1 where
+  pub allows : (gives : Formula → Value → Type 0) (type : DeclaredTree) (own before : Value) (entered : Bool) (x : Value) → IsTrue (in_domain type x) →
+      Allows e gives type own before entered x ↔ (BranchAllows (branch_of e) gives type own x × RuleNow (rule_of e) own x × RuleStep (rule_of e) before entered x)
+  pub asks : (V : Value → Type 0) (B : Type 0) (R : (ℤ → ℤ → Bool) → Type 0) → Demanded V B R (row e).demand → BranchAsks V B R (branch_of e) × RuleAsks R (rule_of e)
+  pub holds : (V : Value → Type 0) (F : Formula → Type 0) (N : ℤ → Type 0) → EachArgument V F N e → BranchHolds V F N (branch_of e) × NumbersHold N (rule_of e)
+
+-- a value picked where the mode is entered
+picked : (type : DeclaredTree) (before : Value) (entered : Bool) (x : Value) → IsTrue (in_domain type x) →
+    IsPick type entered before x ↔ (IsTrue (in_domain type x) × Unit {0} × (entered ≡ false → x ≡ before))
+picked type before true x d = ((λ h. (h, tt, λ e. cc)), (λ h. h.0))
+picked type before false x d = ((λ h. (d, tt, λ e. h)), (λ h. h.2 refl))
+
+pub row_law : (e : EffectTree) → RowLaw e
+row_law (of_constant StuckAt c) = record { allows = λ g t o b n x d. ((λ h. (h, tt, tt)), (λ h. h.0)); asks = λ V B R h. (h, tt); holds = λ V F N h. (h, tt) }
+row_law (of_expression Follows e) = record { allows = λ g t o b n x d. ((λ h. (h, tt, tt)), (λ h. h.0)); asks = λ V B R h. (tt, tt); holds = λ V F N h. (h, tt) }
+row_law (plain Inverted) = record { allows = λ g t o b n x d. ((λ h. (h, tt, tt)), (λ h. h.0)); asks = λ V B R h. (h, tt); holds = λ V F N h. (tt, tt) }
+row_law (plain Random) = record { allows = λ g t o b n x d. ((λ h. (h, tt, tt)), (λ h. h.0)); asks = λ V B R h. (tt, tt); holds = λ V F N h. (tt, tt) }
+row_law (plain Erroneous) = record { allows = λ g t o b n x d. ((λ h. (h.0, h.1, tt)), (λ h. (h.0, h.1))); asks = λ V B R h. (tt, tt); holds = λ V F N h. (tt, tt) }
+row_law (plain Frozen) = record { allows = λ g t o b n x d. ((λ h. (d, tt, h)), (λ h. h.2)); asks = λ V B R h. (tt, tt); holds = λ V F N h. (tt, tt) }
+row_law (plain StuckAtPick) = record { allows = λ g t o b n x d. picked t b n x d; asks = λ V B R h. (tt, tt); holds = λ V F N h. (tt, tt) }
+row_law (of_number Offset d) = record { allows = λ g t o b n x i. ((λ h. (h, tt, tt)), (λ h. h.0)); asks = λ V B R h. (h, tt); holds = λ V F N h. (h, tt) }
+row_law (of_numbers RampDown d f) = record { allows = λ g t o b n x i. ((λ h. (i, tt, h)), (λ h. h.2)); asks = λ V B R h. (tt, h); holds = λ V F N h. (tt, h) }
+
+-- what passes a test on words is one
+abbrev all_taken : Text → Bool
+all_taken [] = true
+all_taken (b ∷ bs) = takes_word (b ∷ (bs ++ [])) && all_taken bs
+
+abbrev is_text_of_word : Text → Bool
+is_text_of_word [] = false
+is_text_of_word (b ∷ bs) = is_word_start b && all_taken bs
+
+all_run : (bs : Text) → all_taken bs ≡ true → Runs takes_word bs []
+all_run [] h = tt
+all_run (b ∷ bs) h = let both = both_true (takes_word (b ∷ (bs ++ []))) (all_taken bs) h in (both.0, all_run bs both.1)
+
+text_of_word : (x : Text) → is_text_of_word x ≡ true → IsWord x []
+text_of_word [] h = cc
+text_of_word (b ∷ bs) h = let both = both_true (is_word_start b) (all_taken bs) h in (both.0, all_run bs both.1)
+
+-- the law of a word: it is one, and finds its effect
+word_law : (k : EffectKind) → (is_text_of_word (keyword k) ≡ true) × (first_kind (same_text (keyword k)) effect_kinds ≡ Some k)
+unfolding effect_kinds
+word_law (kind.OfConstant StuckAt) = (refl, refl)
+word_law (kind.OfExpression Follows) = (refl, refl)
+word_law (kind.Plain Inverted) = (refl, refl)
+word_law (kind.Plain Random) = (refl, refl)
+word_law (kind.Plain Erroneous) = (refl, refl)
+word_law (kind.Plain Frozen) = (refl, refl)
+word_law (kind.Plain StuckAtPick) = (refl, refl)
+word_law (kind.OfNumber Offset) = (refl, refl)
+word_law (kind.OfNumbers RampDown) = (refl, refl)
+
+pub keyword_word : (k : EffectKind) → IsWord (keyword k) []
+keyword_word k = text_of_word (keyword k) (word_law k).0
+
+pub keyword_finds : (k : EffectKind) → first_kind (same_text (keyword k)) effect_kinds ≡ Some k
+keyword_finds k = (word_law k).1
+
+-- the word of what is found passes
+pub found_passes : (passes : Text → Bool) (ks : List EffectKind) (k : EffectKind) → first_kind passes ks ≡ Some k → passes (keyword k) ≡ true
+found_passes passes [] k h = cc
+found_passes passes (j ∷ ks) k h = go (passes (keyword j)) refl h (found_passes passes ks k)
+  where
+    go : (b : Bool) → passes (keyword j) ≡ b → (if b then Some j else first_kind passes ks) ≡ Some k → (first_kind passes ks ≡ Some k → passes (keyword k) ≡ true) → passes (keyword k) ≡ true
+    go true e h more = let same : j ≡ k = cc in subst (λ i. passes (keyword i) ≡ true) same e
+    go false e h more = more h
+
+-- those of which some were tried
+pub kinds_more : (passes : Text → Bool) (ks : List EffectKind) (i : ℕ) (d : EffectKind) → i < length ks →
+    first_kind passes (drop i ks) ≡ (if passes (keyword (get_or ks i d)) then Some (get_or ks i d) else first_kind passes (drop (i + 1) ks))
+kinds_more passes ks i d h = ap (first_kind passes) (drop_more ks i d h)
 
 clipped_value : (now next : Leaves Path) (e : Formula) (z lo hi : ℤ) → evaluate now next e ≡ Some (one (number z)) →
     evaluate now next (clipped_tree (range lo hi) e) ≡ Some (one (number (clipped lo hi z)))
@@ -100,47 +171,37 @@ greater_value now next e z f h = rw (h, number_value now next f) (go (int_lt f z
     go false = refl
 
 module _ (s : SliceTree) (type : DeclaredTree) (now next : Leaves Path) (read own : Value) (st : ModeState) (l : SliceLeaves s type now read own st) (gives : Formula → Value → Type 0) where
-  abbrev BranchGives : EffectTree → Type 0
-  BranchGives e = (vs : Values) × (evaluate now next (branch e type s.target) ≡ Some vs) × ((x : Value) → IsTrue (has vs x) ↔ BranchAllows e gives type own x)
+  abbrev BranchGives : Branch → Type 0
+  BranchGives b = (vs : Values) × (evaluate now next (branch_tree b type s.target) ≡ Some vs) × ((x : Value) → IsTrue (has vs x) ↔ BranchAllows b gives type own x)
 
-  any_of_domain : (vs : Values) × (evaluate now next (domain_tree type) ≡ Some vs) × ((x : Value) → IsTrue (has vs x) ↔ IsTrue (in_domain type x))
-  any_of_domain = (
-    domain_values type,
-    domain_value now next type l.type_leaves,
-    λ x. ((λ h. sym (domain_has type x) ∙ h), (λ h. domain_has type x ∙ h)),
-  )
+  inverse : (t : DeclaredTree) (o : Value) → own ≡ o → IsBoolean t → IsTrue (in_domain t o) → BranchGives the_opposite
+  inverse boolean (truth b) e f h = (one (truth (opposite b)), rw (l.own_leaf, e) refl, λ x. rw e (one_has (truth (opposite b)) x))
+  inverse boolean (number n) e f h = cc
+  inverse boolean (symbol y) e f h = cc
+  inverse (range lo hi) o e f h = absurd f
+  inverse (members ms) o e f h = absurd f
+  inverse (instance m es) o e f h = absurd f
 
-  inverse : (o : Value) → own ≡ o → IsTrue (in_domain boolean o) → BranchGives inverted
-  inverse (truth b) e h = (one (truth (opposite b)), rw (l.own_leaf, e) refl, λ x. rw e (one_has (truth (opposite b)) x))
-  inverse (number n) e h = cc
-  inverse (symbol y) e h = cc
-
-  clip : (d lo hi : ℤ) (o : Value) → type ≡ range lo hi → own ≡ o → IsTrue (in_domain (range lo hi) o) → BranchGives (offset d)
-  clip d lo hi (number n) et e h =
+  clip : (d : ℤ) (t : DeclaredTree) (o : Value) → type ≡ t → own ≡ o → IsRange t → IsTrue (in_domain t o) → BranchGives (the_sum d)
+  clip d (range lo hi) (number n) et e f h =
       let inner : evaluate now next (binary op.Plus (named (own_name s.target)) (number_tree d)) ≡ Some (one (number (n +ℤ d))) = rw (l.own_leaf, e, number_value now next d) refl in (
         one (number (clipped lo hi (n +ℤ d))),
         rw et (clipped_value now next (binary op.Plus (named (own_name s.target)) (number_tree d)) (n +ℤ d) lo hi inner),
         λ x. rw (et, e) (one_has (number (clipped lo hi (n +ℤ d))) x),
       )
-  clip d lo hi (truth b) et e h = cc
-  clip d lo hi (symbol y) et e h = cc
+  clip d (range lo hi) (truth b) et e f h = cc
+  clip d (range lo hi) (symbol y) et e f h = cc
+  clip d boolean o et e f h = absurd f
+  clip d (members ms) o et e f h = absurd f
+  clip d (instance m es) o et e f h = absurd f
 
-  pub branch_gives : (e : EffectTree) (t : DeclaredTree) → type ≡ t → Fits e t → IsTrue (in_domain t own) → BranchGives e
-  branch_gives (stuck_at c) t et f h = (one c, constant_gives now next type c (subst (λ u. IsTrue (in_domain u c)) (sym et) f) l.type_leaves, λ x. one_has c x)
-  branch_gives (follows e) t et f h = absurd f
-  branch_gives inverted boolean et f h = inverse own refl h
-  branch_gives inverted (range lo hi) et f h = absurd f
-  branch_gives inverted (members ms) et f h = absurd f
-  branch_gives inverted (instance m es) et f h = absurd f
-  branch_gives random t et f h = (any_of_domain.0, any_of_domain.1, λ x. any_of_domain.2 x)
-  branch_gives erroneous t et f h = (any_of_domain.0, any_of_domain.1, λ x. any_of_domain.2 x)
-  branch_gives frozen t et f h = (any_of_domain.0, any_of_domain.1, λ x. any_of_domain.2 x)
-  branch_gives stuck_at_pick t et f h = (any_of_domain.0, any_of_domain.1, λ x. any_of_domain.2 x)
-  branch_gives (offset d) boolean et f h = absurd f
-  branch_gives (offset d) (range lo hi) et f h = clip d lo hi own et refl h
-  branch_gives (offset d) (members ms) et f h = absurd f
-  branch_gives (offset d) (instance m es) et f h = absurd f
-  branch_gives (ramp_down d n) t et f h = (any_of_domain.0, any_of_domain.1, λ x. any_of_domain.2 x)
+  -- each branch but a formula, which is judged apart
+  pub branch_gives : (b : Branch) → BranchAsks (λ c. IsTrue (in_domain type c)) (IsBoolean type) (λ passes. IsRange type) b → ((e : Formula) → b ≢ the_formula e) → IsTrue (in_domain type own) → BranchGives b
+  branch_gives (the_constant c) f other h = (one c, constant_gives now next type c f l.type_leaves, λ x. one_has c x)
+  branch_gives (the_formula e) f other h = absurd (other e refl)
+  branch_gives the_opposite f other h = inverse type own refl f h
+  branch_gives (the_sum d) f other h = clip d type own refl refl f h
+  branch_gives any_value f other h = (domain_values type, domain_value now next type l.type_leaves, λ x. ((λ h. sym (domain_has type x) ∙ h), (λ h. domain_has type x ∙ h)))
 
 -- the test of a mode
 module _ (s : SliceTree) (type : DeclaredTree) (now next : Leaves Path) (read own : Value) (st : ModeState) (l : SliceLeaves s type now read own st) where

@@ -8,11 +8,14 @@ use Rattle.smv_language.specs.Evaluate.{Leaves, evaluate}
 use Rattle.smv_language.specs.Tree.{binary, negate, number as a_number}
 use Rattle.smv_language.specs.declared.expr.Op.TheVariants as op
 use Rattle.smv_language.specs.Values.{truth, number, symbol, one}
-use Rattle.fault_instructions.specs.Instructions.{stuck_at, erroneous, frozen, offset, ramp_down}
+use Rattle.fault_instructions.specs.declared.effects.PlainEffect.TheVariants.{Erroneous, Frozen}
+use Rattle.fault_instructions.specs.declared.effects.ConstantEffect.TheVariants.{StuckAt}
+use Rattle.fault_instructions.specs.declared.effects.NumberEffect.TheVariants.{Offset}
+use Rattle.fault_instructions.specs.declared.effects.NumbersEffect.TheVariants.{RampDown}
+use Rattle.fault_instructions.specs.Instructions.{plain, of_constant, of_number, of_numbers}
 use Rattle.fault_instructions.specs.AddedNames.{own_name, mode_symbol}
-use Rattle.fault_instructions.specs.Effects.{clipped}
+use Rattle.fault_instructions.specs.Effects.{clipped, fault_of}
 use Rattle.fault_instructions.specs.Templates.{number_tree, branch, ramp_rule, ramp_first}
-use Rattle.fault_instructions.specs.AllowedEffects.{fault_of}
 use Rattle.fault_instructions.specs.declared.fault.EffectFault.TheVariants.{WrongKind, Outside, OneValueOnly}
 
 -- 7 and 5 more, clipped to 0..9
@@ -30,24 +33,24 @@ symbol_of_wild : mode_symbol (codes "Eye") (Some (codes "wild")) ≡ codes "Eye#
 symbol_of_wild = refl
 
 -- 3..3 has one value alone; 4 is not in 0..3; a step of 0 is no step
-one_value : fault_of erroneous (range (pos 3) (pos 3)) ≡ Some OneValueOnly
+one_value : fault_of (plain Erroneous) (range (pos 3) (pos 3)) ≡ Some OneValueOnly
 one_value = refl
 
-above_range : fault_of (stuck_at (number (pos 4))) (range (pos 0) (pos 3)) ≡ Some Outside
+above_range : fault_of (of_constant StuckAt (number (pos 4))) (range (pos 0) (pos 3)) ≡ Some Outside
 above_range = refl
 
-no_step : fault_of (ramp_down (pos 0) (pos 0)) (range (pos 0) (pos 3)) ≡ Some Outside
+no_step : fault_of (of_numbers RampDown (pos 0) (pos 0)) (range (pos 0) (pos 3)) ≡ Some Outside
 no_step = refl
 
 -- hi + d is above 32 bits
-sum_too_great : fault_of (offset (pos 2147483647)) (range (pos 1) (pos 2)) ≡ Some Outside
+sum_too_great : fault_of (of_number Offset (pos 2147483647)) (range (pos 1) (pos 2)) ≡ Some Outside
 sum_too_great = refl
 
 -- an enumeration has the kind of its first member
-number_for_symbol : fault_of (stuck_at (number (pos 1))) (members (member.Symbol (codes "red") ∷ member.Number (pos 1) ∷ [])) ≡ Some WrongKind
+number_for_symbol : fault_of (of_constant StuckAt (number (pos 1))) (members (member.Symbol (codes "red") ∷ member.Number (pos 1) ∷ [])) ≡ Some WrongKind
 number_for_symbol = refl
 
-frozen_truth : fault_of frozen boolean ≡ None
+frozen_truth : fault_of (plain Frozen) boolean ≡ None
 frozen_truth = refl
 
 -- the own value of x is this number
@@ -56,10 +59,10 @@ own_is n [] = None
 own_is n (name ∷ path) = if same_text name (codes "x#nominal") then Some (one (number (pos n))) else None
 
 -- under Offset(5) on 0..9 the own value 7 reads 9, and 2 reads 7
-seven_reads_nine : evaluate (own_is 7) (own_is 7) (branch (offset (pos 5)) (range (pos 0) (pos 9)) (codes "x")) ≡ Some (one (number (pos 9)))
+seven_reads_nine : evaluate (own_is 7) (own_is 7) (branch (of_number Offset (pos 5)) (range (pos 0) (pos 9)) (codes "x")) ≡ Some (one (number (pos 9)))
 seven_reads_nine = refl
 
-two_reads_seven : evaluate (own_is 2) (own_is 2) (branch (offset (pos 5)) (range (pos 0) (pos 9)) (codes "x")) ≡ Some (one (number (pos 7)))
+two_reads_seven : evaluate (own_is 2) (own_is 2) (branch (of_number Offset (pos 5)) (range (pos 0) (pos 9)) (codes "x")) ≡ Some (one (number (pos 7)))
 two_reads_seven = refl
 
 -- x reads this number, and the mode m of the slice S stands

@@ -21,9 +21,11 @@ use Rattle.fault_instructions.specs.declared.instructions.Dynamics.{Dynamics}
 use Rattle.fault_instructions.specs.declared.instructions.Dynamics.TheVariants.{Permanent, Transient}
 use Rattle.fault_instructions.specs.declared.instructions.Start.{Start}
 use Rattle.fault_instructions.specs.declared.instructions.Start.TheVariants.{Nominal, Any}
-use Rattle.fault_instructions.specs.Instructions.{EffectTree, stuck_at, follows, inverted, random, erroneous, frozen, stuck_at_pick, offset, ramp_down, ModeTree, SliceTree, ExtensionTree, InstructionTree}
-use Rattle.fault_instructions.specs.SpellsInstructions.{SpellsConst, const_true, const_false, const_int, const_name, SpellsEffect, e_stuck, e_follows, e_inverted, e_random, e_erroneous, e_frozen, e_pick, e_offset, e_ramp, SpellsDynamics, d_permanent, d_transient, SpellsGuard, no_guard, a_guard, IsTokenText, number_text, word_text, sign_of, SpellsMark, no_mark, a_mark, SpellsMode, a_mode, SpellsStart, at_nominal, at_any, SpellsSlice, a_slice, SpellsExtension, an_extension, SpellsInstructions, unnamed, named, BytesSpellInstructions}
-use Rattle.fault_instructions.specs.InstructionText.{effect_text, dynamics_text, mark_text, guard_text, mode_head, mode_line, start_text, slice_text, extension_text, extension_words, file_words, name_line, instructions_text}
+use Rattle.fault_instructions.specs.Effects.{keyword}
+use Rattle.fault_instructions.proofs.EffectRows.{keyword_word}
+use Rattle.fault_instructions.specs.Instructions.{EffectTree, plain, of_constant, of_expression, of_number, of_numbers, kind_of, ModeTree, SliceTree, ExtensionTree, InstructionTree}
+use Rattle.fault_instructions.specs.SpellsInstructions.{SpellsConst, const_true, const_false, const_int, const_name, SpellsArguments, no_argument, a_constant, an_expression, a_number, two_numbers, SpellsEffect, an_effect, SpellsDynamics, d_permanent, d_transient, SpellsGuard, no_guard, a_guard, IsTokenText, number_text, word_text, sign_of, SpellsMark, no_mark, a_mark, SpellsMode, a_mode, SpellsStart, at_nominal, at_any, SpellsSlice, a_slice, SpellsExtension, an_extension, SpellsInstructions, unnamed, named, BytesSpellInstructions}
+use Rattle.fault_instructions.specs.InstructionText.{arguments_text, effect_text, dynamics_text, mark_text, guard_text, mode_head, mode_line, start_text, slice_text, extension_text, extension_words, file_words, name_line, instructions_text}
 use Rattle.fault_instructions.specs.WritableInstructions.{IsInner, IsMarkText, IsWritableConstant, IsWritableEffect, IsWritableMark, IsWritableGuard, IsWritableMode, IsWritableSlice, IsWritableExtension, IsWritableInstructions}
 
 -- a blank before, and a word with a blank or a line's end behind it
@@ -109,40 +111,41 @@ constant_spelled (truth false) rest h e = (word (codes "FALSE") ∷ [], is_word 
 constant_spelled (number n) rest h e = (printed_int n, int_reads n rest h e, const_int (int_spells n))
 constant_spelled (symbol x) rest h e = (word x ∷ [], is_word x rest h.1 e, const_name h.0)
 
--- a word with something in parentheses
-bracketed : (w text rest : Text) (ls : List Lexeme) → IsWord w [] → Reads text (codes ")" ++ rest) ls → Reads (w ++ (codes "(" ++ (text ++ codes ")"))) rest (word w ∷ in_brackets ls)
-bracketed w text rest ls h r = then w (codes "(" ++ (text ++ codes ")")) rest (word w ∷ []) (in_brackets ls) (is_word w ((codes "(" ++ (text ++ codes ")")) ++ rest) h (at_open _)) (brackets_read text rest ls r)
-
-effect_spelled : (x : EffectTree) (rest : Text) → IsWritableEffect x → Ends rest → Spelled SpellsEffect (effect_text x) rest x
-effect_spelled (stuck_at c) rest h e =
+arguments_spelled : (x : EffectTree) (rest : Text) → IsWritableEffect x → Ends rest → Spelled SpellsArguments (arguments_text x) rest x
+arguments_spelled (plain k) rest h e = ([], nothing rest, no_argument)
+arguments_spelled (of_constant k c) rest h e =
     let inside = constant_spelled c (codes ")" ++ rest) h (at_close rest) in
-    (word (codes "StuckAt") ∷ in_brackets inside.0, bracketed (codes "StuckAt") (value_text c) rest inside.0 (refl, (refl, (refl, (refl, (refl, (refl, (refl, tt))))))) inside.1, e_stuck inside.2)
-effect_spelled (follows f) rest h e = (
-  word (codes "Follows") ∷ in_brackets (printed f),
-  bracketed (codes "Follows") (text_of f) rest (printed f) (refl, (refl, (refl, (refl, (refl, (refl, (refl, tt))))))) (text_reads f (codes ")" ++ rest) h (at_close rest)),
-  e_follows (an_expr (printed_spells f h)),
-)
-effect_spelled (offset d) rest h e = (
-  word (codes "Offset") ∷ in_brackets (printed_int d),
-  bracketed (codes "Offset") (signed_decimal d) rest (printed_int d) (refl, (refl, (refl, (refl, (refl, (refl, tt)))))) (int_reads d (codes ")" ++ rest) h (at_close rest)),
-  e_offset (int_spells d),
-)
-effect_spelled (ramp_down d f) rest h e = (
-  word (codes "RampDown") ∷ sign k.Open ∷ (printed_int d ++ sign k.Comma ∷ (printed_int f ++ sign k.Close ∷ [])),
-  as_lexemes _ rest _ _ (ap (λ z. word (codes "RampDown") ∷ sign k.Open ∷ z) (append_assoc (printed_int d) (sign k.Comma ∷ printed_int f) (sign k.Close ∷ [])))
-      (subst (λ z. Reads (codes "RampDown(" ++ z) rest (word (codes "RampDown") ∷ in_brackets (printed_int d ++ sign k.Comma ∷ printed_int f))) (append_assoc (signed_decimal d) (codes ", " ++ signed_decimal f) (codes ")"))
-      (bracketed (codes "RampDown") (signed_decimal d ++ (codes ", " ++ signed_decimal f)) rest (printed_int d ++ sign k.Comma ∷ printed_int f) (refl, (refl, (refl, (refl, (refl, (refl, (refl, (refl, tt))))))))
+    (in_brackets inside.0, brackets_read (value_text c) rest inside.0 inside.1, a_constant inside.2)
+arguments_spelled (of_expression k f) rest h e =
+    (in_brackets (printed f), brackets_read (text_of f) rest (printed f) (text_reads f (codes ")" ++ rest) h (at_close rest)), an_expression (an_expr (printed_spells f h)))
+arguments_spelled (of_number k n) rest h e =
+    (in_brackets (printed_int n), brackets_read (signed_decimal n) rest (printed_int n) (int_reads n (codes ")" ++ rest) h (at_close rest)), a_number (int_spells n))
+arguments_spelled (of_numbers k' d f) rest h e = (
+  sign k.Open ∷ (printed_int d ++ sign k.Comma ∷ (printed_int f ++ sign k.Close ∷ [])),
+  as_lexemes _ rest _ _ (ap (λ z. sign k.Open ∷ z) (append_assoc (printed_int d) (sign k.Comma ∷ printed_int f) (sign k.Close ∷ [])))
+      (subst (λ z. Reads (codes "(" ++ z) rest (in_brackets (printed_int d ++ sign k.Comma ∷ printed_int f))) (append_assoc (signed_decimal d) (codes ", " ++ signed_decimal f) (codes ")"))
+      (brackets_read (signed_decimal d ++ (codes ", " ++ signed_decimal f)) rest (printed_int d ++ sign k.Comma ∷ printed_int f)
       (then (signed_decimal d) (codes ", " ++ signed_decimal f) (codes ")" ++ rest) (printed_int d) (sign k.Comma ∷ printed_int f) (int_reads d _ h.0 (at_comma _))
       (then (codes ",") (codes " " ++ signed_decimal f) (codes ")" ++ rest) (sign k.Comma ∷ []) (printed_int f) (is_comma _)
       (indented (signed_decimal f) (codes ")" ++ rest) (printed_int f) (int_reads f (codes ")" ++ rest) h.1 (at_close rest))))))),
-  e_ramp (int_spells d) (int_spells f),
+  two_numbers (int_spells d) (int_spells f),
 )
-effect_spelled inverted rest h e = (word (codes "Inverted") ∷ [], is_word (codes "Inverted") rest (refl, (refl, (refl, (refl, (refl, (refl, (refl, (refl, tt)))))))) e, e_inverted)
-effect_spelled random rest h e = (word (codes "Random") ∷ [], is_word (codes "Random") rest (refl, (refl, (refl, (refl, (refl, (refl, tt)))))) e, e_random)
-effect_spelled erroneous rest h e = (word (codes "Erroneous") ∷ [], is_word (codes "Erroneous") rest (refl, (refl, (refl, (refl, (refl, (refl, (refl, (refl, (refl, tt))))))))) e, e_erroneous)
-effect_spelled frozen rest h e = (word (codes "Frozen") ∷ [], is_word (codes "Frozen") rest (refl, (refl, (refl, (refl, (refl, (refl, tt)))))) e, e_frozen)
-effect_spelled stuck_at_pick rest h e =
-    (word (codes "StuckAtPick") ∷ [], is_word (codes "StuckAtPick") rest (refl, (refl, (refl, (refl, (refl, (refl, (refl, (refl, (refl, (refl, (refl, tt))))))))))) e, e_pick)
+
+before_arguments : (x : EffectTree) (rest : Text) → Ends rest → Ends (arguments_text x ++ rest)
+before_arguments (plain k) rest e = e
+before_arguments (of_constant k c) rest e = at_open _
+before_arguments (of_expression k f) rest e = at_open _
+before_arguments (of_number k n) rest e = at_open _
+before_arguments (of_numbers k m n) rest e = at_open _
+
+effect_spelled : (x : EffectTree) (rest : Text) → IsWritableEffect x → Ends rest → Spelled SpellsEffect (effect_text x) rest x
+effect_spelled x rest h e =
+    let w = keyword (kind_of x) in
+    let inside = arguments_spelled x rest h e in (
+      word w ∷ inside.0,
+      then w (arguments_text x) rest (word w ∷ []) inside.0 (is_word w (arguments_text x ++ rest) (keyword_word (kind_of x)) (before_arguments x rest e)) inside.1,
+      an_effect inside.2,
+    )
 
 dynamics_spelled : (d : Dynamics) (more rest : Text) (ls : List Lexeme) → Reads more rest ls → (ds : List Lexeme) × Reads (dynamics_text d ++ more) rest (ds ++ ls) × SpellsDynamics ds d
 dynamics_spelled Permanent more rest ls r = (word (codes "Permanent") ∷ [], worded (codes "Permanent") more rest ls (refl, (refl, (refl, (refl, (refl, (refl, (refl, (refl, (refl, tt))))))))) r, d_permanent)

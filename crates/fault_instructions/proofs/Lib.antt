@@ -1,10 +1,10 @@
+pub mod EffectRows
 pub mod InstructionSpells
 pub mod OneInstructions
 pub mod SpelledInstructions
 pub mod AddedNameLaws
 pub mod Equivalence
 pub mod TemplateLaws
-pub mod EffectRows
 pub mod EffectRowLaw
 pub mod AllowedLaws
 pub mod Examples

@@ -1,6 +1,6 @@
 -- No tokens spell two lists of instructions.
-use Rattle.std.proofs.Common.{◌≡◌, ℕ, true, false, List, [], ◌∷◌, ◌++◌, refl, sym, ◌∙◌, ap, subst, arith, append_assoc}
-use Rattle.std.specs.Prelude.{codes, if◌then◌else◌}
+use Rattle.std.proofs.Common.{◌≡◌, true, false, List, [], ◌∷◌, ◌++◌, Some, refl, sym, ◌∙◌, ap, subst, append_assoc}
+use Rattle.std.specs.Prelude.{codes}
 use Rattle.smv_lexer.specs.declared.token.TokenKind.TheVariants as k
 use Rattle.smv_lexer.specs.Tokens.{sign_text}
 use Rattle.smv_language.specs.ProgramTree.{Text}
@@ -12,8 +12,11 @@ use Rattle.smv_language.specs.SpellsProgram.{SpellsMany, no_more, one_more}
 use Rattle.smv_language.proofs.Ends.{end_of_bracket}
 use Rattle.smv_language.proofs.OneTree.{Same, not_reserved, one_int, regrouped, second, tails}
 use Rattle.smv_language.proofs.OneParts.{OneBefore, Any, Nothing, Semicolon, semicolon_stops, one_expr, one_many, words_differ, Braced}
-use Rattle.fault_instructions.specs.Instructions.{EffectTree, ModeTree, SliceTree, ExtensionTree, InstructionTree}
-use Rattle.fault_instructions.specs.SpellsInstructions.{SpellsConst, const_true, const_false, const_int, const_name, SpellsEffect, e_stuck, e_follows, e_inverted, e_random, e_erroneous, e_frozen, e_pick, e_offset, e_ramp, SpellsDynamics, d_permanent, d_transient, SpellsGuard, no_guard, a_guard, IsTokenText, number_text, word_text, sign_of, SpellsMark, no_mark, a_mark, SpellsMode, a_mode, SpellsStart, at_nominal, at_any, SpellsSlice, a_slice, SpellsExtension, an_extension, SpellsInstructions, unnamed, named}
+use Rattle.fault_instructions.specs.declared.effects.EffectKind.{EffectKind}
+use Rattle.fault_instructions.specs.Effects.{keyword, effect_kinds, first_kind}
+use Rattle.fault_instructions.proofs.EffectRows.{keyword_finds}
+use Rattle.fault_instructions.specs.Instructions.{EffectTree, plain, kind_of, ModeTree, SliceTree, ExtensionTree, InstructionTree}
+use Rattle.fault_instructions.specs.SpellsInstructions.{SpellsConst, const_true, const_false, const_int, const_name, SpellsArguments, no_argument, a_constant, an_expression, a_number, two_numbers, SpellsEffect, an_effect, SpellsDynamics, d_permanent, d_transient, SpellsGuard, no_guard, a_guard, IsTokenText, number_text, word_text, sign_of, SpellsMark, no_mark, a_mark, SpellsMode, a_mode, SpellsStart, at_nominal, at_any, SpellsSlice, a_slice, SpellsExtension, an_extension, SpellsInstructions, unnamed, named}
 
 -- Effects.
 
@@ -43,75 +46,45 @@ one_const xs ys a b r s (const_name n) (const_int minus_int) e u v = cc
 one_const xs ys a b r s (const_name {x = x} n) (const_name {x = y} m) e u v =
     let h : x ≡ y = cc in let t : r ≡ s = cc in (rw h refl, rw h refl, t)
 
--- a number for each effect, by its word
-abbrev kind_of : {ts : List Lexeme} {e : EffectTree} → SpellsEffect ts e → ℕ
-kind_of (e_stuck p) = 1
-kind_of (e_follows p) = 2
-kind_of e_inverted = 3
-kind_of e_random = 4
-kind_of e_erroneous = 5
-kind_of e_frozen = 6
-kind_of e_pick = 7
-kind_of (e_offset p) = 8
-kind_of (e_ramp p q) = 9
+-- what stands between the parentheses of an effect
+opened : (xs ys r s : List Lexeme) → ◌≡◌ {A = List Lexeme} (sign k.Open ∷ ((xs ++ sign k.Close ∷ []) ++ r)) (sign k.Open ∷ ((ys ++ sign k.Close ∷ []) ++ s)) → xs ++ sign k.Close ∷ r ≡ ys ++ sign k.Close ∷ s
+opened xs ys r s e = sym (append_assoc xs (sign k.Close ∷ []) r) ∙ second e ∙ append_assoc ys (sign k.Close ∷ []) s
 
-number_of : Text → ℕ
-number_of x =
-    if same_text x (codes "StuckAt") then 1 else (if same_text x (codes "Follows") then 2 else (if same_text x (codes "Inverted") then 3 else
-    (if same_text x (codes "Random") then 4 else (if same_text x (codes "Erroneous") then 5 else (if same_text x (codes "Frozen") then 6 else
-    (if same_text x (codes "StuckAtPick") then 7 else (if same_text x (codes "Offset") then 8 else (if same_text x (codes "RampDown") then 9 else 0))))))))
-
-abbrev head_kind : List Lexeme → ℕ
-head_kind [] = 0
-head_kind (word x ∷ ts) = number_of x
-head_kind (num n d ∷ ts) = 0
-head_kind (sign s ∷ ts) = 0
-
-effect_begins : {ts : List Lexeme} {e : EffectTree} (r : List Lexeme) (p : SpellsEffect ts e) → head_kind (ts ++ r) ≡ kind_of p
-unfolding number_of
-effect_begins r (e_stuck p) = refl
-effect_begins r (e_follows p) = refl
-effect_begins r e_inverted = refl
-effect_begins r e_random = refl
-effect_begins r e_erroneous = refl
-effect_begins r e_frozen = refl
-effect_begins r e_pick = refl
-effect_begins r (e_offset p) = refl
-effect_begins r (e_ramp p q) = refl
-
--- what stands between an effect's word with a parenthesis and the one that closes it
-opened : {w : Text} (xs ys r s : List Lexeme) →
-    ◌≡◌ {A = List Lexeme} (word w ∷ sign k.Open ∷ ((xs ++ sign k.Close ∷ []) ++ r)) (word w ∷ sign k.Open ∷ ((ys ++ sign k.Close ∷ []) ++ s)) →
-    xs ++ sign k.Close ∷ r ≡ ys ++ sign k.Close ∷ s
-opened xs ys r s e = sym (append_assoc xs (sign k.Close ∷ []) r) ∙ second (second e) ∙ append_assoc ys (sign k.Close ∷ []) s
-
-one_kind : (xs ys : List Lexeme) (a b : EffectTree) (r s : List Lexeme) (p : SpellsEffect xs a) (q : SpellsEffect ys b) → kind_of p ≡ kind_of q → xs ++ r ≡ ys ++ s → Same xs ys a b r s
-one_kind xs ys a b r s (e_stuck {ts = x0} {c = m} p) (e_stuck {ts = y0} {c = n} q) c e =
+one_arguments : (xs ys : List Lexeme) (a b : EffectTree) (r s : List Lexeme) → SpellsArguments xs a → SpellsArguments ys b → kind_of a ≡ kind_of b → xs ++ r ≡ ys ++ s → Same xs ys a b r s
+one_arguments xs ys a b r s (no_argument {of = i}) (no_argument {of = j}) c e = let same : i ≡ j = cc in (refl, ap plain same, e)
+one_arguments xs ys a b r s (a_constant {of = i} {ts = x0} {c = m} p) (a_constant {of = j} {ts = y0} {c = n} q) c e =
+    let same : i ≡ j = cc in
     let inner : Same x0 y0 m n (sign k.Close ∷ r) (sign k.Close ∷ s) = one_const x0 y0 m n (sign k.Close ∷ r) (sign k.Close ∷ s) p q (opened x0 y0 r s e) tt tt in
-    (rw inner.0 refl, rw inner.1 refl, second inner.2)
-one_kind xs ys a b r s (e_follows {ts = x0} {e = m} p) (e_follows {ts = y0} {e = n} q) c e =
+    (rw inner.0 refl, rw (same, inner.1) refl, second inner.2)
+one_arguments xs ys a b r s (an_expression {of = i} {ts = x0} {e = m} p) (an_expression {of = j} {ts = y0} {e = n} q) c e =
+    let same : i ≡ j = cc in
     let inner : Same x0 y0 m n (sign k.Close ∷ r) (sign k.Close ∷ s) =
     one_expr x0 y0 m n (sign k.Close ∷ r) (sign k.Close ∷ s) p q (opened x0 y0 r s e) (end_of_bracket 0 r) (end_of_bracket 0 s) in
-    (rw inner.0 refl, rw inner.1 refl, second inner.2)
-one_kind xs ys a b r s e_inverted e_inverted c e = (refl, refl, second e)
-one_kind xs ys a b r s e_random e_random c e = (refl, refl, second e)
-one_kind xs ys a b r s e_erroneous e_erroneous c e = (refl, refl, second e)
-one_kind xs ys a b r s e_frozen e_frozen c e = (refl, refl, second e)
-one_kind xs ys a b r s e_pick e_pick c e = (refl, refl, second e)
-one_kind xs ys a b r s (e_offset {ts = x0} {d = m} p) (e_offset {ts = y0} {d = n} q) c e =
+    (rw inner.0 refl, rw (same, inner.1) refl, second inner.2)
+one_arguments xs ys a b r s (a_number {of = i} {ts = x0} {n = m} p) (a_number {of = j} {ts = y0} {n = n} q) c e =
+    let same : i ≡ j = cc in
     let inner : Same x0 y0 m n (sign k.Close ∷ r) (sign k.Close ∷ s) = one_int (sign k.Close ∷ r) (sign k.Close ∷ s) p q (opened x0 y0 r s e) in
-    (rw inner.0 refl, rw inner.1 refl, second inner.2)
-one_kind xs ys a b r s (e_ramp {xs = x0} {ys = x1} {d = d} {f = f} p p') (e_ramp {xs = y0} {ys = y1} {d = d'} {f = f'} q q') c e =
+    (rw inner.0 refl, rw (same, inner.1) refl, second inner.2)
+one_arguments xs ys a b r s (two_numbers {of = i} {xs = x0} {ys = x1} {m = d} {n = f} p p') (two_numbers {of = j} {xs = y0} {ys = y1} {m = d'} {n = f'} q q') c e =
+    let same : i ≡ j = cc in
     let inner : Same x0 y0 d d' (sign k.Comma ∷ ((x1 ++ sign k.Close ∷ []) ++ r)) (sign k.Comma ∷ ((y1 ++ sign k.Close ∷ []) ++ s)) =
     one_int (sign k.Comma ∷ ((x1 ++ sign k.Close ∷ []) ++ r)) (sign k.Comma ∷ ((y1 ++ sign k.Close ∷ []) ++ s)) p q
-    (sym (regrouped x0 (x1 ++ sign k.Close ∷ []) r (sign k.Comma)) ∙ second (second e) ∙ regrouped y0 (y1 ++ sign k.Close ∷ []) s (sign k.Comma)) in
+    (sym (regrouped x0 (x1 ++ sign k.Close ∷ []) r (sign k.Comma)) ∙ second e ∙ regrouped y0 (y1 ++ sign k.Close ∷ []) s (sign k.Comma)) in
     let rest : Same x1 y1 f f' (sign k.Close ∷ r) (sign k.Close ∷ s) =
     one_int (sign k.Close ∷ r) (sign k.Close ∷ s) p' q' (sym (append_assoc x1 (sign k.Close ∷ []) r) ∙ second inner.2 ∙ append_assoc y1 (sign k.Close ∷ []) s) in
-    (rw (inner.0, rest.0) refl, rw (inner.1, rest.1) refl, second rest.2)
-one_kind xs ys a b r s p q c e = absurd (omega (arith, c))
+    (rw (inner.0, rest.0) refl, rw (same, inner.1, rest.1) refl, second rest.2)
+one_arguments xs ys a b r s p q c e = cc
+
+-- effects of one word are of one kind
+one_word : (i j : EffectKind) → keyword i ≡ keyword j → i ≡ j
+one_word i j e =
+    let same : Some i ≡ Some j = sym (keyword_finds i) ∙ ap (λ w. first_kind (same_text w) effect_kinds) e ∙ keyword_finds j in cc
 
 one_effect : OneBefore SpellsEffect Any
-one_effect xs ys a b r s p q e u v = one_kind xs ys a b r s p q (sym (effect_begins r p) ∙ (ap head_kind e ∙ effect_begins s q)) e
+one_effect xs ys a b r s (an_effect {us = x0} p) (an_effect {us = y0} q) e u v =
+    let heads : keyword (kind_of a) ≡ keyword (kind_of b) = cc in
+    let inner : Same x0 y0 a b r s = one_arguments x0 y0 a b r s p q (one_word (kind_of a) (kind_of b) heads) (tails e) in
+    (rw (heads, inner.0) refl, inner.1, inner.2)
 
 -- The other parts of a mode.
 

@@ -8,7 +8,7 @@ use Rattle.smv_language.specs.Lexemes.{Lexeme, word, sign}
 use Rattle.smv_language.specs.PrintedTokens.{IsSmall}
 use Rattle.smv_language.proofs.Spelled.{IsSign, Fits, AllFit, front, back, tokens_fit, int_writable, spelled_writable, many_writable}
 use Rattle.fault_instructions.specs.Instructions.{EffectTree, ModeTree, SliceTree, ExtensionTree, InstructionTree}
-use Rattle.fault_instructions.specs.SpellsInstructions.{SpellsConst, const_true, const_false, const_int, const_name, SpellsEffect, e_stuck, e_follows, e_inverted, e_random, e_erroneous, e_frozen, e_pick, e_offset, e_ramp, SpellsGuard, no_guard, a_guard, IsTokenText, number_text, word_text, sign_of, SpellsMark, no_mark, a_mark, SpellsMode, a_mode, SpellsSlice, a_slice, SpellsExtension, an_extension, SpellsInstructions, unnamed, named, BytesSpellInstructions}
+use Rattle.fault_instructions.specs.SpellsInstructions.{SpellsConst, const_true, const_false, const_int, const_name, SpellsArguments, no_argument, a_constant, an_expression, a_number, two_numbers, SpellsEffect, an_effect, SpellsGuard, no_guard, a_guard, IsTokenText, number_text, word_text, sign_of, SpellsMark, no_mark, a_mark, SpellsMode, a_mode, SpellsSlice, a_slice, SpellsExtension, an_extension, SpellsInstructions, unnamed, named, BytesSpellInstructions}
 use Rattle.fault_instructions.specs.WritableInstructions.{IsInner, IsMarkText, IsWritableConstant, IsWritableEffect, IsWritableMark, IsWritableGuard, IsWritableMode, IsWritableSlice, IsWritableExtension, IsWritableInstructions}
 
 const_writable : {ts : List Lexeme} {c : Value} → SpellsConst ts c → AllFit ts → IsWritableConstant c
@@ -17,17 +17,16 @@ const_writable const_false h = tt
 const_writable (const_int p) h = int_writable p h
 const_writable (const_name r) h = (r, h.0)
 
+arguments_writable : {ts : List Lexeme} {e : EffectTree} → SpellsArguments ts e → AllFit ts → IsWritableEffect e
+arguments_writable no_argument h = tt
+arguments_writable (a_constant {ts = ts} p) h = const_writable p (front ts (sign k.Close ∷ []) h.1)
+arguments_writable (an_expression {ts = ts} p) h = spelled_writable p (front ts (sign k.Close ∷ []) h.1)
+arguments_writable (a_number {ts = ts} p) h = int_writable p (front ts (sign k.Close ∷ []) h.1)
+arguments_writable (two_numbers {xs = xs} {ys = ys} p q) h =
+    (int_writable p (front xs (sign k.Comma ∷ (ys ++ sign k.Close ∷ [])) h.1), int_writable q (front ys (sign k.Close ∷ []) (back xs (sign k.Comma ∷ (ys ++ sign k.Close ∷ [])) h.1).1))
+
 effect_writable : {ts : List Lexeme} {e : EffectTree} → SpellsEffect ts e → AllFit ts → IsWritableEffect e
-effect_writable (e_stuck {ts} p) h = const_writable p (front ts (sign k.Close ∷ []) h.1.1)
-effect_writable (e_follows {ts} p) h = spelled_writable p (front ts (sign k.Close ∷ []) h.1.1)
-effect_writable e_inverted h = tt
-effect_writable e_random h = tt
-effect_writable e_erroneous h = tt
-effect_writable e_frozen h = tt
-effect_writable e_pick h = tt
-effect_writable (e_offset {ts} p) h = int_writable p (front ts (sign k.Close ∷ []) h.1.1)
-effect_writable (e_ramp {xs} {ys} p q) h =
-    (int_writable p (front xs (sign k.Comma ∷ (ys ++ sign k.Close ∷ [])) h.1.1), int_writable q (front ys (sign k.Close ∷ []) (back xs (sign k.Comma ∷ (ys ++ sign k.Close ∷ [])) h.1.1).1))
+effect_writable (an_effect p) h = arguments_writable p h.1
 
 guard_writable : {ts : List Lexeme} {g : Option Formula} → SpellsGuard ts g → AllFit ts → IsWritableGuard g
 guard_writable no_guard h = tt

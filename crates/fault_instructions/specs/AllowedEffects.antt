@@ -1,4 +1,4 @@
--- Which effects may stand at a variable of a type, and why one may not.
+-- What effects demand of the type of their variable, and how a type may break it.
 use Rattle.std.specs.Prelude.{ℤ, pos, ◌+ℤ◌, ◌-ℤ◌, Bool, true, false, List, [], ◌∷◌, Option, Some, None, ◌&&◌}
 use Rattle.std.specs.List.{list_any}
 use Rattle.base_values.specs.declared.limits.TheConstants.{LEAST_NUMBER, GREATEST_NUMBER}
@@ -6,8 +6,7 @@ use Rattle.smv_language.specs.declared.program.Member.{Member}
 use Rattle.smv_language.specs.ProgramTree.{DeclaredTree, boolean, range, members, instance}
 use Rattle.smv_language.specs.Values.{Value, truth, number, symbol, opposite, same_value, at_most, is_between}
 use Rattle.smv_language.specs.Trace.{in_domain, value_of_member}
-use Rattle.fault_instructions.specs.Instructions.{EffectTree, stuck_at, follows, inverted, random, erroneous, frozen, stuck_at_pick, offset}
-use Rattle.fault_instructions.specs.Instructions.{ramp_down}
+use Rattle.fault_instructions.specs.EffectForms.{Demand, no_demand, one_of_its, truth_values, two_values, a_range}
 use Rattle.fault_instructions.specs.declared.fault.EffectFault.{EffectFault}
 use Rattle.fault_instructions.specs.declared.fault.EffectFault.TheVariants.{WrongKind, Outside, OneValueOnly}
 
@@ -68,35 +67,12 @@ abbrev pub constant_fault : Bool → Bool → Option EffectFault
 constant_fault false within = Some WrongKind
 constant_fault true within = fault_unless within Outside
 
--- of `Inverted`: the type is boolean
-abbrev pub inverted_fault : DeclaredTree → Option EffectFault
-inverted_fault boolean = None
-inverted_fault (range lo hi) = Some WrongKind
-inverted_fault (members ms) = Some WrongKind
-inverted_fault (instance m actuals) = Some WrongKind
-
--- of `Offset`: the type is a range that the distance fits
-abbrev pub offset_fault : ℤ → DeclaredTree → Option EffectFault
-offset_fault d boolean = Some WrongKind
-offset_fault d (range lo hi) = fault_unless (offset_fits d lo hi) Outside
-offset_fault d (members ms) = Some WrongKind
-offset_fault d (instance m actuals) = Some WrongKind
-
--- of `RampDown`: the type is a range that step and floor fit
-abbrev pub ramp_fault : ℤ → ℤ → DeclaredTree → Option EffectFault
-ramp_fault d f boolean = Some WrongKind
-ramp_fault d f (range lo hi) = fault_unless (ramp_fits d f lo hi) Outside
-ramp_fault d f (members ms) = Some WrongKind
-ramp_fault d f (instance m actuals) = Some WrongKind
-
--- the first demand of the effect that a variable of the type breaks
-abbrev pub fault_of : EffectTree → DeclaredTree → Option EffectFault
-fault_of (stuck_at c) type = constant_fault (is_of_kind type c) (in_domain type c)
-fault_of (follows e) type = None
-fault_of inverted type = inverted_fault type
-fault_of random type = None
-fault_of erroneous type = fault_unless (has_two_values type) OneValueOnly
-fault_of frozen type = None
-fault_of stuck_at_pick type = None
-fault_of (offset d) type = offset_fault d type
-fault_of (ramp_down d f) type = ramp_fault d f type
+-- the first part of the demand that the type breaks
+abbrev pub demand_fault : Demand → DeclaredTree → Option EffectFault
+demand_fault no_demand type = None
+demand_fault (one_of_its c) type = constant_fault (is_of_kind type c) (in_domain type c)
+demand_fault truth_values boolean = None
+demand_fault truth_values _ = Some WrongKind
+demand_fault two_values type = fault_unless (has_two_values type) OneValueOnly
+demand_fault (a_range passes) (range lo hi) = fault_unless (passes lo hi) Outside
+demand_fault (a_range passes) _ = Some WrongKind

@@ -2,17 +2,16 @@
 use Rattle.std.specs.Prelude.{◌≡◌, ◌≢◌, ◌↔◌, IsTrue, Bool, true, false, List, [], ◌∷◌, Some, None, codes}
 use Rattle.smv_language.specs.declared.program.Member.{Member}
 use Rattle.smv_language.specs.declared.program.Member.TheVariants as member
-use Rattle.smv_language.specs.ProgramTree.{Text, Path, Formula, DeclaredTree, boolean, range, members, SectionTree, init, invar, trans}
+use Rattle.smv_language.specs.ProgramTree.{Text, Path, Formula, DeclaredTree, members, SectionTree, init, invar, trans}
 use Rattle.smv_language.specs.Values.{Value, truth, symbol, Values, one, has, opposite}
 use Rattle.smv_language.specs.Texts.{same_text}
 use Rattle.smv_language.specs.Evaluate.{Leaves, evaluate}
 use Rattle.smv_language.specs.Trace.{Each, in_domain}
-use Rattle.fault_instructions.specs.Instructions.{EffectTree, stuck_at, follows, inverted, random, erroneous, frozen, stuck_at_pick, offset}
-use Rattle.fault_instructions.specs.Instructions.{ramp_down, SliceTree}
+use Rattle.fault_instructions.specs.Instructions.{EffectTree, SliceTree}
 use Rattle.fault_instructions.specs.AddedNames.{ModeState, own_name, mode_variable, mode_symbol}
-use Rattle.fault_instructions.specs.Effects.{Allows}
+use Rattle.fault_instructions.specs.Effects.{row, Allows}
 use Rattle.fault_instructions.specs.Templates.{branch, rules, first_rules}
-use Rattle.fault_instructions.specs.Types.{IsKnown, IsUniform}
+use Rattle.fault_instructions.specs.Types.{IsKnown, IsUniform, Meets}
 
 -- what the leaves of the templates give
 pub record SliceLeaves (s : SliceTree) (type : DeclaredTree) (now : Leaves Path) (read own : Value) (st : ModeState) : Type 0 where
@@ -30,18 +29,7 @@ stands_at (Some n) m = same_text n m
 
 -- the effect may stand at a variable of the type
 abbrev pub MayStand : EffectTree → DeclaredTree → Type 0
-MayStand (stuck_at c) type = IsTrue (in_domain type c)
-MayStand inverted boolean = Unit {0}
-MayStand inverted _ = ⊥
-MayStand (offset d) (range lo hi) = Unit {0}
-MayStand (offset d) _ = ⊥
-MayStand (ramp_down d f) (range lo hi) = Unit {0}
-MayStand (ramp_down d f) _ = ⊥
-MayStand (follows e) type = Unit {0}
-MayStand random type = Unit {0}
-MayStand erroneous type = Unit {0}
-MayStand frozen type = Unit {0}
-MayStand stuck_at_pick type = Unit {0}
+MayStand e type = Meets (row e).demand type
 
 -- a formula may have the value
 abbrev pub Gives : Leaves Path → Leaves Path → Formula → Value → Type 0

@@ -8,20 +8,21 @@ use Rattle.fault_instructions.specs.declared.instructions.Dynamics.{Dynamics}
 use Rattle.fault_instructions.specs.declared.instructions.Dynamics.TheVariants.{Permanent, Transient}
 use Rattle.fault_instructions.specs.declared.instructions.Start.{Start}
 use Rattle.fault_instructions.specs.declared.instructions.Start.TheVariants.{Nominal, Any}
-use Rattle.fault_instructions.specs.Instructions.{EffectTree, stuck_at, follows, inverted, random, erroneous, frozen, stuck_at_pick, offset}
-use Rattle.fault_instructions.specs.Instructions.{ramp_down, ModeTree, SliceTree, ExtensionTree, InstructionTree}
+use Rattle.fault_instructions.specs.Instructions.{EffectTree, plain, of_constant, of_expression, of_number, of_numbers, kind_of}
+use Rattle.fault_instructions.specs.Instructions.{ModeTree, SliceTree, ExtensionTree, InstructionTree}
+use Rattle.fault_instructions.specs.Effects.{keyword}
 
--- an effect: its word, and its arguments in parentheses
+-- the arguments of an effect in parentheses, where it has some
+abbrev pub arguments_text : EffectTree → Text
+arguments_text (plain k) = []
+arguments_text (of_constant k c) = codes "(" ++ (value_text c ++ codes ")")
+arguments_text (of_expression k e) = codes "(" ++ (text_of e ++ codes ")")
+arguments_text (of_number k n) = codes "(" ++ (signed_decimal n ++ codes ")")
+arguments_text (of_numbers k m n) = codes "(" ++ (signed_decimal m ++ (codes ", " ++ (signed_decimal n ++ codes ")")))
+
+-- an effect: its word, and its arguments
 abbrev pub effect_text : EffectTree → Text
-effect_text (stuck_at c) = codes "StuckAt(" ++ (value_text c ++ codes ")")
-effect_text (follows e) = codes "Follows(" ++ (text_of e ++ codes ")")
-effect_text inverted = codes "Inverted"
-effect_text random = codes "Random"
-effect_text erroneous = codes "Erroneous"
-effect_text frozen = codes "Frozen"
-effect_text stuck_at_pick = codes "StuckAtPick"
-effect_text (offset d) = codes "Offset(" ++ (signed_decimal d ++ codes ")")
-effect_text (ramp_down d f) = codes "RampDown(" ++ (signed_decimal d ++ (codes ", " ++ (signed_decimal f ++ codes ")")))
+effect_text e = keyword (kind_of e) ++ arguments_text e
 
 -- whether a mode can be left, and a space
 abbrev pub dynamics_text : Dynamics → Text

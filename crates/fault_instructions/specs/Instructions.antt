@@ -4,6 +4,13 @@ use Rattle.fault_instructions.specs.declared.instructions.Dynamics.{Dynamics}
 use Rattle.fault_instructions.specs.declared.instructions.Start.{Start}
 use Rattle.fault_instructions.specs.declared.instructions.Constant.{Constant}
 use Rattle.fault_instructions.specs.declared.instructions.Constant.TheVariants as constant
+use Rattle.fault_instructions.specs.declared.effects.PlainEffect.{PlainEffect}
+use Rattle.fault_instructions.specs.declared.effects.ConstantEffect.{ConstantEffect}
+use Rattle.fault_instructions.specs.declared.effects.ExpressionEffect.{ExpressionEffect}
+use Rattle.fault_instructions.specs.declared.effects.NumberEffect.{NumberEffect}
+use Rattle.fault_instructions.specs.declared.effects.NumbersEffect.{NumbersEffect}
+use Rattle.fault_instructions.specs.declared.effects.EffectKind.{EffectKind}
+use Rattle.fault_instructions.specs.declared.effects.EffectKind.TheVariants as kind
 use Rattle.fault_instructions.specs.declared.instructions.Effect.{Effect}
 use Rattle.fault_instructions.specs.declared.instructions.Effect.TheVariants as effect
 use Rattle.fault_instructions.specs.declared.instructions.ModeRule.{ModeRule}
@@ -18,15 +25,27 @@ use Rattle.smv_language.specs.Texts.{same_text}
 
 -- an effect with its arguments
 pub data EffectTree : Type 0 where
-  stuck_at : Value → EffectTree
-  follows : Formula → EffectTree
-  inverted : EffectTree
-  random : EffectTree
-  erroneous : EffectTree
-  frozen : EffectTree
-  stuck_at_pick : EffectTree
-  offset : ℤ → EffectTree
-  ramp_down : ℤ → ℤ → EffectTree
+  plain : PlainEffect → EffectTree
+  of_constant : ConstantEffect → Value → EffectTree
+  of_expression : ExpressionEffect → Formula → EffectTree
+  of_number : NumberEffect → ℤ → EffectTree
+  of_numbers : NumbersEffect → ℤ → ℤ → EffectTree
+
+-- the effect without its arguments
+abbrev pub kind_of : EffectTree → EffectKind
+kind_of (plain k) = kind.Plain k
+kind_of (of_constant k c) = kind.OfConstant k
+kind_of (of_expression k e) = kind.OfExpression k
+kind_of (of_number k n) = kind.OfNumber k
+kind_of (of_numbers k m n) = kind.OfNumbers k
+
+-- what holds of each argument: a constant, an expression, or numbers
+abbrev pub EachArgument : (Value → Type 0) → (Formula → Type 0) → (ℤ → Type 0) → EffectTree → Type 0
+EachArgument V F N (plain k) = Unit {0}
+EachArgument V F N (of_constant k c) = V c
+EachArgument V F N (of_expression k e) = F e
+EachArgument V F N (of_number k n) = N n
+EachArgument V F N (of_numbers k m n) = N m × N n
 
 -- a mode; its mark is the list of the texts of its tokens
 pub record ModeTree : Type 0 where
@@ -61,15 +80,11 @@ constant_value (constant.Symbol x) = symbol x
 
 -- the code's effects as trees
 abbrev pub effect_tree : Effect → EffectTree
-effect_tree (effect.StuckAt c) = stuck_at (constant_value c)
-effect_tree (effect.Follows e) = follows (tree_of e)
-effect_tree effect.Inverted = inverted
-effect_tree effect.Random = random
-effect_tree effect.Erroneous = erroneous
-effect_tree effect.Frozen = frozen
-effect_tree effect.StuckAtPick = stuck_at_pick
-effect_tree (effect.Offset d) = offset d
-effect_tree (effect.RampDown d f) = ramp_down d f
+effect_tree (effect.Plain k) = plain k
+effect_tree (effect.OfConstant k c) = of_constant k (constant_value c)
+effect_tree (effect.OfExpression k e) = of_expression k (tree_of e)
+effect_tree (effect.OfNumber k n) = of_number k n
+effect_tree (effect.OfNumbers k m n) = of_numbers k m n
 
 -- the code's guards as trees
 abbrev pub guard_tree : Option (Expr Path) → Option Formula

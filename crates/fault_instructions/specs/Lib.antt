@@ -5,6 +5,7 @@ pub mod WritableInstructions
 pub mod AddedNames
 pub mod Types
 pub mod Numbers
+pub mod EffectForms
 pub mod Effects
 pub mod Templates
 pub mod EffectLaw

@@ -4,8 +4,7 @@ use Rattle.smv_language.specs.declared.program.Member.{Member}
 use Rattle.smv_language.specs.declared.program.Member.TheVariants as member
 use Rattle.smv_language.specs.ProgramTree.{DeclaredTree, boolean, range, members, instance}
 use Rattle.smv_language.specs.Values.{Value, truth, number, symbol}
-use Rattle.fault_instructions.specs.Instructions.{EffectTree, stuck_at, follows, inverted, random, erroneous, frozen, stuck_at_pick, offset}
-use Rattle.fault_instructions.specs.Instructions.{ramp_down}
+use Rattle.fault_instructions.specs.Instructions.{EffectTree, EachArgument}
 
 -- the number's negation is within 64 bits
 abbrev pub HasNegation : ℤ → Type 0
@@ -19,15 +18,7 @@ ValueHasNegation (symbol x) = Unit {0}
 
 -- each number of the effect
 abbrev pub EffectHasNegations : EffectTree → Type 0
-EffectHasNegations (stuck_at c) = ValueHasNegation c
-EffectHasNegations (follows e) = Unit {0}
-EffectHasNegations inverted = Unit {0}
-EffectHasNegations random = Unit {0}
-EffectHasNegations erroneous = Unit {0}
-EffectHasNegations frozen = Unit {0}
-EffectHasNegations stuck_at_pick = Unit {0}
-EffectHasNegations (offset d) = HasNegation d
-EffectHasNegations (ramp_down d f) = HasNegation d × HasNegation f
+EffectHasNegations e = EachArgument ValueHasNegation (λ f. Unit {0}) HasNegation e
 
 -- a member that is a number has a negation
 abbrev pub MemberHasNegation : Member → Type 0

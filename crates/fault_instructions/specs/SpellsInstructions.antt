@@ -13,8 +13,14 @@ use Rattle.fault_instructions.specs.declared.instructions.Dynamics.{Dynamics}
 use Rattle.fault_instructions.specs.declared.instructions.Dynamics.TheVariants.{Permanent, Transient}
 use Rattle.fault_instructions.specs.declared.instructions.Start.{Start}
 use Rattle.fault_instructions.specs.declared.instructions.Start.TheVariants.{Nominal, Any}
-use Rattle.fault_instructions.specs.Instructions.{EffectTree, stuck_at, follows, inverted, random, erroneous, frozen, stuck_at_pick, offset}
-use Rattle.fault_instructions.specs.Instructions.{ramp_down, ModeTree, SliceTree, ExtensionTree, InstructionTree}
+use Rattle.fault_instructions.specs.declared.effects.PlainEffect.{PlainEffect}
+use Rattle.fault_instructions.specs.declared.effects.ConstantEffect.{ConstantEffect}
+use Rattle.fault_instructions.specs.declared.effects.ExpressionEffect.{ExpressionEffect}
+use Rattle.fault_instructions.specs.declared.effects.NumberEffect.{NumberEffect}
+use Rattle.fault_instructions.specs.declared.effects.NumbersEffect.{NumbersEffect}
+use Rattle.fault_instructions.specs.Instructions.{EffectTree, plain, of_constant, of_expression, of_number, of_numbers, kind_of}
+use Rattle.fault_instructions.specs.Instructions.{ModeTree, SliceTree, ExtensionTree, InstructionTree}
+use Rattle.fault_instructions.specs.Effects.{keyword}
 
 -- const = "TRUE" | "FALSE" | int | name
 pub data SpellsConst : List Lexeme → Value → Type 0 where
@@ -23,21 +29,21 @@ pub data SpellsConst : List Lexeme → Value → Type 0 where
   const_int : {ts : List Lexeme} {n : ℤ} → SpellsInt ts n → SpellsConst ts (number n)
   const_name : {x : Text} → is_reserved x ≡ false → SpellsConst (word x ∷ []) (symbol x)
 
--- an effect is its word, and its arguments in parentheses where it has some
+-- the arguments of an effect in parentheses, where it has some
+pub data SpellsArguments : List Lexeme → EffectTree → Type 0 where
+  no_argument : {of : PlainEffect} → SpellsArguments [] (plain of)
+  a_constant : {of : ConstantEffect} {ts : List Lexeme} {c : Value} → SpellsConst ts c →
+      SpellsArguments (sign k.Open ∷ (ts ++ sign k.Close ∷ [])) (of_constant of c)
+  an_expression : {of : ExpressionEffect} {ts : List Lexeme} {e : Formula} → SpellsExpr ts e →
+      SpellsArguments (sign k.Open ∷ (ts ++ sign k.Close ∷ [])) (of_expression of e)
+  a_number : {of : NumberEffect} {ts : List Lexeme} {n : ℤ} → SpellsInt ts n →
+      SpellsArguments (sign k.Open ∷ (ts ++ sign k.Close ∷ [])) (of_number of n)
+  two_numbers : {of : NumbersEffect} {xs ys : List Lexeme} {m n : ℤ} → SpellsInt xs m → SpellsInt ys n →
+      SpellsArguments (sign k.Open ∷ (xs ++ sign k.Comma ∷ (ys ++ sign k.Close ∷ []))) (of_numbers of m n)
+
+-- an effect is its word, and its arguments
 pub data SpellsEffect : List Lexeme → EffectTree → Type 0 where
-  e_stuck : {ts : List Lexeme} {c : Value} → SpellsConst ts c →
-      SpellsEffect (word (codes "StuckAt") ∷ sign k.Open ∷ (ts ++ sign k.Close ∷ [])) (stuck_at c)
-  e_follows : {ts : List Lexeme} {e : Formula} → SpellsExpr ts e →
-      SpellsEffect (word (codes "Follows") ∷ sign k.Open ∷ (ts ++ sign k.Close ∷ [])) (follows e)
-  e_inverted : SpellsEffect (word (codes "Inverted") ∷ []) inverted
-  e_random : SpellsEffect (word (codes "Random") ∷ []) random
-  e_erroneous : SpellsEffect (word (codes "Erroneous") ∷ []) erroneous
-  e_frozen : SpellsEffect (word (codes "Frozen") ∷ []) frozen
-  e_pick : SpellsEffect (word (codes "StuckAtPick") ∷ []) stuck_at_pick
-  e_offset : {ts : List Lexeme} {d : ℤ} → SpellsInt ts d →
-      SpellsEffect (word (codes "Offset") ∷ sign k.Open ∷ (ts ++ sign k.Close ∷ [])) (offset d)
-  e_ramp : {xs ys : List Lexeme} {d f : ℤ} → SpellsInt xs d → SpellsInt ys f →
-      SpellsEffect (word (codes "RampDown") ∷ sign k.Open ∷ (xs ++ sign k.Comma ∷ (ys ++ sign k.Close ∷ []))) (ramp_down d f)
+  an_effect : {us : List Lexeme} {e : EffectTree} → SpellsArguments us e → SpellsEffect (word (keyword (kind_of e)) ∷ us) e
 
 -- "Permanent" | "Transient"
 pub data SpellsDynamics : List Lexeme → Dynamics → Type 0 where

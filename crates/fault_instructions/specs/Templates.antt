@@ -1,4 +1,4 @@
--- What a mode adds for its effect: a branch of the case that gives the read value, and rule sections.
+-- What a mode adds for its effect: a branch of the case that gives the read value, and rule sections, by the forms of its row.
 use Rattle.std.specs.Prelude.{nat_abs, ℤ, pos, negsuc, suc, nat_eq, true, false, List, [], ◌∷◌, Option, Some, None, map, if◌then◌else◌}
 use Rattle.base_values.specs.declared.limits.TheConstants.{GREATEST_NUMBER}
 use Rattle.smv_language.specs.declared.expr.Op.TheVariants as op
@@ -9,8 +9,11 @@ use Rattle.smv_language.specs.Tree.{span, no_tree, tree_then, trees_from}
 use Rattle.smv_language.specs.ProgramTree.{Text, Path, Formula, DeclaredTree, boolean, range, members, instance, SectionTree, init, invar}
 use Rattle.smv_language.specs.ProgramTree.{trans, section_tree}
 use Rattle.smv_language.specs.Values.{Value, truth, number, symbol}
-use Rattle.fault_instructions.specs.Instructions.{EffectTree, stuck_at, follows, inverted, random, erroneous, frozen, stuck_at_pick, offset}
-use Rattle.fault_instructions.specs.Instructions.{ramp_down}
+use Rattle.fault_instructions.specs.declared.effects.EffectRule.{EffectRule}
+use Rattle.fault_instructions.specs.declared.effects.EffectRule.TheVariants.{NotOwn, AsBefore, AsEntered, Falling}
+use Rattle.fault_instructions.specs.Instructions.{EffectTree}
+use Rattle.fault_instructions.specs.EffectForms.{Branch, the_constant, the_formula, the_opposite, the_sum, any_value}
+use Rattle.fault_instructions.specs.Effects.{branch_of, rule_of}
 use Rattle.fault_instructions.specs.AddedNames.{own_name, mode_variable, mode_symbol}
 use Rattle.smv_language.specs.Trace.{value_of_member}
 
@@ -48,17 +51,17 @@ clipped_tree (range lo hi) e =
     choice (binary op.Greater e (number_tree hi)) (number_tree hi) (choice (binary op.Less e (number_tree lo)) (number_tree lo) e)
 clipped_tree _ e = e
 
--- what x may be in a mode of the effect, from its own value
+-- what x may be by a branch, from its own value
+abbrev pub branch_tree : Branch → DeclaredTree → Text → Formula
+branch_tree (the_constant c) type x = value_tree c
+branch_tree (the_formula e) type x = e
+branch_tree the_opposite type x = not_of (named (own_name x))
+branch_tree (the_sum d) type x = clipped_tree type (binary op.Plus (named (own_name x)) (number_tree d))
+branch_tree any_value type x = domain_tree type
+
+-- the branch of an effect
 abbrev pub branch : EffectTree → DeclaredTree → Text → Formula
-branch (stuck_at c) type x = value_tree c
-branch (follows e) type x = e
-branch inverted type x = not_of (named (own_name x))
-branch random type x = domain_tree type
-branch erroneous type x = domain_tree type
-branch frozen type x = domain_tree type
-branch stuck_at_pick type x = domain_tree type
-branch (offset d) type x = clipped_tree type (binary op.Plus (named (own_name x)) (number_tree d))
-branch (ramp_down d f) type x = domain_tree type
+branch e type x = branch_tree (branch_of e) type x
 
 -- the greater of the formula and the number
 abbrev pub greater_tree : Formula → ℤ → Formula
@@ -94,17 +97,17 @@ ramp_rule d f slice mode x =
     binary op.Implies (stands_next slice mode)
     (binary op.Equal (next_of (named x)) (greater_tree (binary op.Minus (named x) (number_tree d)) f))
 
+-- the sections of a rule, where there is one
+abbrev pub rule_trees : Option EffectRule → Text → Text → Text → List SectionTree
+rule_trees None slice mode x = []
+rule_trees (Some NotOwn) slice mode x = invar (erroneous_rule slice mode x) ∷ []
+rule_trees (Some AsBefore) slice mode x = trans (frozen_rule slice mode x) ∷ []
+rule_trees (Some AsEntered) slice mode x = trans (pick_rule slice mode x) ∷ []
+rule_trees (Some (Falling d f)) slice mode x = trans (ramp_rule d f slice mode x) ∷ []
+
 -- the rule sections of a mode
 abbrev pub rules : EffectTree → Text → Text → Text → List SectionTree
-rules erroneous slice mode x = invar (erroneous_rule slice mode x) ∷ []
-rules frozen slice mode x = trans (frozen_rule slice mode x) ∷ []
-rules stuck_at_pick slice mode x = trans (pick_rule slice mode x) ∷ []
-rules (ramp_down d f) slice mode x = trans (ramp_rule d f slice mode x) ∷ []
-rules (stuck_at c) slice mode x = []
-rules (follows e) slice mode x = []
-rules inverted slice mode x = []
-rules random slice mode x = []
-rules (offset d) slice mode x = []
+rules e slice mode x = rule_trees (rule_of e) slice mode x
 
 -- the first moment has no moment before: where the mode stands there, the read value is the own one
 abbrev pub frozen_first : Text → Text → Text → Formula
@@ -116,17 +119,17 @@ ramp_first d f slice mode x =
     binary op.Implies (stands slice mode)
     (binary op.Equal (named x) (greater_tree (binary op.Minus (named (own_name x)) (number_tree d)) f))
 
+-- the sections of a rule at a first moment, where it says something there
+abbrev pub first_trees : Option EffectRule → Text → Text → Text → List SectionTree
+first_trees None slice mode x = []
+first_trees (Some NotOwn) slice mode x = []
+first_trees (Some AsBefore) slice mode x = init (frozen_first slice mode x) ∷ []
+first_trees (Some AsEntered) slice mode x = []
+first_trees (Some (Falling d f)) slice mode x = init (ramp_first d f slice mode x) ∷ []
+
 -- the first rule sections of a mode, in which its slice may start
 abbrev pub first_rules : EffectTree → Text → Text → Text → List SectionTree
-first_rules frozen slice mode x = init (frozen_first slice mode x) ∷ []
-first_rules (ramp_down d f) slice mode x = init (ramp_first d f slice mode x) ∷ []
-first_rules (stuck_at c) slice mode x = []
-first_rules (follows e) slice mode x = []
-first_rules inverted slice mode x = []
-first_rules random slice mode x = []
-first_rules erroneous slice mode x = []
-first_rules stuck_at_pick slice mode x = []
-first_rules (offset d) slice mode x = []
+first_rules e slice mode x = first_trees (rule_of e) slice mode x
 
 -- a section or none, as a list
 abbrev pub rule_sections : Option Section → List SectionTree

@@ -1,10 +1,10 @@
 -- What a program and instructions must be for the woven program to be their extension.
-use Rattle.std.specs.Prelude.{◌≡◌, ◌≢◌, ℕ, IsTrue, Bool, false, List, [], ◌∷◌, Option, Some, None, codes}
+use Rattle.std.specs.Prelude.{◌≡◌, ◌≢◌, ℕ, Bool, false, List, [], ◌∷◌, Option, Some, None, codes}
 use Rattle.smv_language.specs.declared.program.Member.{Member}
 use Rattle.smv_language.specs.declared.program.Member.TheVariants as member
 use Rattle.smv_language.specs.Tree.{Tree, Trees, Branches, truth as is_truth, number as is_number, leaf, not_of, negate, next_of, binary}
 use Rattle.smv_language.specs.Tree.{choice, case_of, set_of, span, no_tree, tree_then, no_branch, branch_then}
-use Rattle.smv_language.specs.ProgramTree.{Text, Path, Formula, DeclaredTree, boolean, range, members, instance, DeclTree, AssignmentTree}
+use Rattle.smv_language.specs.ProgramTree.{Text, Path, Formula, DeclaredTree, members, instance, DeclTree, AssignmentTree}
 use Rattle.smv_language.specs.ProgramTree.{SectionTree, var, ivar, frozen as frozen_section, assign, init, invar, trans, ModuleTree}
 use Rattle.smv_language.specs.ProgramTree.{ProgramTree}
 use Rattle.smv_language.specs.Values.{truth, one}
@@ -13,12 +13,13 @@ use Rattle.smv_language.specs.Laws.{AllLeaves}
 use Rattle.smv_language.specs.Scope.{Place, Role, state, input, frozen_role, a_variable, a_define, an_instance, undeclared, kind_declared}
 use Rattle.smv_language.specs.Scope.{kind_in, nth_formula, is_symbol, Meaning, Means}
 use Rattle.smv_language.specs.May.{Valuation, name_values}
-use Rattle.smv_language.specs.Trace.{IsInstance, Each, AtSome, in_domain, InDomains}
-use Rattle.fault_instructions.specs.Instructions.{EffectTree, stuck_at, follows, inverted, offset, ramp_down, ModeTree, SliceTree}
+use Rattle.smv_language.specs.Trace.{IsInstance, Each, AtSome, InDomains}
+use Rattle.fault_instructions.specs.Instructions.{EffectTree, EachArgument, ModeTree, SliceTree}
 use Rattle.fault_instructions.specs.Instructions.{InstructionTree, slices_of}
 use Rattle.fault_instructions.specs.Types.{IsUniform, IsKnown}
 use Rattle.fault_instructions.specs.AddedNames.{ModeState}
 use Rattle.fault_instructions.specs.AddedNames.{own_name, mode_variable, mode_symbol}
+use Rattle.fault_instructions.specs.EffectLaw.{MayStand}
 
 -- `next` does not stand in it
 abbrev mutual
@@ -71,6 +72,10 @@ module _ (p : ProgramTree) (at : Place) where
   abbrev pub IsReadable : Formula → Type 0
   IsReadable e = AllLeaves HasMeaning e
 
+  -- the names of what an effect follows mean something
+  abbrev pub IsReadableEffect : EffectTree → Type 0
+  IsReadableEffect e = EachArgument (λ c. Unit {0}) IsReadable (λ n. Unit {0}) e
+
 module _ (p : ProgramTree) (at : Place) (m : ModuleTree) where
   -- a target without dots is a variable of the module
   abbrev pub IsLawfulTarget : Path → Type 0
@@ -113,24 +118,9 @@ module _ (p : ProgramTree) (at : Place) (m : ModuleTree) where
   IsLawfulGuard None = Unit {0}
   IsLawfulGuard (Some g) = IsReadable p at g × NoNext g × IsDecided g
 
-  -- the type is a range
-  abbrev pub IsRangeEffect : DeclaredTree → Type 0
-  IsRangeEffect (range lo hi) = Unit {0}
-  IsRangeEffect _ = ⊥
-
-  -- the type is boolean
-  abbrev pub IsBoolean : DeclaredTree → Type 0
-  IsBoolean boolean = Unit {0}
-  IsBoolean _ = ⊥
-
-  -- the effect is allowed at a variable of the type
+  -- the effect is allowed at a variable of the type, and what it follows is readable
   abbrev pub IsAllowed : EffectTree → DeclaredTree → Type 0
-  IsAllowed (stuck_at c) type = IsTrue (in_domain type c)
-  IsAllowed (follows e) type = IsReadable p at e
-  IsAllowed inverted type = IsBoolean type
-  IsAllowed (offset d) type = IsRangeEffect type
-  IsAllowed (ramp_down d f) type = IsRangeEffect type
-  IsAllowed _ type = Unit {0}
+  IsAllowed e type = MayStand e type × IsReadableEffect p at e
 
   -- a mode whose name, effect and guard are lawful
   pub record IsLawfulMode (type : DeclaredTree) (mode : ModeTree) : Type 0 where

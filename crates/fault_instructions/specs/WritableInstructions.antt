@@ -7,8 +7,7 @@ use Rattle.smv_language.specs.ProgramTree.{Text, Formula}
 use Rattle.smv_language.specs.Values.{Value, truth, number, symbol}
 use Rattle.smv_language.specs.PrintedTokens.{IsName, IsSmall, IsEnd, IsWritable}
 use Rattle.smv_language.specs.Trace.{Each}
-use Rattle.fault_instructions.specs.Instructions.{EffectTree, stuck_at, follows, inverted, random, erroneous, frozen, stuck_at_pick, offset}
-use Rattle.fault_instructions.specs.Instructions.{ramp_down, ModeTree, SliceTree, ExtensionTree, InstructionTree}
+use Rattle.fault_instructions.specs.Instructions.{EffectTree, EachArgument, ModeTree, SliceTree, ExtensionTree, InstructionTree}
 
 -- a sign that does not end a mark
 abbrev pub IsInner : TokenKind → Type 0
@@ -29,15 +28,7 @@ IsWritableConstant (symbol x) = IsName x
 
 -- each argument can be written
 abbrev pub IsWritableEffect : EffectTree → Type 0
-IsWritableEffect (stuck_at c) = IsWritableConstant c
-IsWritableEffect (follows e) = IsWritable e
-IsWritableEffect inverted = Unit {0}
-IsWritableEffect random = Unit {0}
-IsWritableEffect erroneous = Unit {0}
-IsWritableEffect frozen = Unit {0}
-IsWritableEffect stuck_at_pick = Unit {0}
-IsWritableEffect (offset d) = IsEnd d
-IsWritableEffect (ramp_down d f) = IsEnd d × IsEnd f
+IsWritableEffect e = EachArgument IsWritableConstant IsWritable IsEnd e
 
 -- each text of the mark is that of a token
 abbrev pub IsWritableMark : Option (List Text) → Type 0

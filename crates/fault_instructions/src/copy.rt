@@ -75,15 +75,11 @@ impl Effect {
         ensures { IfOk result (λ made. effect_tree made ≡ effect_tree self.now) }
     {
         match self {
-            Effect::StuckAt(c) => Ok(Effect::StuckAt(c.copy()?)),
-            Effect::Follows(e) => Ok(Effect::Follows(e.copy(alloc)?)),
-            Effect::Inverted => Ok(Effect::Inverted),
-            Effect::Random => Ok(Effect::Random),
-            Effect::Erroneous => Ok(Effect::Erroneous),
-            Effect::Frozen => Ok(Effect::Frozen),
-            Effect::StuckAtPick => Ok(Effect::StuckAtPick),
-            Effect::Offset(distance) => Ok(Effect::Offset(*distance)),
-            Effect::RampDown(step, floor) => Ok(Effect::RampDown(*step, *floor)),
+            Effect::Plain(kind) => Ok(Effect::Plain(*kind)),
+            Effect::OfConstant(kind, c) => Ok(Effect::OfConstant(*kind, c.copy()?)),
+            Effect::OfExpression(kind, e) => Ok(Effect::OfExpression(*kind, e.copy(alloc)?)),
+            Effect::OfNumber(kind, n) => Ok(Effect::OfNumber(*kind, *n)),
+            Effect::OfNumbers(kind, m, n) => Ok(Effect::OfNumbers(*kind, *m, *n)),
         }
     }
 }

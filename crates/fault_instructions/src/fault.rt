@@ -1,4 +1,5 @@
-//! Which effects may stand at a variable: [`allowed`] tells the first demand that is broken, by `specs/AllowedEffects.antt`.
+//! What effects demand of the type of their variable, a function for each demand: the first part that is broken, by
+//! `specs/AllowedEffects.antt`.
 ghost use Rattle.std.specs.Prelude.{◌≡◌, ◌+ℤ◌, ◌-ℤ◌, ◌&&◌, pos};
 ghost use Rattle.std.specs.Result.{result_err};
 ghost use Rattle.std.specs.List.{list_any};
@@ -6,13 +7,13 @@ ghost use Rattle.smv_language.specs.ProgramTree.{declared_tree};
 ghost use Rattle.smv_language.specs.Values.{same_value, is_between, at_most, opposite, number};
 ghost use Rattle.smv_language.specs.Texts.{same_text};
 ghost use Rattle.smv_language.specs.Trace.{in_domain, is_member, value_of_member};
-ghost use Rattle.fault_instructions.specs.Instructions.{effect_tree, constant_value};
+ghost use Rattle.fault_instructions.specs.Instructions.{constant_value};
 ghost use Rattle.fault_instructions.specs.AllowedEffects.{kind_of_members, is_of_kind as is_of_kind_of, differs as differs_from};
 ghost use Rattle.fault_instructions.specs.AllowedEffects.{members_differ, has_two_values as has_two_values_of, is_small as is_small_number};
-ghost use Rattle.fault_instructions.specs.AllowedEffects.{offset_fits as offset_fits_in, ramp_fits as ramp_fits_in, constant_fault};
-ghost use Rattle.fault_instructions.specs.AllowedEffects.{inverted_fault, offset_fault, ramp_fault, fault_of};
+ghost use Rattle.fault_instructions.specs.AllowedEffects.{offset_fits as offset_fits_in, ramp_fits as ramp_fits_in, demand_fault};
+ghost use Rattle.fault_instructions.specs.EffectForms.{one_of_its, truth_values, two_values, a_range};
 
-use crate::{Constant, Effect};
+use crate::Constant;
 use base_values::Name;
 use base_values::limits::{GREATEST_NUMBER, LEAST_NUMBER};
 use smv_language::{Declared, Member};
@@ -28,32 +29,9 @@ pub enum EffectFault {
     OneValueOnly,
 }
 
-/// Whether an effect may stand at a variable that is declared so; if not, the first demand that is
-/// broken. Takes no memory.
-pub fn allowed(e: &Effect, d: &Declared) -> Result<(), EffectFault>
-    ensures { result_err result ≡ fault_of (effect_tree e.now) (declared_tree d.now) }
-{
-    match e {
-        Effect::StuckAt(c) => constant_allowed(c, d),
-        Effect::Follows(_) | Effect::Random | Effect::Frozen | Effect::StuckAtPick => Ok(()),
-        Effect::Inverted => inverted_allowed(d),
-        Effect::Erroneous => {
-            if has_two_values(d) {
-                Ok(())
-            } else {
-                Err(EffectFault::OneValueOnly)
-            }
-        }
-        Effect::Offset(distance) => offset_allowed(*distance, d),
-        Effect::RampDown(step, floor) => ramp_allowed(*step, *floor, d),
-    }
-}
-
 /// `StuckAt`: the constant is of the variable's kind, and one of its values.
-fn constant_allowed(c: &Constant, d: &Declared) -> Result<(), EffectFault>
-    ensures { result_err result
-        ≡ constant_fault (is_of_kind_of (declared_tree d.now) (constant_value c.now))
-        (in_domain (declared_tree d.now) (constant_value c.now)) }
+pub(crate) fn constant_allowed(c: &Constant, d: &Declared) -> Result<(), EffectFault>
+    ensures { result_err result ≡ demand_fault (one_of_its (constant_value c.now)) (declared_tree d.now) }
 {
     if !is_of_kind(d, c) {
         return Err(EffectFault::WrongKind);
@@ -65,8 +43,8 @@ fn constant_allowed(c: &Constant, d: &Declared) -> Result<(), EffectFault>
 }
 
 /// `Inverted`: the variable is boolean.
-fn inverted_allowed(d: &Declared) -> Result<(), EffectFault>
-    ensures { result_err result ≡ inverted_fault (declared_tree d.now) }
+pub(crate) fn inverted_allowed(d: &Declared) -> Result<(), EffectFault>
+    ensures { result_err result ≡ demand_fault truth_values (declared_tree d.now) }
 {
     match d {
         Declared::Boolean => Ok(()),
@@ -77,8 +55,8 @@ fn inverted_allowed(d: &Declared) -> Result<(), EffectFault>
 }
 
 /// `Offset`: the variable is of a range, and the distance fits it.
-fn offset_allowed(distance: i64, d: &Declared) -> Result<(), EffectFault>
-    ensures { result_err result ≡ offset_fault distance (declared_tree d.now) }
+pub(crate) fn offset_allowed(distance: i64, d: &Declared) -> Result<(), EffectFault>
+    ensures { result_err result ≡ demand_fault (a_range (offset_fits_in distance)) (declared_tree d.now) }
 {
     match d {
         Declared::Range(lo, hi) => {
@@ -95,8 +73,8 @@ fn offset_allowed(distance: i64, d: &Declared) -> Result<(), EffectFault>
 }
 
 /// `RampDown`: the variable is of a range, and step and floor fit it.
-fn ramp_allowed(step: i64, floor: i64, d: &Declared) -> Result<(), EffectFault>
-    ensures { result_err result ≡ ramp_fault step floor (declared_tree d.now) }
+pub(crate) fn ramp_allowed(step: i64, floor: i64, d: &Declared) -> Result<(), EffectFault>
+    ensures { result_err result ≡ demand_fault (a_range (ramp_fits_in step floor)) (declared_tree d.now) }
 {
     match d {
         Declared::Range(lo, hi) => {
@@ -109,6 +87,17 @@ fn ramp_allowed(step: i64, floor: i64, d: &Declared) -> Result<(), EffectFault>
         Declared::Boolean | Declared::Members(_) | Declared::Instance(_, _) => {
             Err(EffectFault::WrongKind)
         }
+    }
+}
+
+/// `Erroneous`: the variable has two values.
+pub(crate) fn two_values_allowed(d: &Declared) -> Result<(), EffectFault>
+    ensures { result_err result ≡ demand_fault two_values (declared_tree d.now) }
+{
+    if has_two_values(d) {
+        Ok(())
+    } else {
+        Err(EffectFault::OneValueOnly)
     }
 }
 

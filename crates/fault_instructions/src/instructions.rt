@@ -1,4 +1,5 @@
 //! Instructions as they are written: [`Instructions`], with extensions, slices, modes and their effects.
+use crate::effects::{ConstantEffect, ExpressionEffect, NumberEffect, NumbersEffect, PlainEffect};
 use base_values::{Dotted, Items, Name};
 use smv_language::Expr;
 
@@ -66,27 +67,15 @@ pub enum Dynamics {
 }
 
 /// What is read of the affected variable while the mode stands. Its own value is what it would have
-/// been without faults, and the value before is what was read at the moment before.
+/// been without faults, and the value before is what was read at the moment before. A variant for each
+/// shape of arguments; each effect has a row in `effects`.
 #[derive(Drop)]
 pub enum Effect {
-    /// The constant.
-    StuckAt(Constant),
-    /// The value of the expression.
-    Follows(Expr<Dotted>),
-    /// The negation of the own value.
-    Inverted,
-    /// Any value.
-    Random,
-    /// Any value but the own one.
-    Erroneous,
-    /// The value before.
-    Frozen,
-    /// Any value where the mode is entered, and from then on the value before.
-    StuckAtPick,
-    /// The own value and this distance, clipped to the range.
-    Offset(i64),
-    /// The greater of the second number and the value before less the first.
-    RampDown(i64, i64),
+    Plain(PlainEffect),
+    OfConstant(ConstantEffect, Constant),
+    OfExpression(ExpressionEffect, Expr<Dotted>),
+    OfNumber(NumberEffect, i64),
+    OfNumbers(NumbersEffect, i64, i64),
 }
 
 /// A constant of an instruction: a truth value, a number, or a symbol.

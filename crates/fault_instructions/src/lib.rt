@@ -1,4 +1,4 @@
-//! Fault extension instructions as they are written, and their nine effects.
+//! Fault extension instructions as they are written, and their effects.
 //!
 //! An instruction file extends modules of a program: each slice names a variable of its module and
 //! the modes in which that variable fails, and each mode has an effect, a guard and its dynamics.
@@ -16,7 +16,7 @@
 //!
 //! An effect is what is read of a variable while a mode of a fault stands: a relation between the read
 //! value, the own value (what the variable would be without faults) and the value read at the moment
-//! before (`specs/Effects.antt`, a case for each effect). In a
+//! before (`specs/Effects.antt`, a row for each effect). In a
 //! woven program it is made of two parts, the branch of the case that assigns the read value and a
 //! rule section ([`branch`] and [`rule`]; the trees that they make stand in `specs/Templates.antt`). Where
 //! a slice may start in the mode, [`first_rule`] is a third part, for the first moment. That the parts
@@ -38,6 +38,7 @@ ghost use Rattle.fault_instructions.specs.EffectLaw.{EffectLaw, FirstEffectLaw};
 
 mod build;
 mod copy;
+mod effects;
 mod fault;
 mod instructions;
 mod names;
@@ -47,13 +48,17 @@ mod rules;
 
 pub use build::{binary, choice, named, negated, next, not, number_expr, set_of_one, set_of_two};
 pub use copy::{copy_extensions, copy_modes, copy_slices};
-pub use fault::{EffectFault, allowed};
+pub use effects::{
+    ConstantEffect, EffectKind, ExpressionEffect, NumberEffect, NumbersEffect, PlainEffect,
+    allowed, branch, effect_kinds,
+};
+pub use fault::EffectFault;
 pub use instructions::{
     Constant, Dynamics, Effect, Extension, ExtensionList, Instructions, MarkList, ModeList,
     ModeRule, Slice, SliceList, Start,
 };
 pub use names::{mode_symbol, mode_variable, nominal_symbol, own_name};
-pub use parts::{branch, name_of, own_value};
+pub use parts::{name_of, own_value};
 pub use print::print_instructions;
 pub use rules::{first_rule, rule, stands, symbol_of};
 

@@ -1,47 +1,21 @@
-//! The branch of an effect: [`branch`] makes what the read value is assigned while the mode stands.
-//! The trees are those of `branch` in `specs/Templates.antt`.
+//! The branches of effects, a function for each form: what the read value is assigned while a mode stands.
+//! The trees are those of `branch_tree` in `specs/Templates.antt`.
 ghost use Rattle.std.specs.Prelude.{◌≡◌, IfOk, map, All};
 ghost use Rattle.smv_language.specs.ProgramTree.{declared_tree, range};
 ghost use Rattle.smv_language.specs.Tree.{binary as binary_of, choice as choice_of, not_of};
 ghost use Rattle.smv_language.specs.ExpressionTree.{tree_of};
-ghost use Rattle.fault_instructions.specs.Instructions.{effect_tree, constant_value};
+ghost use Rattle.fault_instructions.specs.Instructions.{constant_value};
 ghost use Rattle.fault_instructions.specs.AddedNames.{own_name as own_name_of};
-ghost use Rattle.fault_instructions.specs.Numbers.{HasNegation, ValueHasNegation, MemberHasNegation, EffectHasNegations, TypeHasNegations};
+ghost use Rattle.fault_instructions.specs.Numbers.{HasNegation, ValueHasNegation, MemberHasNegation, TypeHasNegations};
 ghost use Rattle.fault_instructions.specs.Templates.{named as named_tree, number_tree, value_tree, domain_tree, clipped_tree};
-ghost use Rattle.fault_instructions.specs.Templates.{branch as branch_of};
 ghost use Rattle.smv_language.specs.Trace.{value_of_member};
 
+use crate::Constant;
 use crate::build::{binary, choice, named, not, number_expr, set_of_two};
 use crate::names::own_name;
-use crate::{Constant, Effect};
 use base_values::{Dotted, Items, Name, OutOfMemory};
 use smv_language::{Declared, Expr, ExprList, Member, Op};
 use std::alloc::Global;
-
-/// What the read value of the variable is assigned while a mode of the effect stands: one value, or
-/// the set of those that a rule section then restricts. The variable is declared so in the program.
-pub fn branch(
-    alloc: Global,
-    e: &Effect,
-    target: &Name,
-    d: &Declared,
-) -> Result<Expr<Dotted>, OutOfMemory>
-    requires effect { EffectHasNegations (effect_tree e.now) }
-    requires declared { TypeHasNegations (declared_tree d.now) }
-    ensures { IfOk result (λ made. tree_of made ≡ branch_of (effect_tree e.now) (declared_tree d.now) target.now) }
-{
-    match e {
-        Effect::StuckAt(c) => constant(alloc, c),
-        Effect::Follows(value) => value.copy(alloc),
-        Effect::Inverted => inverted(alloc, target),
-        Effect::Offset(distance) => moved(alloc, target, *distance, d),
-        Effect::Random
-        | Effect::Erroneous
-        | Effect::Frozen
-        | Effect::StuckAtPick
-        | Effect::RampDown(_, _) => domain(alloc, d),
-    }
-}
 
 /// The own value of a variable.
 pub fn own_value(alloc: Global, variable: &Name) -> Result<Expr<Dotted>, OutOfMemory>
@@ -60,7 +34,7 @@ pub fn name_of(alloc: Global, name: &Name) -> Result<Expr<Dotted>, OutOfMemory>
 }
 
 /// The opposite of the own value.
-fn inverted(alloc: Global, target: &Name) -> Result<Expr<Dotted>, OutOfMemory>
+pub(crate) fn inverted(alloc: Global, target: &Name) -> Result<Expr<Dotted>, OutOfMemory>
     ensures { IfOk result (λ made. tree_of made ≡ not_of (named_tree (own_name_of target.now))) }
 {
     let own = own_value(alloc, target)?;
@@ -68,7 +42,7 @@ fn inverted(alloc: Global, target: &Name) -> Result<Expr<Dotted>, OutOfMemory>
 }
 
 /// The own value and the distance, clipped to the range.
-fn moved(
+pub(crate) fn moved(
     alloc: Global,
     target: &Name,
     distance: i64,
@@ -86,7 +60,7 @@ fn moved(
 }
 
 /// A constant, as an expression.
-fn constant(alloc: Global, c: &Constant) -> Result<Expr<Dotted>, OutOfMemory>
+pub(crate) fn constant(alloc: Global, c: &Constant) -> Result<Expr<Dotted>, OutOfMemory>
     requires { ValueHasNegation (constant_value c.now) }
     ensures { IfOk result (λ made. tree_of made ≡ value_tree (constant_value c.now)) }
 {
@@ -122,7 +96,7 @@ fn members(alloc: Global, members: &[Member]) -> Result<ExprList<Dotted>, OutOfM
 
 /// The set of the values of a type.
 #[tactic(auto, using(smv_language::proofs::WrittenLaws::tree_of_set))]
-fn domain(alloc: Global, d: &Declared) -> Result<Expr<Dotted>, OutOfMemory>
+pub(crate) fn domain(alloc: Global, d: &Declared) -> Result<Expr<Dotted>, OutOfMemory>
     requires { TypeHasNegations (declared_tree d.now) }
     ensures { IfOk result (λ made. tree_of made ≡ domain_tree (declared_tree d.now)) }
 {

@@ -8,6 +8,7 @@ ghost use Rattle.fault_instructions.specs.SpellsInstructions.{BytesSpellInstruct
 ghost use Rattle.fault_instructions.specs.WritableInstructions.{IsWritableInstructions};
 ghost use Rattle.fault_instructions.specs.InstructionText.{instructions_text, extension_text, slice_text, start_text, mode_line, mode_head};
 ghost use Rattle.fault_instructions.specs.InstructionText.{mark_text, guard_text, effect_text, dynamics_text, name_text, name_line};
+ghost use Rattle.fault_instructions.specs.InstructionText.{arguments_text};
 ghost use Rattle.fault_instructions.specs.InstructionText.{file_words as file_words_text, extension_words as extension_words_text};
 ghost use Rattle.smv_language.specs.Values.{value_text};
 
@@ -232,32 +233,37 @@ fn append_expression(
 fn append_effect(alloc: Global, text: &mut ByteList, effect: &Effect) -> Result<(), OutOfMemory>
     ensures { OnOk result (text.new ≡ text.old ++ effect_text (effect_tree effect.now)) }
 {
+    text.append(effect.kind().keyword())?;
+    append_arguments(alloc, text, effect)
+}
+
+/// Appends the arguments of an effect in parentheses, where it has some.
+#[tactic(auto, using(smv_language::proofs::TextLaws::print_rules))]
+fn append_arguments(alloc: Global, text: &mut ByteList, effect: &Effect) -> Result<(), OutOfMemory>
+    ensures { OnOk result (text.new ≡ text.old ++ arguments_text (effect_tree effect.now)) }
+{
     match effect {
-        Effect::StuckAt(c) => {
-            text.append(b"StuckAt(")?;
+        Effect::Plain(_) => Ok(()),
+        Effect::OfConstant(_, c) => {
+            text.append(b"(")?;
             append_constant(alloc, text, c)?;
             text.append(b")")
         }
-        Effect::Follows(e) => {
-            text.append(b"Follows(")?;
+        Effect::OfExpression(_, e) => {
+            text.append(b"(")?;
             append_expression(alloc, text, e)?;
             text.append(b")")
         }
-        Effect::Inverted => text.append(b"Inverted"),
-        Effect::Random => text.append(b"Random"),
-        Effect::Erroneous => text.append(b"Erroneous"),
-        Effect::Frozen => text.append(b"Frozen"),
-        Effect::StuckAtPick => text.append(b"StuckAtPick"),
-        Effect::Offset(distance) => {
-            text.append(b"Offset(")?;
-            text.append_signed(alloc, *distance)?;
+        Effect::OfNumber(_, n) => {
+            text.append(b"(")?;
+            text.append_signed(alloc, *n)?;
             text.append(b")")
         }
-        Effect::RampDown(step, floor) => {
-            text.append(b"RampDown(")?;
-            text.append_signed(alloc, *step)?;
+        Effect::OfNumbers(_, m, n) => {
+            text.append(b"(")?;
+            text.append_signed(alloc, *m)?;
             text.append(b", ")?;
-            text.append_signed(alloc, *floor)?;
+            text.append_signed(alloc, *n)?;
             text.append(b")")
         }
     }

@@ -14,6 +14,7 @@ ghost use Rattle.fault_instructions.specs.Templates.{rule_sections};
 
 use crate::Effect;
 use crate::build::{binary, choice, named, next, number_expr};
+use crate::effects::{EffectRule, effect_rule};
 use crate::names::{mode_symbol, mode_variable};
 use crate::parts::{compared, name_of, own_value};
 use base_values::{Dotted, Name, OutOfMemory};
@@ -32,28 +33,24 @@ pub fn rule(
     requires { EffectHasNegations (effect_tree e.now) }
     ensures { IfOk result (λ made. rule_sections made ≡ rules (effect_tree e.now) slice.now mode.now target.now) }
 {
-    match e {
-        Effect::Erroneous => {
+    match effect_rule(e) {
+        None => Ok(None),
+        Some(EffectRule::NotOwn) => {
             let rule = erroneous_rule(alloc, slice, mode, target)?;
             Ok(Some(Section::Invar(rule)))
         }
-        Effect::Frozen => {
+        Some(EffectRule::AsBefore) => {
             let rule = frozen_rule(alloc, slice, mode, target)?;
             Ok(Some(Section::Trans(rule)))
         }
-        Effect::StuckAtPick => {
+        Some(EffectRule::AsEntered) => {
             let rule = pick_rule(alloc, slice, mode, target)?;
             Ok(Some(Section::Trans(rule)))
         }
-        Effect::RampDown(step, floor) => {
-            let rule = ramp_rule(alloc, *step, *floor, slice, mode, target)?;
+        Some(EffectRule::Falling(step, floor)) => {
+            let rule = ramp_rule(alloc, step, floor, slice, mode, target)?;
             Ok(Some(Section::Trans(rule)))
         }
-        Effect::StuckAt(_)
-        | Effect::Follows(_)
-        | Effect::Inverted
-        | Effect::Random
-        | Effect::Offset(_) => Ok(None),
     }
 }
 
@@ -69,22 +66,16 @@ pub fn first_rule(
     requires { EffectHasNegations (effect_tree e.now) }
     ensures { IfOk result (λ made. rule_sections made ≡ first_rules (effect_tree e.now) slice.now mode.now target.now) }
 {
-    match e {
-        Effect::Frozen => {
+    match effect_rule(e) {
+        Some(EffectRule::AsBefore) => {
             let rule = frozen_first(alloc, slice, mode, target)?;
             Ok(Some(Section::Init(rule)))
         }
-        Effect::RampDown(step, floor) => {
-            let rule = ramp_first(alloc, *step, *floor, slice, mode, target)?;
+        Some(EffectRule::Falling(step, floor)) => {
+            let rule = ramp_first(alloc, step, floor, slice, mode, target)?;
             Ok(Some(Section::Init(rule)))
         }
-        Effect::StuckAt(_)
-        | Effect::Follows(_)
-        | Effect::Inverted
-        | Effect::Random
-        | Effect::Erroneous
-        | Effect::StuckAtPick
-        | Effect::Offset(_) => Ok(None),
+        None | Some(EffectRule::NotOwn) | Some(EffectRule::AsEntered) => Ok(None),
     }
 }
 

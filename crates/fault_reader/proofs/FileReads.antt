@@ -13,8 +13,8 @@ use Rattle.smv_language.specs.SpellsProgram.{SpellsMany, no_more, one_more}
 use Rattle.smv_language.proofs.OneTree.{is_none_of}
 use Rattle.fault_instructions.specs.declared.instructions.Dynamics.{Dynamics}
 use Rattle.fault_instructions.specs.declared.instructions.Start.{Start}
-use Rattle.fault_instructions.specs.Instructions.{EffectTree, stuck_at, follows, offset, ramp_down, ModeTree, SliceTree, ExtensionTree, InstructionTree}
-use Rattle.fault_instructions.specs.SpellsInstructions.{SpellsConst, const_true, const_false, const_int, const_name, SpellsEffect, e_stuck, e_follows, e_inverted, e_random, e_erroneous, e_frozen, e_pick, e_offset, e_ramp, SpellsDynamics, d_permanent, d_transient, SpellsGuard, no_guard, a_guard, IsTokenText, number_text, word_text, sign_of, SpellsMark, no_mark, a_mark, SpellsMode, a_mode, SpellsStart, at_nominal, at_any, SpellsSlice, a_slice, SpellsExtension, an_extension, SpellsInstructions, unnamed, named, BytesSpellInstructions}
+use Rattle.fault_instructions.specs.Instructions.{EffectTree, of_constant, of_expression, of_number, of_numbers, kind_of, ModeTree, SliceTree, ExtensionTree, InstructionTree}
+use Rattle.fault_instructions.specs.SpellsInstructions.{SpellsConst, const_true, const_false, const_int, const_name, SpellsArguments, no_argument, a_constant, an_expression, a_number, two_numbers, SpellsEffect, an_effect, SpellsDynamics, d_permanent, d_transient, SpellsGuard, no_guard, a_guard, IsTokenText, number_text, word_text, sign_of, SpellsMark, no_mark, a_mark, SpellsMode, a_mode, SpellsStart, at_nominal, at_any, SpellsSlice, a_slice, SpellsExtension, an_extension, SpellsInstructions, unnamed, named, BytesSpellInstructions}
 use Rattle.smv_expression_reader.specs.Places.{text_in}
 use Rattle.smv_expression_reader.specs.Marks.{Mark, mark_of, s_close, s_close_brace, s_comma, s_semicolon, s_colon}
 use Rattle.smv_expression_reader.specs.MarkView.{is_mark}
@@ -24,9 +24,10 @@ use Rattle.smv_expression_reader.proofs.Marks.{Marked, marked, mark_of_name, wor
 use Rattle.smv_expression_reader.proofs.ReadLaws.{read_expr, are_within, within_are}
 use Rattle.smv_expression_reader.proofs.PartsRead.{too_append, then_read, mapped, closes_with, many_read, some_read, no_many, name_read, int_read, answer_got, answer_deep, answer_none}
 use Rattle.fault_reader.specs.InstructionPlaces.{IsInstructions}
-use Rattle.fault_reader.specs.InstructionDepths.{in_effect, in_guard, in_mode, in_slice, in_extension, in_instructions, HaveInstructionDepths, AreInstructionsTooDeep}
-use Rattle.fault_reader.specs.InstructionParts.{const_at, effect_at, dynamics_at, guard_at, in_braces, texts_at, marked_at, HeadTree, head_tree, head_at, mode_with, mode_at, modes_at, start_at, slice_at, slices_at, extension_at, extensions_at, given_name_at, instructions_of, file_at}
+use Rattle.fault_reader.specs.InstructionDepths.{in_arguments, in_effect, in_guard, in_mode, in_slice, in_extension, in_instructions, HaveInstructionDepths, AreInstructionsTooDeep}
+use Rattle.fault_reader.specs.InstructionParts.{const_at, arguments_at, kind_from, effect_at, dynamics_at, guard_at, in_braces, texts_at, marked_at, HeadTree, head_tree, head_at, mode_with, mode_at, modes_at, start_at, slice_at, slices_at, extension_at, extensions_at, given_name_at, instructions_of, file_at}
 use Rattle.smv_lexer.proofs.SignLemmas.{not_true}
+use Rattle.fault_instructions.proofs.EffectRows.{keyword_finds}
 use Rattle.fault_instructions.proofs.OneInstructions.{OneToken}
 
 const_read : {ts : List Lexeme} {c : Value} (q : SpellsConst ts c) (r : List Lexeme) → const_at (ts ++ r) ≡ got c r
@@ -36,29 +37,28 @@ const_read (const_int plain_int) r = refl
 const_read (const_int minus_int) r = refl
 const_read (const_name {x} n) r = rw (is_none_of x (codes "TRUE") refl n, is_none_of x (codes "FALSE") refl n, mark_of_name x n) refl
 
-effect_read : {es : List Lexeme} {e : EffectTree} (p : SpellsEffect es e) (r : List Lexeme) → effect_at (es ++ r) ≡ answer (are_too_deep (in_effect p)) e r
-effect_read (e_stuck {ts} {c} q) r =
-    ap (λ z. and_then (const_at z) (λ c s. and_then (expect_at s_close s) (λ _ q. got (stuck_at c) q))) (append_assoc ts (sign k.Close ∷ []) r)
-    ∙ closes_with stuck_at s_close (sign k.Close) (const_at (ts ++ sign k.Close ∷ r)) false c r refl (const_read q (sign k.Close ∷ r))
-effect_read (e_follows {ts} {e} q) r =
-    ap (λ z. and_then (expr_at z) (λ e s. and_then (expect_at s_close s) (λ _ q. got (follows e) q))) (append_assoc ts (sign k.Close ∷ []) r)
-    ∙ closes_with follows s_close (sign k.Close) (expr_at (ts ++ sign k.Close ∷ r)) (is_too_deep (spelling q)) e r refl (read_expr q (sign k.Close ∷ r) refl)
-    ∙ ap (λ b. answer b (follows e) r) (sym (or-false (is_too_deep (spelling q))))
-effect_read e_inverted r = refl
-effect_read e_random r = refl
-effect_read e_erroneous r = refl
-effect_read e_frozen r = refl
-effect_read e_pick r = refl
-effect_read (e_offset {ts} {d} q) r =
-    ap (λ z. and_then (int_at z) (λ d s. and_then (expect_at s_close s) (λ _ q. got (offset d) q))) (append_assoc ts (sign k.Close ∷ []) r)
-    ∙ closes_with offset s_close (sign k.Close) (int_at (ts ++ sign k.Close ∷ r)) false d r refl (int_read q (sign k.Close ∷ r))
-effect_read (e_ramp {xs} {ys} {d} {f} p q) r =
-    ap (λ z. and_then (int_at z) (λ d s. and_then (expect_at s_comma s) (λ _ q. and_then (int_at q) (λ f y. and_then (expect_at s_close y) (λ _ z. got (ramp_down d f) z)))))
+arguments_read : {us : List Lexeme} {e : EffectTree} (p : SpellsArguments us e) (r : List Lexeme) → arguments_at (kind_of e) (us ++ r) ≡ answer (are_too_deep (in_arguments p)) e r
+arguments_read no_argument r = refl
+arguments_read (a_constant {of} {ts} {c} q) r =
+    ap (λ z. and_then (const_at z) (λ c s. and_then (expect_at s_close s) (λ _ q. got (of_constant of c) q))) (append_assoc ts (sign k.Close ∷ []) r)
+    ∙ closes_with (of_constant of) s_close (sign k.Close) (const_at (ts ++ sign k.Close ∷ r)) false c r refl (const_read q (sign k.Close ∷ r))
+arguments_read (an_expression {of} {ts} {e} q) r =
+    ap (λ z. and_then (expr_at z) (λ e s. and_then (expect_at s_close s) (λ _ q. got (of_expression of e) q))) (append_assoc ts (sign k.Close ∷ []) r)
+    ∙ closes_with (of_expression of) s_close (sign k.Close) (expr_at (ts ++ sign k.Close ∷ r)) (is_too_deep (spelling q)) e r refl (read_expr q (sign k.Close ∷ r) refl)
+    ∙ ap (λ b. answer b (of_expression of e) r) (sym (or-false (is_too_deep (spelling q))))
+arguments_read (a_number {of} {ts} {n} q) r =
+    ap (λ z. and_then (int_at z) (λ d s. and_then (expect_at s_close s) (λ _ q. got (of_number of d) q))) (append_assoc ts (sign k.Close ∷ []) r)
+    ∙ closes_with (of_number of) s_close (sign k.Close) (int_at (ts ++ sign k.Close ∷ r)) false n r refl (int_read q (sign k.Close ∷ r))
+arguments_read (two_numbers {of} {xs} {ys} {m} {n} p q) r =
+    ap (λ z. and_then (int_at z) (λ d s. and_then (expect_at s_comma s) (λ _ q. and_then (int_at q) (λ f y. and_then (expect_at s_close y) (λ _ z. got (of_numbers of d f) z)))))
     (append_assoc xs (sign k.Comma ∷ (ys ++ sign k.Close ∷ [])) r)
-    ∙ ap (λ y. and_then y (λ d s. and_then (expect_at s_comma s) (λ _ q. and_then (int_at q) (λ f y. and_then (expect_at s_close y) (λ _ z. got (ramp_down d f) z)))))
+    ∙ ap (λ y. and_then y (λ d s. and_then (expect_at s_comma s) (λ _ q. and_then (int_at q) (λ f y. and_then (expect_at s_close y) (λ _ z. got (of_numbers of d f) z)))))
     (int_read p (sign k.Comma ∷ ((ys ++ sign k.Close ∷ []) ++ r)))
-    ∙ ap (λ z. and_then (int_at z) (λ f y. and_then (expect_at s_close y) (λ _ z. got (ramp_down d f) z))) (append_assoc ys (sign k.Close ∷ []) r)
-    ∙ closes_with (λ f. ramp_down d f) s_close (sign k.Close) (int_at (ys ++ sign k.Close ∷ r)) false f r refl (int_read q (sign k.Close ∷ r))
+    ∙ ap (λ z. and_then (int_at z) (λ f y. and_then (expect_at s_close y) (λ _ z. got (of_numbers of m f) z))) (append_assoc ys (sign k.Close ∷ []) r)
+    ∙ closes_with (λ f. of_numbers of m f) s_close (sign k.Close) (int_at (ys ++ sign k.Close ∷ r)) false n r refl (int_read q (sign k.Close ∷ r))
+
+effect_read : {es : List Lexeme} {e : EffectTree} (p : SpellsEffect es e) (r : List Lexeme) → effect_at (es ++ r) ≡ answer (are_too_deep (in_effect p)) e r
+effect_read (an_effect {us} {e} p) r = ap (λ o. kind_from o (us ++ r)) (keyword_finds (kind_of e)) ∙ arguments_read p r
 
 dynamics_read : {ds : List Lexeme} {d : Dynamics} (p : SpellsDynamics ds d) (r : List Lexeme) → dynamics_at (ds ++ r) ≡ got d r
 dynamics_read d_permanent r = refl

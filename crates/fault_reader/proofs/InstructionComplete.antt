@@ -1,6 +1,7 @@
 -- What a symbol stands for begins with a lexeme that it goes on with, and what is then expected stands behind it.
 use Rattle.std.proofs.Common.{◌≡◌, ◌≢◌, ℕ, ℤ, false, List, [], ◌∷◌, ◌++◌, Option, Some, refl, sym, ◌∙◌, ap, subst, append_assoc, append-nil}
 use Rattle.std.specs.Prelude.{codes}
+use Rattle.std.specs.Option.{option_map}
 use Rattle.smv_lexer.specs.declared.token.TokenKind.TheVariants as k
 use Rattle.smv_language.specs.ProgramTree.{Text, Formula}
 use Rattle.smv_language.specs.Values.{Value}
@@ -9,8 +10,10 @@ use Rattle.smv_language.specs.Spells.{SpellsInt, plain_int, minus_int}
 use Rattle.smv_language.specs.SpellsProgram.{SpellsMany, no_more, one_more}
 use Rattle.fault_instructions.specs.declared.instructions.Dynamics.{Dynamics}
 use Rattle.fault_instructions.specs.declared.instructions.Start.{Start}
-use Rattle.fault_instructions.specs.Instructions.{EffectTree, ModeTree, SliceTree, ExtensionTree, InstructionTree}
-use Rattle.fault_instructions.specs.SpellsInstructions.{SpellsConst, const_true, const_false, const_int, const_name, SpellsEffect, e_stuck, e_follows, e_inverted, e_random, e_erroneous, e_frozen, e_pick, e_offset, e_ramp, SpellsDynamics, d_permanent, d_transient, SpellsGuard, no_guard, a_guard, IsTokenText, number_text, word_text, sign_of, SpellsMark, no_mark, a_mark, SpellsMode, a_mode, SpellsStart, at_nominal, at_any, SpellsSlice, a_slice, SpellsExtension, an_extension, SpellsInstructions, unnamed, named}
+use Rattle.fault_instructions.specs.Effects.{keyword}
+use Rattle.fault_instructions.proofs.EffectRows.{keyword_finds}
+use Rattle.fault_instructions.specs.Instructions.{EffectTree, kind_of, ModeTree, SliceTree, ExtensionTree, InstructionTree}
+use Rattle.fault_instructions.specs.SpellsInstructions.{SpellsConst, const_true, const_false, const_int, const_name, SpellsArguments, no_argument, a_constant, an_expression, a_number, two_numbers, SpellsEffect, an_effect, SpellsDynamics, d_permanent, d_transient, SpellsGuard, no_guard, a_guard, IsTokenText, number_text, word_text, sign_of, SpellsMark, no_mark, a_mark, SpellsMode, a_mode, SpellsStart, at_nominal, at_any, SpellsSlice, a_slice, SpellsExtension, an_extension, SpellsInstructions, unnamed, named}
 use Rattle.smv_expression_reader.specs.Recogniser.{role_of}
 use Rattle.smv_expression_reader.specs.Recogniser as machine
 use Rattle.smv_expression_reader.specs.Places.{is_word}
@@ -18,7 +21,7 @@ use Rattle.smv_expression_reader.specs.Marks.{Mark, s_close_brace, mark_of}
 use Rattle.smv_expression_reader.proofs.Accepted.{spelled_accepted}
 use Rattle.smv_expression_reader.proofs.Marks.{Marked, marked, mark_of_name}
 use Rattle.smv_language.proofs.OneTree.{is_none_of}
-use Rattle.fault_reader.specs.InstructionGrammar.{the_name, the_number, the_open, the_close, the_comma, the_colon, the_semicolon, Sym, is_single, IsMark, IsMode, spelled, expr, after_extensions, after_in_mark, after_constant, next, instructions}
+use Rattle.fault_reader.specs.InstructionGrammar.{the_name, the_number, the_open, the_close, the_comma, the_colon, the_semicolon, Sym, is_single, IsMark, IsMode, spelled, expr, after_extensions, after_in_mark, after_constant, arguments, next, instructions}
 use Rattle.fault_reader.specs.InstructionGrammar as s
 use Rattle.fault_reader.proofs.Through.{That, as_one, as_key, as_other, is_that, is_the_word, Means_of, Through, true_where, live_complete}
 use Rattle.smv_expression_reader.proofs.Meanings.{as_last, Leads, some_leads}
@@ -204,38 +207,28 @@ in_parentheses x us d =
     as_one the_open (x ∷ s.single the_close ∷ []) (sign k.Open) (us ++ sign k.Close ∷ []) refl
     (as_other x (s.single the_close ∷ []) us (sign k.Close ∷ []) d (as_one the_close [] (sign k.Close) [] refl refl))
 
-two_numbers : (xs ys : List Lexeme) → spelled s.int xs → spelled s.int ys →
+numbers_in_parentheses : (xs ys : List Lexeme) → spelled s.int xs → spelled s.int ys →
     Means_of (s.single the_open ∷ s.int ∷ s.single the_comma ∷ s.int ∷ s.single the_close ∷ []) (sign k.Open ∷ (xs ++ sign k.Comma ∷ (ys ++ sign k.Close ∷ [])))
 unfolding That
-two_numbers xs ys d f =
+numbers_in_parentheses xs ys d f =
     as_one the_open (s.int ∷ s.single the_comma ∷ s.int ∷ s.single the_close ∷ []) (sign k.Open) (xs ++ sign k.Comma ∷ (ys ++ sign k.Close ∷ [])) refl
     (as_other s.int (s.single the_comma ∷ s.int ∷ s.single the_close ∷ []) xs (sign k.Comma ∷ (ys ++ sign k.Close ∷ [])) d
     (as_one the_comma (s.int ∷ s.single the_close ∷ []) (sign k.Comma) (ys ++ sign k.Close ∷ []) refl
     (as_other s.int (s.single the_close ∷ []) ys (sign k.Close ∷ []) f (as_one the_close [] (sign k.Close) [] refl refl))))
 
+complete_arguments : {us : List Lexeme} {x : EffectTree} → SpellsArguments us x → Means_of (arguments (kind_of x)) us
+complete_arguments no_argument = refl
+complete_arguments (a_constant {ts = bs} p) = in_parentheses s.constant bs (_, p)
+complete_arguments (an_expression {ts = bs} p) = in_parentheses expr bs (spelled_accepted p)
+complete_arguments (a_number {ts = bs} p) = in_parentheses s.int bs (_, p)
+complete_arguments (two_numbers {xs = as_} {ys = bs} p q) = numbers_in_parentheses as_ bs (_, p) (_, q)
+
 complete_effect : (us : List Lexeme) (x : EffectTree) (t : Lexeme) (ts : List Lexeme) → SpellsEffect us x → us ≡ t ∷ ts → Through (next s.effect t) ts
-unfolding Leads
-complete_effect us x t ts (e_stuck {ts = bs} p) e =
-    let head : word (codes "StuckAt") ≡ t = cc in
-    let rest : sign k.Open ∷ (bs ++ sign k.Close ∷ []) ≡ ts = cc in
-    subst (λ z. Through (next s.effect z) ts) head (subst (Means_of (s.single the_open ∷ s.constant ∷ s.single the_close ∷ [])) rest (in_parentheses s.constant bs (_, p)))
-complete_effect us x t ts (e_follows {ts = bs} p) e =
-    let head : word (codes "Follows") ≡ t = cc in
-    let rest : sign k.Open ∷ (bs ++ sign k.Close ∷ []) ≡ ts = cc in
-    subst (λ z. Through (next s.effect z) ts) head (subst (Means_of (s.single the_open ∷ expr ∷ s.single the_close ∷ [])) rest (in_parentheses expr bs (spelled_accepted p)))
-complete_effect us x t ts (e_offset {ts = bs} p) e =
-    let head : word (codes "Offset") ≡ t = cc in
-    let rest : sign k.Open ∷ (bs ++ sign k.Close ∷ []) ≡ ts = cc in
-    subst (λ z. Through (next s.effect z) ts) head (subst (Means_of (s.single the_open ∷ s.int ∷ s.single the_close ∷ [])) rest (in_parentheses s.int bs (_, p)))
-complete_effect us x t ts (e_ramp {xs = as_} {ys = bs} p q) e =
-    let head : word (codes "RampDown") ≡ t = cc in
-    let rest : sign k.Open ∷ (as_ ++ sign k.Comma ∷ (bs ++ sign k.Close ∷ [])) ≡ ts = cc in
-    subst (λ z. Through (next s.effect z) ts) head (subst (Means_of (s.single the_open ∷ s.int ∷ s.single the_comma ∷ s.int ∷ s.single the_close ∷ [])) rest (two_numbers as_ bs (_, p) (_, q)))
-complete_effect us x t ts e_inverted e = let head : word (codes "Inverted") ≡ t = cc in let rest : ts ≡ [] = cc in subst (λ z. Through (next s.effect z) ts) head rest
-complete_effect us x t ts e_random e = let head : word (codes "Random") ≡ t = cc in let rest : ts ≡ [] = cc in subst (λ z. Through (next s.effect z) ts) head rest
-complete_effect us x t ts e_erroneous e = let head : word (codes "Erroneous") ≡ t = cc in let rest : ts ≡ [] = cc in subst (λ z. Through (next s.effect z) ts) head rest
-complete_effect us x t ts e_frozen e = let head : word (codes "Frozen") ≡ t = cc in let rest : ts ≡ [] = cc in subst (λ z. Through (next s.effect z) ts) head rest
-complete_effect us x t ts e_pick e = let head : word (codes "StuckAtPick") ≡ t = cc in let rest : ts ≡ [] = cc in subst (λ z. Through (next s.effect z) ts) head rest
+complete_effect us x t ts (an_effect {us = bs} p) e =
+    let head : word (keyword (kind_of x)) ≡ t = cc in
+    let rest : bs ≡ ts = cc in
+    some_leads instructions (next s.effect t) (arguments (kind_of x)) ts (ap (next s.effect) (sym head) ∙ ap (option_map arguments) (keyword_finds (kind_of x)))
+    (subst (Means_of (arguments (kind_of x))) rest (complete_arguments p))
 
 complete_guard : (us : List Lexeme) (g : Option Formula) (t : Lexeme) (ts : List Lexeme) → SpellsGuard us g → us ≡ t ∷ ts → Through (next s.guard t) ts
 unfolding Leads

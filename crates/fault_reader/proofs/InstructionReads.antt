@@ -1,6 +1,7 @@
 -- The laws of the grammar of instructions.
 use Rattle.std.proofs.Common.{◌≡◌, Bool, true, false, List, [], ◌∷◌, Option, Some, None, refl, ◌∙◌, ap}
 use Rattle.std.specs.Prelude.{◌&&◌, ◌||◌, codes, if◌then◌else◌}
+use Rattle.std.specs.Option.{option_map}
 use Rattle.smv_lexer.specs.declared.token.TokenKind.TheVariants as k
 use Rattle.smv_language.specs.ProgramTree.{Text}
 use Rattle.smv_language.specs.Values.{Value}
@@ -9,8 +10,11 @@ use Rattle.smv_language.specs.Spells.{plain_int}
 use Rattle.smv_language.specs.SpellsProgram.{no_more}
 use Rattle.fault_instructions.specs.declared.instructions.Dynamics.{Dynamics}
 use Rattle.fault_instructions.specs.declared.instructions.Dynamics.TheVariants.{Permanent}
-use Rattle.fault_instructions.specs.Instructions.{EffectTree, frozen, ModeTree}
-use Rattle.fault_instructions.specs.SpellsInstructions.{SpellsConst, const_true, const_false, const_int, const_name, SpellsEffect, e_stuck, e_follows, e_inverted, e_random, e_erroneous, e_frozen, e_pick, e_offset, e_ramp, SpellsDynamics, d_permanent, d_transient, no_guard, SpellsMark, no_mark, a_mark, SpellsMode, a_mode, at_nominal, unnamed}
+use Rattle.fault_instructions.specs.declared.effects.PlainEffect.TheVariants.{Frozen}
+use Rattle.fault_instructions.specs.declared.effects.EffectKind.{EffectKind}
+use Rattle.fault_instructions.specs.declared.effects.EffectKind.TheVariants as kind
+use Rattle.fault_instructions.specs.Instructions.{EffectTree, plain, ModeTree}
+use Rattle.fault_instructions.specs.SpellsInstructions.{SpellsConst, const_true, const_false, const_int, const_name, no_argument, SpellsEffect, an_effect, SpellsDynamics, d_permanent, d_transient, no_guard, SpellsMark, no_mark, a_mark, SpellsMode, a_mode, at_nominal, unnamed}
 use Rattle.smv_expression_reader.specs.Recogniser.{closes, role_of, by_number, by_name, by_other, State, had, stuck, is_whole}
 use Rattle.smv_expression_reader.specs.Recogniser as machine
 use Rattle.smv_expression_reader.specs.Places.{is_word}
@@ -19,7 +23,7 @@ use Rattle.smv_expression_reader.specs.Marks.{Mark, a_name, a_number, s_open_bra
 use Rattle.smv_expression_reader.proofs.Exact.{completes}
 use Rattle.smv_expression_reader.proofs.FormulasRead.{whole_stops}
 use Rattle.smv_expression_reader.proofs.Marks.{word_there}
-use Rattle.fault_reader.specs.InstructionGrammar.{the_name, the_number, the_open, the_close, the_comma, the_colon, the_semicolon, Sym, is_single, spelled, empty, expr, live, where_so, after_extensions, after_mark, after_in_mark, after_int, after_constant, is_plain, after_effect, next, follow, shortest, shortest_mode, instructions}
+use Rattle.fault_reader.specs.InstructionGrammar.{the_name, the_number, the_open, the_close, the_comma, the_colon, the_semicolon, Sym, is_single, spelled, empty, expr, live, where_so, after_extensions, after_mark, after_in_mark, after_int, after_constant, effect_in, arguments, next, follow, shortest, shortest_mode, instructions}
 use Rattle.fault_reader.specs.InstructionGrammar as s
 use Rattle.fault_reader.proofs.Through.{That, that}
 use Rattle.fault_reader.proofs.InstructionSound.{sounds}
@@ -55,15 +59,7 @@ some_dynamics us d d_permanent e = cc
 some_dynamics us d d_transient e = cc
 
 some_effect : (us : List Lexeme) (x : EffectTree) → SpellsEffect us x → us ≡ [] → ⊥
-some_effect us x (e_stuck p) e = cc
-some_effect us x (e_follows p) e = cc
-some_effect us x e_inverted e = cc
-some_effect us x e_random e = cc
-some_effect us x e_erroneous e = cc
-some_effect us x e_frozen e = cc
-some_effect us x e_pick e = cc
-some_effect us x (e_offset p) e = cc
-some_effect us x (e_ramp p q) e = cc
+some_effect us x (an_effect p) e = cc
 
 some_constant : (us : List Lexeme) (c : Value) → SpellsConst us c → us ≡ [] → ⊥
 some_constant us c const_true e = cc
@@ -216,16 +212,14 @@ unfolding FitsAll
 fits_constant a_name = tt
 fits_constant c = fits_int c (follow s.constant)
 
-fits_effect : (t : Lexeme) → FitsOf (after_effect t) (follow s.effect)
+fits_arguments : (o : Option EffectKind) → FitsOf (option_map arguments o) (follow s.effect)
 unfolding FitsAll
-fits_effect t =
-    let followed : FitsOf (Some (s.single the_open ∷ expr ∷ s.single the_close ∷ [])) (follow s.effect) =
-    (λ u h. refl, (λ u h. ends_formula (is_single the_semicolon (mark_of u)) (is_single the_close (mark_of u)) h, (λ u h. refl, tt))) in
-    fits_if (is_word t (codes "StuckAt")) _ _ (follow s.effect) (λ u h. refl, (λ u h. refl, (λ u h. refl, tt)))
-    (fits_if (is_word t (codes "Follows")) _ _ (follow s.effect) followed
-    (fits_if (is_word t (codes "Offset")) _ _ (follow s.effect) (λ u h. refl, (λ u h. refl, (λ u h. refl, tt)))
-    (fits_if (is_word t (codes "RampDown")) _ _ (follow s.effect) (λ u h. refl, (λ u h. refl, (λ u h. refl, (λ u h. refl, (λ u h. refl, tt)))))
-    (fits_where (is_plain t) [] (follow s.effect) tt))))
+fits_arguments None = tt
+fits_arguments (Some (kind.Plain of)) = tt
+fits_arguments (Some (kind.OfConstant of)) = (λ u h. refl, (λ u h. refl, (λ u h. refl, tt)))
+fits_arguments (Some (kind.OfExpression of)) = (λ u h. refl, (λ u h. ends_formula (is_single the_semicolon (mark_of u)) (is_single the_close (mark_of u)) h, (λ u h. refl, tt)))
+fits_arguments (Some (kind.OfNumber of)) = (λ u h. refl, (λ u h. refl, (λ u h. refl, tt)))
+fits_arguments (Some (kind.OfNumbers of)) = (λ u h. refl, (λ u h. refl, (λ u h. refl, (λ u h. refl, (λ u h. refl, tt)))))
 
 fits_live : (st : State) (f : Lexeme → Bool) →
     ((u : Lexeme) → (false || (true && f u)) ≡ true → (is_single the_semicolon (mark_of u) || is_single the_close (mark_of u)) ≡ true) → FitsOf (live st []) f
@@ -248,15 +242,15 @@ fits s.mode_rest t = fits_mode_rest t
 fits s.mark t = fits_mark (mark_of t)
 fits s.in_mark t = fits_in_mark (mark_of t)
 fits s.dynamics t = fits_where (is_word t (codes "Permanent") || is_word t (codes "Transient")) [] (follow s.dynamics) tt
-fits s.effect t = fits_effect t
+fits s.effect t = fits_arguments (effect_in t)
 fits s.constant t = fits_if (is_word t (codes "TRUE") || is_word t (codes "FALSE")) (Some []) (after_constant (mark_of t)) (follow s.constant) tt (fits_constant (mark_of t))
 fits s.int t = fits_int (mark_of t) (follow s.int)
 fits s.guard t =
     fits_where (is_word t (codes "WHEN")) (expr ∷ []) (follow s.guard) (λ u h. ends_guard (is_single the_semicolon (mark_of u)) (is_single the_close (mark_of u)) h, tt)
 
 -- a list that each symbol stands for
-short_mode : SpellsMode (word (codes "MODE") ∷ shortest_mode) (record { name = codes "x"; mark = None; dynamics = Permanent; effect = frozen; guard = None })
-short_mode = a_mode refl no_mark d_permanent e_frozen no_guard
+short_mode : SpellsMode (word (codes "MODE") ∷ shortest_mode) (record { name = codes "x"; mark = None; dynamics = Permanent; effect = plain Frozen; guard = None })
+short_mode = a_mode refl no_mark d_permanent (an_effect no_argument) no_guard
 
 completing : (x : Sym) → spelled x (shortest x)
 completing (s.single the_name) = (word (codes "x"), refl, refl)
@@ -272,7 +266,7 @@ completing s.mode = (_, short_mode)
 completing s.mode_rest = (_, short_mode)
 completing s.in_mark = (Some [], a_mark {ts = []} no_more)
 completing s.dynamics = (_, d_permanent)
-completing s.effect = (_, e_frozen)
+completing s.effect = (plain Frozen, an_effect no_argument)
 completing s.constant = (_, const_int plain_int)
 completing s.int = (_, plain_int)
 completing s.file = (_, unnamed no_more)

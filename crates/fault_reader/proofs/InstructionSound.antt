@@ -1,19 +1,25 @@
 -- What is still expected of a symbol after a lexeme, with that lexeme before it, is what the symbol stands for.
-use Rattle.std.proofs.Common.{◌≡◌, inl, inr, ◌⊎◌, ℕ, Bool, true, false, List, [], ◌∷◌, ◌++◌, Option, Some, refl, sym, ◌∙◌, ap, subst, append_assoc, append-nil}
+use Rattle.std.proofs.Common.{◌≡◌, inl, inr, ◌⊎◌, ℕ, Bool, true, false, List, [], ◌∷◌, ◌++◌, Option, Some, None, refl, sym, ◌∙◌, ap, subst, append_assoc, append-nil}
 use Rattle.std.specs.Prelude.{◌||◌, codes, if◌then◌else◌}
+use Rattle.std.specs.Option.{option_map}
 use Rattle.smv_lexer.specs.declared.token.TokenKind.TheVariants as k
 use Rattle.smv_language.specs.ProgramTree.{Text}
 use Rattle.smv_language.specs.Lexemes.{Lexeme, word, num, sign}
 use Rattle.smv_language.specs.Spells.{plain_int, minus_int}
 use Rattle.smv_language.specs.SpellsProgram.{no_more, one_more}
-use Rattle.fault_instructions.specs.SpellsInstructions.{IsTokenText, number_text, word_text, sign_of, const_true, const_false, const_int, const_name, e_stuck, e_follows, e_inverted, e_random, e_erroneous, e_frozen, e_pick, e_offset, e_ramp, d_permanent, d_transient, a_guard, SpellsMark, no_mark, a_mark, a_mode, at_any, a_slice, an_extension, unnamed, named}
+use Rattle.fault_instructions.specs.declared.effects.EffectKind.{EffectKind}
+use Rattle.fault_instructions.specs.declared.effects.EffectKind.TheVariants as kind
+use Rattle.fault_instructions.specs.Effects.{keyword, effect_kinds}
+use Rattle.fault_instructions.specs.Instructions.{EffectTree, plain, of_constant, of_expression, of_number, of_numbers, kind_of}
+use Rattle.fault_instructions.proofs.EffectRows.{found_passes}
+use Rattle.fault_instructions.specs.SpellsInstructions.{IsTokenText, number_text, word_text, sign_of, const_true, const_false, const_int, const_name, SpellsArguments, no_argument, a_constant, an_expression, a_number, two_numbers, an_effect, d_permanent, d_transient, a_guard, SpellsMark, no_mark, a_mark, a_mode, at_any, a_slice, an_extension, unnamed, named}
 use Rattle.smv_expression_reader.specs.Recogniser.{role_of, is_whole}
 use Rattle.smv_expression_reader.specs.Recogniser as machine
 use Rattle.smv_expression_reader.specs.Places.{is_word, text_in}
 use Rattle.smv_expression_reader.specs.Marks.{Mark, a_name, a_number, s_open_brace, s_close_brace, s_minus, mark_of}
 use Rattle.smv_expression_reader.proofs.Rest.{accepted_spelled}
 use Rattle.smv_expression_reader.proofs.Marks.{Marked, marked, word_there}
-use Rattle.fault_reader.specs.InstructionGrammar.{the_name, the_number, the_open, the_close, the_comma, the_colon, the_semicolon, Sym, is_single, IsMark, IsMode, spelled, expr, after_extensions, after_mark, after_in_mark, after_int, after_constant, is_plain, after_effect, next, where_so, instructions}
+use Rattle.fault_reader.specs.InstructionGrammar.{the_name, the_number, the_open, the_close, the_comma, the_colon, the_semicolon, Sym, is_single, IsMark, IsMode, spelled, expr, after_extensions, after_mark, after_in_mark, after_int, after_constant, effect_in, arguments, after_effect, next, instructions}
 use Rattle.fault_reader.specs.InstructionGrammar as s
 use Rattle.fault_reader.proofs.Through.{That, one, key, Means_of, Through, where_true, where_word, if_word, live_sound, that}
 use Rattle.smv_expression_reader.proofs.Meanings.{last, Leads}
@@ -176,40 +182,32 @@ sound_first_constant t ts h = go (is_word t (codes "TRUE") || is_word t (codes "
     go false e h = sound_constant (mark_of t) t ts (marked t) h
 
 -- effects
-sound_stuck : (t : Lexeme) (ts : List Lexeme) → t ≡ word (codes "StuckAt") → Means_of (s.single the_open ∷ s.constant ∷ s.single the_close ∷ []) ts → spelled s.effect (t ∷ ts)
+sound_arguments : (k : EffectKind) (ts : List Lexeme) → Means_of (arguments k) ts → (e : EffectTree) × (kind_of e ≡ k) × SpellsArguments ts e
 unfolding That
-sound_stuck t ts e0 h =
+sound_arguments (kind.Plain of) ts h = (plain of, refl, subst (λ z. SpellsArguments z (plain of)) (sym h) no_argument)
+sound_arguments (kind.OfConstant of) ts h =
     let o = one the_open (s.constant ∷ s.single the_close ∷ []) ts h in
     let m = o.means in
     let c = one the_close [] m.1 m.4 in
     let e1 = o.whole in let e2 : o.lexeme ≡ sign k.Open = o.that in let e3 = m.2 in let e4 = c.whole in let e5 : c.lexeme ≡ sign k.Close = c.that in let e6 : c.rest ≡ [] = c.means in
-    let whole : word (codes "StuckAt") ∷ sign k.Open ∷ (m.0 ++ sign k.Close ∷ []) ≡ t ∷ ts = cc in
-    subst (spelled s.effect) whole (_, e_stuck m.3.1)
-
-sound_follows : (t : Lexeme) (ts : List Lexeme) → t ≡ word (codes "Follows") → Means_of (s.single the_open ∷ expr ∷ s.single the_close ∷ []) ts → spelled s.effect (t ∷ ts)
-unfolding That
-sound_follows t ts e0 h =
+    let whole : sign k.Open ∷ (m.0 ++ sign k.Close ∷ []) ≡ ts = cc in
+    (_, refl, subst (λ z. SpellsArguments z (of_constant of m.3.0)) whole (a_constant m.3.1))
+sound_arguments (kind.OfExpression of) ts h =
     let o = one the_open (expr ∷ s.single the_close ∷ []) ts h in
     let m = o.means in
     let c = one the_close [] m.1 m.4 in
-    let made = accepted_spelled m.0 m.3 in
     let e1 = o.whole in let e2 : o.lexeme ≡ sign k.Open = o.that in let e3 = m.2 in let e4 = c.whole in let e5 : c.lexeme ≡ sign k.Close = c.that in let e6 : c.rest ≡ [] = c.means in
-    let whole : word (codes "Follows") ∷ sign k.Open ∷ (m.0 ++ sign k.Close ∷ []) ≡ t ∷ ts = cc in
-    subst (spelled s.effect) whole (_, e_follows made.1)
-
-sound_offset : (t : Lexeme) (ts : List Lexeme) → t ≡ word (codes "Offset") → Means_of (s.single the_open ∷ s.int ∷ s.single the_close ∷ []) ts → spelled s.effect (t ∷ ts)
-unfolding That
-sound_offset t ts e0 h =
+    let whole : sign k.Open ∷ (m.0 ++ sign k.Close ∷ []) ≡ ts = cc in
+    let made = accepted_spelled m.0 m.3 in
+    (_, refl, subst (λ z. SpellsArguments z (of_expression of made.0)) whole (an_expression made.1))
+sound_arguments (kind.OfNumber of) ts h =
     let o = one the_open (s.int ∷ s.single the_close ∷ []) ts h in
     let m = o.means in
     let c = one the_close [] m.1 m.4 in
     let e1 = o.whole in let e2 : o.lexeme ≡ sign k.Open = o.that in let e3 = m.2 in let e4 = c.whole in let e5 : c.lexeme ≡ sign k.Close = c.that in let e6 : c.rest ≡ [] = c.means in
-    let whole : word (codes "Offset") ∷ sign k.Open ∷ (m.0 ++ sign k.Close ∷ []) ≡ t ∷ ts = cc in
-    subst (spelled s.effect) whole (_, e_offset m.3.1)
-
-sound_ramp : (t : Lexeme) (ts : List Lexeme) → t ≡ word (codes "RampDown") → Means_of (s.single the_open ∷ s.int ∷ s.single the_comma ∷ s.int ∷ s.single the_close ∷ []) ts → spelled s.effect (t ∷ ts)
-unfolding That
-sound_ramp t ts e0 h =
+    let whole : sign k.Open ∷ (m.0 ++ sign k.Close ∷ []) ≡ ts = cc in
+    (_, refl, subst (λ z. SpellsArguments z (of_number of m.3.0)) whole (a_number m.3.1))
+sound_arguments (kind.OfNumbers of) ts h =
     let o = one the_open (s.int ∷ s.single the_comma ∷ s.int ∷ s.single the_close ∷ []) ts h in
     let m = o.means in
     let q = one the_comma (s.int ∷ s.single the_close ∷ []) m.1 m.4 in
@@ -217,70 +215,22 @@ sound_ramp t ts e0 h =
     let c = one the_close [] n.1 n.4 in
     let e1 = o.whole in let e2 : o.lexeme ≡ sign k.Open = o.that in let e3 = m.2 in let e4 = q.whole in let e5 : q.lexeme ≡ sign k.Comma = q.that in
     let e6 = n.2 in let e7 = c.whole in let e8 : c.lexeme ≡ sign k.Close = c.that in let e9 : c.rest ≡ [] = c.means in
-    let whole : word (codes "RampDown") ∷ sign k.Open ∷ (m.0 ++ sign k.Comma ∷ (n.0 ++ sign k.Close ∷ [])) ≡ t ∷ ts = cc in
-    subst (spelled s.effect) whole (_, e_ramp m.3.1 n.3.1)
+    let whole : sign k.Open ∷ (m.0 ++ sign k.Comma ∷ (n.0 ++ sign k.Close ∷ [])) ≡ ts = cc in
+    (_, refl, subst (λ z. SpellsArguments z (of_numbers of m.3.0 n.3.0)) whole (two_numbers m.3.1 n.3.1))
 
-or_word : (t : Lexeme) (w : List ℕ) (b : Bool) → (is_word t w || b) ≡ true → (t ≡ word w) ⊎ (b ≡ true)
-or_word t w b h = go (is_word t w) refl h
-  where
-    go : (c : Bool) → is_word t w ≡ c → (c || b) ≡ true → (t ≡ word w) ⊎ (b ≡ true)
-    go true e h = inl (word_there t w e)
-    go false e h = inr h
+sound_kind : (k : EffectKind) (t : Lexeme) (ts : List Lexeme) → is_word t (keyword k) ≡ true → Means_of (arguments k) ts → spelled s.effect (t ∷ ts)
+sound_kind k t ts e h =
+    let made = sound_arguments k ts h in
+    let whole : word (keyword (kind_of made.0)) ∷ ts ≡ t ∷ ts = ap (λ z. word (keyword z) ∷ ts) made.1 ∙ ap (λ z. z ∷ ts) (sym (word_there t (keyword k) e)) in
+    subst (spelled s.effect) whole (made.0, an_effect made.2)
 
-sound_plain : (t : Lexeme) (ts : List Lexeme) → Through (where_so (is_plain t) []) ts → spelled s.effect (t ∷ ts)
-sound_plain t ts h =
-    let w = where_true (is_plain t) [] ts h in
-    first (or_word t (codes "Inverted") (is_word t (codes "Random") || (is_word t (codes "Erroneous") || (is_word t (codes "Frozen") || is_word t (codes "StuckAtPick")))) w.0) w.1
-  where
-    fourth : (t ≡ word (codes "Frozen")) ⊎ (t ≡ word (codes "StuckAtPick")) → ts ≡ [] → spelled s.effect (t ∷ ts)
-    fourth (inl e) f = let whole : word (codes "Frozen") ∷ [] ≡ t ∷ ts = cc in subst (spelled s.effect) whole (_, e_frozen)
-    fourth (inr e) f = let whole : word (codes "StuckAtPick") ∷ [] ≡ t ∷ ts = cc in subst (spelled s.effect) whole (_, e_pick)
-
-    third : (t ≡ word (codes "Erroneous")) ⊎ ((is_word t (codes "Frozen") || is_word t (codes "StuckAtPick")) ≡ true) → ts ≡ [] → spelled s.effect (t ∷ ts)
-    third (inl e) f = let whole : word (codes "Erroneous") ∷ [] ≡ t ∷ ts = cc in subst (spelled s.effect) whole (_, e_erroneous)
-    third (inr e) f = fourth (either_word t (codes "Frozen") (codes "StuckAtPick") e) f
-
-    second : (t ≡ word (codes "Random")) ⊎ ((is_word t (codes "Erroneous") || (is_word t (codes "Frozen") || is_word t (codes "StuckAtPick"))) ≡ true) → ts ≡ [] → spelled s.effect (t ∷ ts)
-    second (inl e) f = let whole : word (codes "Random") ∷ [] ≡ t ∷ ts = cc in subst (spelled s.effect) whole (_, e_random)
-    second (inr e) f = third (or_word t (codes "Erroneous") (is_word t (codes "Frozen") || is_word t (codes "StuckAtPick")) e) f
-
-    first : (t ≡ word (codes "Inverted")) ⊎ ((is_word t (codes "Random") || (is_word t (codes "Erroneous") || (is_word t (codes "Frozen") || is_word t (codes "StuckAtPick")))) ≡ true) → ts ≡ [] → spelled s.effect (t ∷ ts)
-    first (inl e) f = let whole : word (codes "Inverted") ∷ [] ≡ t ∷ ts = cc in subst (spelled s.effect) whole (_, e_inverted)
-    first (inr e) f = second (or_word t (codes "Random") (is_word t (codes "Erroneous") || (is_word t (codes "Frozen") || is_word t (codes "StuckAtPick"))) e) f
-
-sound_ramp_or_plain : (t : Lexeme) (ts : List Lexeme) →
-    Through (if is_word t (codes "RampDown") then Some (s.single the_open ∷ s.int ∷ s.single the_comma ∷ s.int ∷ s.single the_close ∷ []) else where_so (is_plain t) []) ts → spelled s.effect (t ∷ ts)
+effect_through : (o : Option EffectKind) (t : Lexeme) (ts : List Lexeme) → effect_in t ≡ o → Through (option_map arguments o) ts → spelled s.effect (t ∷ ts)
 unfolding Leads
-sound_ramp_or_plain t ts h = go (if_word t (codes "RampDown") (Some (s.single the_open ∷ s.int ∷ s.single the_comma ∷ s.int ∷ s.single the_close ∷ [])) (where_so (is_plain t) []) ts h)
-  where
-    go : ((t ≡ word (codes "RampDown")) × Means_of (s.single the_open ∷ s.int ∷ s.single the_comma ∷ s.int ∷ s.single the_close ∷ []) ts) ⊎ Through (where_so (is_plain t) []) ts → spelled s.effect (t ∷ ts)
-    go (inl w) = sound_ramp t ts w.0 w.1
-    go (inr w) = sound_plain t ts w
-
-abbrev ramp_choice : Lexeme → Option (List Sym)
-ramp_choice t = if is_word t (codes "RampDown") then Some (s.single the_open ∷ s.int ∷ s.single the_comma ∷ s.int ∷ s.single the_close ∷ []) else where_so (is_plain t) []
-
-abbrev offset_choice : Lexeme → Option (List Sym)
-offset_choice t = if is_word t (codes "Offset") then Some (s.single the_open ∷ s.int ∷ s.single the_close ∷ []) else ramp_choice t
-
-abbrev follows_choice : Lexeme → Option (List Sym)
-follows_choice t = if is_word t (codes "Follows") then Some (s.single the_open ∷ expr ∷ s.single the_close ∷ []) else offset_choice t
+effect_through None t ts e h = absurd h
+effect_through (Some k) t ts e h = sound_kind k t ts (found_passes (λ w. is_word t w) effect_kinds k e) h
 
 sound_effect : (t : Lexeme) (ts : List Lexeme) → Through (after_effect t) ts → spelled s.effect (t ∷ ts)
-unfolding Leads
-sound_effect t ts h = first (if_word t (codes "StuckAt") (Some (s.single the_open ∷ s.constant ∷ s.single the_close ∷ [])) (follows_choice t) ts h)
-  where
-    third : ((t ≡ word (codes "Offset")) × Means_of (s.single the_open ∷ s.int ∷ s.single the_close ∷ []) ts) ⊎ Through (ramp_choice t) ts → spelled s.effect (t ∷ ts)
-    third (inl w) = sound_offset t ts w.0 w.1
-    third (inr w) = sound_ramp_or_plain t ts w
-
-    second : ((t ≡ word (codes "Follows")) × Means_of (s.single the_open ∷ expr ∷ s.single the_close ∷ []) ts) ⊎ Through (offset_choice t) ts → spelled s.effect (t ∷ ts)
-    second (inl w) = sound_follows t ts w.0 w.1
-    second (inr w) = third (if_word t (codes "Offset") (Some (s.single the_open ∷ s.int ∷ s.single the_close ∷ [])) (ramp_choice t) ts w)
-
-    first : ((t ≡ word (codes "StuckAt")) × Means_of (s.single the_open ∷ s.constant ∷ s.single the_close ∷ []) ts) ⊎ Through (follows_choice t) ts → spelled s.effect (t ∷ ts)
-    first (inl w) = sound_stuck t ts w.0 w.1
-    first (inr w) = second (if_word t (codes "Follows") (Some (s.single the_open ∷ expr ∷ s.single the_close ∷ [])) (offset_choice t) ts w)
+sound_effect t ts h = effect_through (effect_in t) t ts refl h
 
 sound_guard : (t : Lexeme) (ts : List Lexeme) → Through (next s.guard t) ts → spelled s.guard (t ∷ ts)
 sound_guard t ts h =

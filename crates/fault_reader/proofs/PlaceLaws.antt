@@ -1,6 +1,7 @@
 -- One step of the recogniser of instructions, and what is expected at each of its places.
 use Rattle.std.proofs.Common.{◌≡◌, ℕ, ◌+◌, Bool, true, false, List, [], ◌∷◌, ◌++◌, Option, Some, None, refl, sym, ap, ◌∙◌}
 use Rattle.std.specs.Prelude.{◌&&◌, ◌||◌, codes, if◌then◌else◌}
+use Rattle.std.specs.Option.{option_map}
 use Rattle.smv_language.specs.Lexemes.{Lexeme}
 use Rattle.smv_expression_reader.specs.Recogniser.{Role, Frame, State, stuck, role_of, is_stuck, is_whole, start}
 use Rattle.smv_expression_reader.specs.Recogniser as machine
@@ -8,7 +9,8 @@ use Rattle.smv_expression_reader.specs.PredictiveReader.{taken, step, all_empty}
 use Rattle.smv_expression_reader.specs.Places.{is_word}
 use Rattle.smv_expression_reader.specs.Marks.{mark_of}
 use Rattle.smv_expression_reader.specs.Views.{state_with}
-use Rattle.fault_reader.specs.InstructionGrammar.{Single, Sym, is_single, formula, expr, live, where_so, after_extensions, after_constant, is_plain, instructions}
+use Rattle.fault_instructions.specs.declared.effects.EffectKind.{EffectKind}
+use Rattle.fault_reader.specs.InstructionGrammar.{Single, Sym, is_single, formula, expr, live, where_so, after_extensions, after_constant, effect_in, arguments, instructions}
 use Rattle.fault_reader.specs.InstructionGrammar as s
 use Rattle.fault_reader.specs.InstructionPlaces.{after_slices, after_modes, before_semicolon, before_guard, before_close, before_with, before_start, head_view, mode_view, argument_view, word_view, place_view, head_ends, mode_ends, word_ends, ends_at, Fits, stepped}
 use Rattle.smv_expression_reader.specs.Readings.{Goes}
@@ -95,24 +97,11 @@ pub no_guard_step : (t : Lexeme) → is_word t (codes "WHEN") ≡ false → step
 no_guard_step t h = taken_false (is_word t (codes "WHEN")) (expr ∷ []) before_semicolon (step Sym instructions before_semicolon t) h
 
 -- effects
-pub effect_stuck : (t : Lexeme) → is_word t (codes "StuckAt") ≡ true → step Sym instructions (s.effect ∷ before_guard) t ≡ Some (s.single s.the_open ∷ s.constant ∷ before_close)
-effect_stuck t a = rw a refl
+pub an_effect_step : (t : Lexeme) (k : EffectKind) → effect_in t ≡ Some k → step Sym instructions (s.effect ∷ before_guard) t ≡ Some (arguments k ++ before_guard)
+an_effect_step t k h = ap (λ o. taken Sym instructions (option_map arguments o) before_guard None) h
 
-pub effect_follows : (t : Lexeme) → is_word t (codes "StuckAt") ≡ false → is_word t (codes "Follows") ≡ true →
-    step Sym instructions (s.effect ∷ before_guard) t ≡ Some (s.single s.the_open ∷ expr ∷ before_close)
-effect_follows t a b = rw (a, b) refl
-
-pub effect_offset : (t : Lexeme) → is_word t (codes "StuckAt") ≡ false → is_word t (codes "Follows") ≡ false → is_word t (codes "Offset") ≡ true →
-    step Sym instructions (s.effect ∷ before_guard) t ≡ Some (s.single s.the_open ∷ s.int ∷ before_close)
-effect_offset t a b c = rw (a, b, c) refl
-
-pub effect_ramp : (t : Lexeme) → is_word t (codes "StuckAt") ≡ false → is_word t (codes "Follows") ≡ false → is_word t (codes "Offset") ≡ false → is_word t (codes "RampDown") ≡ true →
-    step Sym instructions (s.effect ∷ before_guard) t ≡ Some (s.single s.the_open ∷ s.int ∷ s.single s.the_comma ∷ s.int ∷ before_close)
-effect_ramp t a b c d = rw (a, b, c, d) refl
-
-pub effect_plain : (t : Lexeme) → is_word t (codes "StuckAt") ≡ false → is_word t (codes "Follows") ≡ false → is_word t (codes "Offset") ≡ false → is_word t (codes "RampDown") ≡ false →
-    step Sym instructions (s.effect ∷ before_guard) t ≡ where_so (is_plain t) before_guard
-effect_plain t a b c d = rw (a, b, c, d) (taken_where (is_plain t) [] before_guard)
+pub no_effect_step : (t : Lexeme) → effect_in t ≡ None → step Sym instructions (s.effect ∷ before_guard) t ≡ None
+no_effect_step t h = ap (λ o. taken Sym instructions (option_map arguments o) before_guard None) h
 
 pub constant_truth : (t : Lexeme) → (is_word t (codes "TRUE") || is_word t (codes "FALSE")) ≡ true → step Sym instructions (s.constant ∷ before_close) t ≡ Some before_close
 constant_truth t a = rw a refl
@@ -221,7 +210,7 @@ pub ruleset start_steps = (a_start_step, no_start_step, keyword_step)
 
 pub ruleset head_steps = (keyword_step, single_step, first_mode_step)
 
-pub ruleset effect_steps = (effect_stuck, effect_follows, effect_offset, effect_ramp, effect_plain)
+pub ruleset effect_steps = (an_effect_step, no_effect_step)
 
 pub ruleset guard_steps = (a_guard_step, no_guard_step, single_step)
 

@@ -5,23 +5,24 @@ use Rattle.smv_lexer.specs.Tokens.{HasTokens}
 use Rattle.smv_language.specs.ProgramTree.{Formula}
 use Rattle.smv_language.specs.Lexemes.{Lexeme, lexemes_of}
 use Rattle.fault_instructions.specs.Instructions.{EffectTree, ModeTree, SliceTree, ExtensionTree, InstructionTree}
-use Rattle.fault_instructions.specs.SpellsInstructions.{SpellsEffect, e_stuck, e_follows, e_inverted, e_random, e_erroneous, e_frozen}
-use Rattle.fault_instructions.specs.SpellsInstructions.{e_pick, e_offset, e_ramp, SpellsGuard, no_guard, a_guard, SpellsMode, a_mode}
+use Rattle.fault_instructions.specs.SpellsInstructions.{SpellsArguments, no_argument, a_constant, an_expression, a_number}
+use Rattle.fault_instructions.specs.SpellsInstructions.{two_numbers, SpellsEffect, an_effect}
+use Rattle.fault_instructions.specs.SpellsInstructions.{SpellsGuard, no_guard, a_guard, SpellsMode, a_mode}
 use Rattle.fault_instructions.specs.SpellsInstructions.{SpellsSlice, a_slice, SpellsExtension, an_extension, SpellsInstructions, unnamed}
 use Rattle.fault_instructions.specs.SpellsInstructions.{named, BytesSpellInstructions}
 use Rattle.smv_expression_reader.specs.ExpressionDepths.{Spelling, AreWithin, spelling, in_many}
 
--- the value that `Follows` names
+-- the value that an effect follows
+abbrev pub in_arguments : {ts : List Lexeme} {e : EffectTree} → SpellsArguments ts e → List Spelling
+in_arguments no_argument = []
+in_arguments (a_constant p) = []
+in_arguments (an_expression p) = spelling p ∷ []
+in_arguments (a_number p) = []
+in_arguments (two_numbers p q) = []
+
+-- the same of an effect
 abbrev pub in_effect : {ts : List Lexeme} {e : EffectTree} → SpellsEffect ts e → List Spelling
-in_effect (e_stuck p) = []
-in_effect (e_follows p) = spelling p ∷ []
-in_effect e_inverted = []
-in_effect e_random = []
-in_effect e_erroneous = []
-in_effect e_frozen = []
-in_effect e_pick = []
-in_effect (e_offset p) = []
-in_effect (e_ramp p q) = []
+in_effect (an_effect p) = in_arguments p
 
 -- the condition behind `WHEN`
 abbrev pub in_guard : {ts : List Lexeme} {g : Option Formula} → SpellsGuard ts g → List Spelling

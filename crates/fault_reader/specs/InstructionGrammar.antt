@@ -1,5 +1,6 @@
 -- The grammar of instructions, as one that is read by one lexeme at a time.
 use Rattle.std.specs.Prelude.{◌≡◌, refl, ℤ, Bool, true, false, List, [], ◌∷◌, Option, Some, None, ◌||◌, codes, if◌then◌else◌}
+use Rattle.std.specs.Option.{option_map}
 use Rattle.smv_lexer.specs.declared.token.TokenKind.TheVariants as k
 use Rattle.smv_language.specs.ProgramTree.{Text, Formula}
 use Rattle.smv_language.specs.Values.{Value}
@@ -8,6 +9,9 @@ use Rattle.smv_language.specs.Spells.{SpellsInt}
 use Rattle.smv_language.specs.SpellsProgram.{SpellsMany}
 use Rattle.fault_instructions.specs.declared.instructions.Dynamics.{Dynamics}
 use Rattle.fault_instructions.specs.declared.instructions.Start.{Start}
+use Rattle.fault_instructions.specs.declared.effects.EffectKind.{EffectKind}
+use Rattle.fault_instructions.specs.declared.effects.EffectKind.TheVariants as kind
+use Rattle.fault_instructions.specs.Effects.{effect_kinds, first_kind}
 use Rattle.fault_instructions.specs.Instructions.{EffectTree, ModeTree, SliceTree, ExtensionTree, InstructionTree}
 use Rattle.fault_instructions.specs.SpellsInstructions.{SpellsConst, SpellsEffect, SpellsDynamics, SpellsGuard, SpellsMark, SpellsMode}
 use Rattle.fault_instructions.specs.SpellsInstructions.{SpellsStart, SpellsSlice, SpellsExtension, SpellsInstructions}
@@ -149,19 +153,21 @@ abbrev pub after_constant : Mark → Option (List Sym)
 after_constant a_name = Some []
 after_constant c = after_int c
 
--- an effect that is its word alone
-abbrev pub is_plain : Lexeme → Bool
-is_plain t = is_word t (codes "Inverted")
-    || (is_word t (codes "Random") || (is_word t (codes "Erroneous") || (is_word t (codes "Frozen") || is_word t (codes "StuckAtPick"))))
+-- the effect whose word the lexeme is
+abbrev pub effect_in : Lexeme → Option EffectKind
+effect_in t = first_kind (λ w. is_word t w) effect_kinds
+
+-- the arguments of an effect in parentheses, where it has some
+abbrev pub arguments : EffectKind → List Sym
+arguments (kind.Plain of) = []
+arguments (kind.OfConstant of) = single the_open ∷ constant ∷ single the_close ∷ []
+arguments (kind.OfExpression of) = single the_open ∷ expr ∷ single the_close ∷ []
+arguments (kind.OfNumber of) = single the_open ∷ int ∷ single the_close ∷ []
+arguments (kind.OfNumbers of) = single the_open ∷ int ∷ single the_comma ∷ int ∷ single the_close ∷ []
 
 -- the same of an effect
 abbrev pub after_effect : Lexeme → Option (List Sym)
-after_effect t =
-    if is_word t (codes "StuckAt") then Some (single the_open ∷ constant ∷ single the_close ∷ []) else
-    (if is_word t (codes "Follows") then Some (single the_open ∷ expr ∷ single the_close ∷ []) else
-    (if is_word t (codes "Offset") then Some (single the_open ∷ int ∷ single the_close ∷ []) else
-    (if is_word t (codes "RampDown") then Some (single the_open ∷ int ∷ single the_comma ∷ int ∷ single the_close
-    ∷ []) else where_so (is_plain t) [])))
+after_effect t = option_map arguments (effect_in t)
 
 -- what is still expected of a part after a lexeme
 abbrev pub next : Sym → Lexeme → Option (List Sym)

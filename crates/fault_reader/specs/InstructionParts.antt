@@ -7,10 +7,18 @@ use Rattle.fault_instructions.specs.declared.instructions.Dynamics.{Dynamics}
 use Rattle.fault_instructions.specs.declared.instructions.Dynamics.TheVariants.{Permanent, Transient}
 use Rattle.fault_instructions.specs.declared.instructions.Start.{Start}
 use Rattle.fault_instructions.specs.declared.instructions.Start.TheVariants.{Nominal, Any}
-use Rattle.fault_instructions.specs.Instructions.{EffectTree, stuck_at, follows, inverted, random, erroneous, frozen, stuck_at_pick, offset}
-use Rattle.fault_instructions.specs.Instructions.{ramp_down, ModeTree, SliceTree, ExtensionTree, InstructionTree}
+use Rattle.fault_instructions.specs.declared.effects.ConstantEffect.{ConstantEffect}
+use Rattle.fault_instructions.specs.declared.effects.ExpressionEffect.{ExpressionEffect}
+use Rattle.fault_instructions.specs.declared.effects.NumberEffect.{NumberEffect}
+use Rattle.fault_instructions.specs.declared.effects.NumbersEffect.{NumbersEffect}
+use Rattle.fault_instructions.specs.declared.effects.EffectKind.{EffectKind}
+use Rattle.fault_instructions.specs.declared.effects.EffectKind.TheVariants as kind
+use Rattle.fault_instructions.specs.Effects.{effect_kinds, first_kind}
+use Rattle.fault_instructions.specs.Instructions.{EffectTree, plain, of_constant, of_expression, of_number, of_numbers}
+use Rattle.fault_instructions.specs.Instructions.{ModeTree, SliceTree, ExtensionTree, InstructionTree}
 use Rattle.smv_expression_reader.specs.Marks.{a_name, s_open, s_close, s_open_brace, s_close_brace, s_comma, s_semicolon, s_colon}
-use Rattle.smv_expression_reader.specs.SecondPass.{Read, got, and_then, rest_of, has_next, expect_at, name_at, expr_at, each_at, some_at}
+use Rattle.smv_expression_reader.specs.SecondPass.{Read, got, none, and_then}
+use Rattle.smv_expression_reader.specs.SecondPass.{rest_of, has_next, expect_at, name_at, expr_at, each_at, some_at}
 use Rattle.smv_expression_reader.specs.SecondPass.{int_at, has_word, word_at, text_at, end_at}
 
 -- a truth value, a symbol or a number
@@ -20,45 +28,49 @@ const_at ts =
     (if has_word (codes "FALSE") ts then got (truth false) (rest_of ts) else
     (if has_next a_name ts then and_then (name_at ts) (λ x r. got (symbol x) r) else and_then (int_at ts) (λ n r. got (number n) r)))
 
--- what stands behind the word of an effect
-abbrev pub stuck_from : List Lexeme → Read EffectTree
-stuck_from ts = and_then (expect_at s_open ts)
-    (λ _ r. and_then (const_at r) (λ c s. and_then (expect_at s_close s) (λ _ q. got (stuck_at c) q)))
+-- a constant in parentheses
+abbrev pub constant_from : ConstantEffect → List Lexeme → Read EffectTree
+constant_from of ts = and_then (expect_at s_open ts)
+    (λ _ r. and_then (const_at r) (λ c s. and_then (expect_at s_close s) (λ _ q. got (of_constant of c) q)))
 
--- the expression of `Follows` in parentheses
-abbrev pub follows_from : List Lexeme → Read EffectTree
-follows_from ts = and_then (expect_at s_open ts)
-    (λ _ r. and_then (expr_at r) (λ e s. and_then (expect_at s_close s) (λ _ q. got (follows e) q)))
+-- an expression in parentheses
+abbrev pub expression_from : ExpressionEffect → List Lexeme → Read EffectTree
+expression_from of ts = and_then (expect_at s_open ts)
+    (λ _ r. and_then (expr_at r) (λ e s. and_then (expect_at s_close s) (λ _ q. got (of_expression of e) q)))
 
--- the distance of `Offset` in parentheses
-abbrev pub offset_from : List Lexeme → Read EffectTree
-offset_from ts = and_then (expect_at s_open ts)
-    (λ _ r. and_then (int_at r) (λ d s. and_then (expect_at s_close s) (λ _ q. got (offset d) q)))
+-- a number in parentheses
+abbrev pub number_from : NumberEffect → List Lexeme → Read EffectTree
+number_from of ts = and_then (expect_at s_open ts)
+    (λ _ r. and_then (int_at r) (λ d s. and_then (expect_at s_close s) (λ _ q. got (of_number of d) q)))
 
--- the step and the floor of `RampDown` in parentheses
-abbrev pub ramp_from : List Lexeme → Read EffectTree
-ramp_from ts =
+-- two numbers in parentheses
+abbrev pub numbers_from : NumbersEffect → List Lexeme → Read EffectTree
+numbers_from of ts =
     and_then (expect_at s_open ts)
     (λ _ r. and_then (int_at r)
     (λ d s. and_then (expect_at s_comma s)
-    (λ _ q. and_then (int_at q) (λ f y. and_then (expect_at s_close y) (λ _ z. got (ramp_down d f) z)))))
+    (λ _ q. and_then (int_at q) (λ f y. and_then (expect_at s_close y) (λ _ z. got (of_numbers of d f) z)))))
 
--- an effect that is its word alone
-abbrev pub plain_at : List Lexeme → Read EffectTree
-plain_at ts =
-    if has_word (codes "Inverted") ts then got inverted (rest_of ts) else
-    (if has_word (codes "Random") ts then got random (rest_of ts) else
-    (if has_word (codes "Erroneous") ts then got erroneous (rest_of ts) else
-    (if has_word (codes "Frozen") ts then got frozen (rest_of ts) else and_then (word_at (codes "StuckAtPick") ts)
-    (λ _ r. got stuck_at_pick r))))
+-- what stands behind the word of an effect
+abbrev pub arguments_at : EffectKind → List Lexeme → Read EffectTree
+arguments_at (kind.Plain of) ts = got (plain of) ts
+arguments_at (kind.OfConstant of) ts = constant_from of ts
+arguments_at (kind.OfExpression of) ts = expression_from of ts
+arguments_at (kind.OfNumber of) ts = number_from of ts
+arguments_at (kind.OfNumbers of) ts = numbers_from of ts
+
+-- the effect whose word stands next
+abbrev pub kind_at : List Lexeme → Option EffectKind
+kind_at ts = first_kind (λ w. has_word w ts) effect_kinds
+
+-- an effect of this kind, where there is one
+abbrev pub kind_from : Option EffectKind → List Lexeme → Read EffectTree
+kind_from None ts = none
+kind_from (Some k) ts = arguments_at k ts
 
 -- an effect, by its word
 abbrev pub effect_at : List Lexeme → Read EffectTree
-effect_at ts =
-    if has_word (codes "StuckAt") ts then stuck_from (rest_of ts) else
-    (if has_word (codes "Follows") ts then follows_from (rest_of ts) else
-    (if has_word (codes "Offset") ts then offset_from (rest_of ts) else
-    (if has_word (codes "RampDown") ts then ramp_from (rest_of ts) else plain_at ts)))
+effect_at ts = kind_from (kind_at ts) (rest_of ts)
 
 -- whether a mode can be left
 abbrev pub dynamics_at : List Lexeme → Read Dynamics

@@ -5,15 +5,17 @@
 //! tokens are left.
 ghost use Rattle.std.specs.Prelude.{◌≡◌, Err, IfOk, map};
 ghost use Rattle.smv_expression_reader.specs.declared.fault.BuildFault.TheVariants as stop;
-ghost use Rattle.smv_expression_reader.specs.SecondPass.{got, deep, none};
+ghost use Rattle.smv_expression_reader.specs.SecondPass.{got, deep, none, has_word};
+ghost use Rattle.fault_instructions.specs.Effects.{first_kind};
 ghost use Rattle.fault_instructions.specs.Instructions.{constant_value, effect_tree, guard_tree, mode_tree, slice_tree, extension_tree};
 ghost use Rattle.fault_instructions.specs.Instructions.{instruction_tree};
 ghost use Rattle.fault_reader.specs.InstructionParts as part;
 
 use base_values::{Dotted, Name};
 use fault_instructions::{
-    Constant, Dynamics, Effect, Extension, ExtensionList, Instructions, MarkList, ModeList,
-    ModeRule, Slice, SliceList, Start,
+    Constant, ConstantEffect, Dynamics, Effect, EffectKind, ExpressionEffect, Extension,
+    ExtensionList, Instructions, MarkList, ModeList, ModeRule, NumberEffect, NumbersEffect, Slice,
+    SliceList, Start, effect_kinds,
 };
 use smv_expression_reader::cursor::Cursor;
 use smv_expression_reader::fault::BuildFault;
@@ -40,78 +42,90 @@ fn constant(alloc: Global, cursor: &mut Cursor) -> Result<Constant, BuildFault>
     }
 }
 
-/// The argument of `StuckAt`: a constant.
-fn stuck_at(alloc: Global, cursor: &mut Cursor) -> Result<Effect, BuildFault>
-    ensures ok { IfOk result (λ made. part.stuck_from cursor.old ≡ got (effect_tree made) cursor.new) }
-    ensures deep { result ≡ Err stop.TooDeep → part.stuck_from cursor.old ≡ deep }
-    ensures none { result ≡ Err stop.NoTree → part.stuck_from cursor.old ≡ none }
+/// A constant in parentheses.
+fn of_constant(
+    alloc: Global,
+    kind: ConstantEffect,
+    cursor: &mut Cursor,
+) -> Result<Effect, BuildFault>
+    ensures ok { IfOk result (λ made. part.constant_from kind cursor.old ≡ got (effect_tree made) cursor.new) }
+    ensures deep { result ≡ Err stop.TooDeep → part.constant_from kind cursor.old ≡ deep }
+    ensures none { result ≡ Err stop.NoTree → part.constant_from kind cursor.old ≡ none }
 {
     cursor.expect(Mark::Open)?;
     let constant = constant(alloc, cursor)?;
     cursor.expect(Mark::Close)?;
-    Ok(Effect::StuckAt(constant))
+    Ok(Effect::OfConstant(kind, constant))
 }
 
-/// The argument of `Follows`: an expression.
-fn follows(alloc: Global, cursor: &mut Cursor) -> Result<Effect, BuildFault>
-    ensures ok { IfOk result (λ made. part.follows_from cursor.old ≡ got (effect_tree made) cursor.new) }
-    ensures deep { result ≡ Err stop.TooDeep → part.follows_from cursor.old ≡ deep }
-    ensures none { result ≡ Err stop.NoTree → part.follows_from cursor.old ≡ none }
+/// An expression in parentheses.
+fn of_expression(
+    alloc: Global,
+    kind: ExpressionEffect,
+    cursor: &mut Cursor,
+) -> Result<Effect, BuildFault>
+    ensures ok { IfOk result (λ made. part.expression_from kind cursor.old ≡ got (effect_tree made) cursor.new) }
+    ensures deep { result ≡ Err stop.TooDeep → part.expression_from kind cursor.old ≡ deep }
+    ensures none { result ≡ Err stop.NoTree → part.expression_from kind cursor.old ≡ none }
 {
     cursor.expect(Mark::Open)?;
     let value = cursor.expression(alloc)?;
     cursor.expect(Mark::Close)?;
-    Ok(Effect::Follows(value))
+    Ok(Effect::OfExpression(kind, value))
 }
 
-/// The argument of `Offset`: a distance.
-fn offset(cursor: &mut Cursor) -> Result<Effect, BuildFault>
-    ensures ok { IfOk result (λ made. part.offset_from cursor.old ≡ got (effect_tree made) cursor.new) }
-    ensures deep { result ≡ Err stop.TooDeep → part.offset_from cursor.old ≡ deep }
-    ensures none { result ≡ Err stop.NoTree → part.offset_from cursor.old ≡ none }
+/// A number in parentheses.
+fn of_number(kind: NumberEffect, cursor: &mut Cursor) -> Result<Effect, BuildFault>
+    ensures ok { IfOk result (λ made. part.number_from kind cursor.old ≡ got (effect_tree made) cursor.new) }
+    ensures deep { result ≡ Err stop.TooDeep → part.number_from kind cursor.old ≡ deep }
+    ensures none { result ≡ Err stop.NoTree → part.number_from kind cursor.old ≡ none }
 {
     cursor.expect(Mark::Open)?;
-    let distance = cursor.read_number()?;
+    let number = cursor.read_number()?;
     cursor.expect(Mark::Close)?;
-    Ok(Effect::Offset(distance))
+    Ok(Effect::OfNumber(kind, number))
 }
 
-/// The arguments of `RampDown`: the step, then the floor.
-fn ramp_down(cursor: &mut Cursor) -> Result<Effect, BuildFault>
-    ensures ok { IfOk result (λ made. part.ramp_from cursor.old ≡ got (effect_tree made) cursor.new) }
-    ensures deep { result ≡ Err stop.TooDeep → part.ramp_from cursor.old ≡ deep }
-    ensures none { result ≡ Err stop.NoTree → part.ramp_from cursor.old ≡ none }
+/// Two numbers in parentheses.
+fn of_numbers(kind: NumbersEffect, cursor: &mut Cursor) -> Result<Effect, BuildFault>
+    ensures ok { IfOk result (λ made. part.numbers_from kind cursor.old ≡ got (effect_tree made) cursor.new) }
+    ensures deep { result ≡ Err stop.TooDeep → part.numbers_from kind cursor.old ≡ deep }
+    ensures none { result ≡ Err stop.NoTree → part.numbers_from kind cursor.old ≡ none }
 {
     cursor.expect(Mark::Open)?;
-    let step = cursor.read_number()?;
+    let first = cursor.read_number()?;
     cursor.expect(Mark::Comma)?;
-    let floor = cursor.read_number()?;
+    let second = cursor.read_number()?;
     cursor.expect(Mark::Close)?;
-    Ok(Effect::RampDown(step, floor))
+    Ok(Effect::OfNumbers(kind, first, second))
 }
 
-/// An effect that is its word alone.
-fn plain_effect(cursor: &mut Cursor) -> Result<Effect, BuildFault>
-    ensures ok { IfOk result (λ made. part.plain_at cursor.old ≡ got (effect_tree made) cursor.new) }
-    ensures deep { result ≡ Err stop.TooDeep → part.plain_at cursor.old ≡ deep }
-    ensures none { result ≡ Err stop.NoTree → part.plain_at cursor.old ≡ none }
+/// What stands behind the word of an effect.
+fn arguments(alloc: Global, kind: EffectKind, cursor: &mut Cursor) -> Result<Effect, BuildFault>
+    ensures ok { IfOk result (λ made. part.arguments_at kind cursor.old ≡ got (effect_tree made) cursor.new) }
+    ensures deep { result ≡ Err stop.TooDeep → part.arguments_at kind cursor.old ≡ deep }
+    ensures none { result ≡ Err stop.NoTree → part.arguments_at kind cursor.old ≡ none }
 {
-    if cursor.is_word(b"Inverted") {
-        cursor.skip();
-        Ok(Effect::Inverted)
-    } else if cursor.is_word(b"Random") {
-        cursor.skip();
-        Ok(Effect::Random)
-    } else if cursor.is_word(b"Erroneous") {
-        cursor.skip();
-        Ok(Effect::Erroneous)
-    } else if cursor.is_word(b"Frozen") {
-        cursor.skip();
-        Ok(Effect::Frozen)
-    } else {
-        cursor.expect_word(b"StuckAtPick")?;
-        Ok(Effect::StuckAtPick)
+    match kind {
+        EffectKind::Plain(kind) => Ok(Effect::Plain(kind)),
+        EffectKind::OfConstant(kind) => of_constant(alloc, kind, cursor),
+        EffectKind::OfExpression(kind) => of_expression(alloc, kind, cursor),
+        EffectKind::OfNumber(kind) => of_number(kind, cursor),
+        EffectKind::OfNumbers(kind) => of_numbers(kind, cursor),
     }
+}
+
+/// The first of the effects whose word stands next.
+#[tactic(auto, using(fault_instructions::proofs::EffectRows::kinds_more))]
+fn effect_among(kinds: &[EffectKind], cursor: &Cursor) -> Option<EffectKind>
+    ensures { result ≡ first_kind (λ w. has_word w cursor.now) kinds.now }
+{
+    for kind in kinds {
+        if cursor.is_word(kind.keyword()) {
+            return Some(*kind);
+        }
+    }
+    None
 }
 
 /// An effect, by the word that it begins with.
@@ -120,20 +134,12 @@ fn effect(alloc: Global, cursor: &mut Cursor) -> Result<Effect, BuildFault>
     ensures deep { result ≡ Err stop.TooDeep → part.effect_at cursor.old ≡ deep }
     ensures none { result ≡ Err stop.NoTree → part.effect_at cursor.old ≡ none }
 {
-    if cursor.is_word(b"StuckAt") {
-        cursor.skip();
-        stuck_at(alloc, cursor)
-    } else if cursor.is_word(b"Follows") {
-        cursor.skip();
-        follows(alloc, cursor)
-    } else if cursor.is_word(b"Offset") {
-        cursor.skip();
-        offset(cursor)
-    } else if cursor.is_word(b"RampDown") {
-        cursor.skip();
-        ramp_down(cursor)
-    } else {
-        plain_effect(cursor)
+    match effect_among(effect_kinds(), cursor) {
+        Some(kind) => {
+            cursor.skip();
+            arguments(alloc, kind, cursor)
+        }
+        None => Err(BuildFault::NoTree),
     }
 }
 

@@ -2,7 +2,7 @@
 //!
 //! Outside expressions one token decides what comes, and nothing nests, so a place in the grammar is all
 //! that is kept. A word of the grammar is expected only where no name is, and the other way round.
-ghost use Rattle.std.specs.Prelude.{◌≡◌, ◌||◌, ◌&&◌, ◌∷◌, List, [], Some, None, false, codes, IfOk, IfSome};
+ghost use Rattle.std.specs.Prelude.{◌≡◌, ◌||◌, ◌&&◌, ◌∷◌, ◌++◌, List, [], Some, None, false, codes, IfOk, IfSome};
 ghost use Rattle.smv_expression_reader.specs.Recogniser as machine;
 ghost use Rattle.smv_expression_reader.specs.Recogniser.{Frame, role_of};
 ghost use Rattle.smv_expression_reader.specs.Views.{state_with};
@@ -12,13 +12,15 @@ ghost use Rattle.smv_expression_reader.specs.Places.{is_word};
 ghost use Rattle.fault_reader.specs.declared.place.HeadPlace.TheVariants as head;
 ghost use Rattle.fault_reader.specs.declared.place.ModePlace.TheVariants as mode;
 ghost use Rattle.fault_reader.specs.declared.place.ArgumentPlace.TheVariants as argument;
-ghost use Rattle.fault_reader.specs.InstructionGrammar.{Sym, where_so, live, is_plain, after_constant, instructions as grammar};
+ghost use Rattle.fault_reader.specs.InstructionGrammar.{Sym, where_so, live, arguments, after_constant, instructions as grammar};
 ghost use Rattle.fault_reader.specs.InstructionGrammar.{is_single as is_single_mark};
 ghost use Rattle.fault_reader.specs.InstructionGrammar as g;
 ghost use Rattle.fault_reader.specs.InstructionPlaces.{single_view, head_view, mode_view, argument_view, place_view, word_view, after_word};
-ghost use Rattle.fault_reader.specs.InstructionPlaces.{begun_view, after_view, stepped, before_close, before_semicolon, Fits};
+ghost use Rattle.fault_instructions.specs.Effects.{first_kind};
+ghost use Rattle.fault_reader.specs.InstructionPlaces.{begun_view, after_view, stepped, before_guard, before_close, before_semicolon, Fits};
 
 use base_values::OutOfMemory;
+use fault_instructions::{EffectKind, effect_kinds};
 use smv_expression_reader::frames::OpenFrames;
 use smv_expression_reader::machine::{Mode, is_stuck, is_whole, step};
 use smv_expression_reader::mark::Mark;
@@ -106,7 +108,7 @@ pub enum WordPlace {
     Head(HeadPlace),
     Mode(ModePlace),
     Argument(ArgumentPlace),
-    /// The expression of `Follows`, and that of a guard.
+    /// The expression of an effect, and that of a guard.
     Followed,
     Condition,
 }
@@ -115,7 +117,7 @@ pub enum WordPlace {
 #[derive(Clone, Copy, Debug, PartialEq, Eq)]
 pub enum InstructionPlace {
     Word(WordPlace),
-    /// In the expression of `Follows`, and in that of a guard.
+    /// In the expression of an effect, and in that of a guard.
     InFollowed(Mode),
     InCondition(Mode),
 }
@@ -277,15 +279,30 @@ fn is_dynamics(token: &TokenText) -> bool
     token.is_word(b"Permanent") || token.is_word(b"Transient")
 }
 
-/// Whether the token is an effect without arguments.
-fn is_plain_effect(token: &TokenText) -> bool
-    ensures { result ≡ is_plain token.now }
+/// The first of the effects whose word the token is.
+#[tactic(auto, using(fault_instructions::proofs::EffectRows::kinds_more))]
+fn effect_among(kinds: &[EffectKind], token: &TokenText) -> Option<EffectKind>
+    ensures { result ≡ first_kind (λ w. is_word token.now w) kinds.now }
 {
-    token.is_word(b"Inverted")
-        || token.is_word(b"Random")
-        || token.is_word(b"Erroneous")
-        || token.is_word(b"Frozen")
-        || token.is_word(b"StuckAtPick")
+    for kind in kinds {
+        if token.is_word(kind.keyword()) {
+            return Some(*kind);
+        }
+    }
+    None
+}
+
+/// Behind the word of an effect: its arguments, where it has some.
+fn before_arguments(kind: EffectKind) -> WordPlace
+    ensures { word_view result ≡ arguments kind ++ before_guard }
+{
+    match kind {
+        EffectKind::Plain(_) => WordPlace::Mode(ModePlace::Guard),
+        EffectKind::OfConstant(_) => WordPlace::Argument(ArgumentPlace::ConstantOpen),
+        EffectKind::OfExpression(_) => WordPlace::Argument(ArgumentPlace::FollowedOpen),
+        EffectKind::OfNumber(_) => WordPlace::Argument(ArgumentPlace::NumberOpen),
+        EffectKind::OfNumbers(_) => WordPlace::Argument(ArgumentPlace::StepOpen),
+    }
 }
 
 /// After the word of an effect.
@@ -293,16 +310,9 @@ fn is_plain_effect(token: &TokenText) -> bool
 fn effect_step(token: &TokenText) -> Option<WordPlace>
     ensures { after_word result ≡ grammar_step Sym grammar (mode_view mode.Effect) token.now }
 {
-    if token.is_word(b"StuckAt") {
-        Some(WordPlace::Argument(ArgumentPlace::ConstantOpen))
-    } else if token.is_word(b"Follows") {
-        Some(WordPlace::Argument(ArgumentPlace::FollowedOpen))
-    } else if token.is_word(b"Offset") {
-        Some(WordPlace::Argument(ArgumentPlace::NumberOpen))
-    } else if token.is_word(b"RampDown") {
-        Some(WordPlace::Argument(ArgumentPlace::StepOpen))
-    } else {
-        mode_if(is_plain_effect(token), ModePlace::Guard)
+    match effect_among(effect_kinds(), token) {
+        Some(kind) => Some(before_arguments(kind)),
+        None => None,
     }
 }
 
@@ -387,7 +397,7 @@ fn ramp_step(token: &TokenText) -> Option<WordPlace>
     }
 }
 
-/// After the parenthesis that opens the argument of `Follows`.
+/// After the parenthesis that opens the expression of an effect.
 fn open_followed(fits: bool) -> Option<WordPlace>
     ensures { after_word result ≡ where_so fits (g.expr ∷ before_close) }
 {
@@ -453,7 +463,7 @@ fn begin_expression(frames: &mut OpenFrames, token: &TokenText) -> Result<Option
     }
 }
 
-/// After the first token of the expression of `Follows`.
+/// After the first token of the expression of an effect.
 #[tactic(auto, using(crate::proofs::PlaceLaws::expr_step))]
 fn begin_followed(
     frames: &mut OpenFrames,
@@ -485,7 +495,7 @@ fn begin_condition(
     }
 }
 
-/// After one token more in the expression of `Follows`, or the parenthesis behind it.
+/// After one token more in the expression of an effect, or the parenthesis behind it.
 #[tactic(auto, using(crate::proofs::PlaceLaws::goes_inside, crate::proofs::PlaceLaws::goes_past))]
 fn followed_step(
     mode: Mode,

@@ -9,19 +9,20 @@ use Rattle.smv_language.specs.ProgramTree.{Text, DeclaredTree, boolean, range, m
 use Rattle.smv_language.specs.Texts.{same_text, is_among}
 use Rattle.smv_language.specs.Scope.{Place, Role, state, input, frozen_role, Kind, a_formal, a_variable, a_define, an_instance, undeclared, find_module, kind_in, kind_in_decls, kind_in_defines, kind_in_sections, kind_after_formals, formal_from, kind_declared, kind_at, module_at, module_of_kind}
 use Rattle.smv_language.specs.Trace.{IsInstance, Each, AtSome, in_domain}
-use Rattle.fault_instructions.specs.Instructions.{EffectTree, stuck_at, follows, inverted, random, erroneous, frozen, stuck_at_pick, offset, ramp_down, ModeTree, SliceTree}
+use Rattle.fault_instructions.specs.Instructions.{EffectTree, ModeTree, SliceTree}
+use Rattle.fault_instructions.specs.EffectForms.{Demand, no_demand, one_of_its, truth_values, two_values, a_range}
+use Rattle.fault_instructions.specs.Effects.{row, fault_of}
 use Rattle.fault_instructions.specs.AddedNames.{ModeState, own_name, mode_variable, mode_symbol}
-use Rattle.fault_instructions.specs.AllowedEffects.{fault_of, constant_fault, is_of_kind, inverted_fault}
-use Rattle.fault_instructions.specs.Types.{IsKnown}
+use Rattle.fault_instructions.specs.AllowedEffects.{constant_fault, is_of_kind, demand_fault}
+use Rattle.fault_instructions.specs.Types.{IsKnown, Meets}
 use Rattle.fault_instructions.specs.declared.fault.EffectFault.{EffectFault}
 use Rattle.fault_instructions.specs.KindTypes.{type_of_kind}
-use Rattle.fault_instructions.specs.Weavable.{Among, IsFinite, IsFreeMember, SymbolsAreFree, IsAllowed}
+use Rattle.fault_instructions.specs.Weavable.{Among, IsFinite, IsFreeMember, SymbolsAreFree, IsReadableEffect, IsAllowed}
 use Rattle.fault_instructions.proofs.OwnNames.{own_not_mode}
 use Rattle.fault_rules.specs.Sites.{OwnedSlice, a_slice, a_mode}
 use Rattle.fault_rules.specs.declared.fault.InstructionRule.{InstructionRule}
 use Rattle.fault_rules.specs.declared.fault.InstructionRule.TheVariants.{NoSuchVariable, NotAStateVariable, DoubleSlice, DoubleMode, VariableTaken, NameTaken}
 use Rattle.fault_rules.specs.Rules.{target_kind, is_not_declared, is_state_variable, is_slice_name, is_mode_name, is_affected_already, is_program_name, state_names, states_before, owns_before, is_taken, is_known, is_local_member, hides_symbol, slice_adds_taken, mode_adds_taken, effect_rules, first_of, broken_at}
-use Rattle.fault_rules.specs.Prerequisites.{IsReadableEffect}
 use Rattle.fault_rules.proofs.ProgramNames.{among_not}
 use Rattle.fault_rules.proofs.KeptItems.{among_left, among_right, among_map, IsKeptSlice, ModeAfter, mode_at}
 use Rattle.std.proofs.lemmas.Bool.{or_parts as or_false}
@@ -221,29 +222,22 @@ constant_within false b h = cc
 constant_within true true h = refl
 constant_within true false h = cc
 
-module _ (p : ProgramTree) (at : Place) (m : ModuleTree) where
-  inverted_allowed : (type : DeclaredTree) → inverted_fault type ≡ None → IsAllowed p at m inverted type
-  inverted_allowed boolean h = tt
-  inverted_allowed (range lo hi) h = cc
-  inverted_allowed (members ms) h = cc
-  inverted_allowed (instance n actuals) h = cc
+-- a demand that is broken nowhere is met
+demand_met : (d : Demand) (type : DeclaredTree) → demand_fault d type ≡ None → Meets d type
+demand_met no_demand type h = tt
+demand_met (one_of_its c) type h = constant_within (is_of_kind type c) (in_domain type c) h
+demand_met two_values type h = tt
+demand_met truth_values boolean h = tt
+demand_met truth_values (range lo hi) h = cc
+demand_met truth_values (members ms) h = cc
+demand_met truth_values (instance n actuals) h = cc
+demand_met (a_range passes) (range lo hi) h = tt
+demand_met (a_range passes) boolean h = cc
+demand_met (a_range passes) (members ms) h = cc
+demand_met (a_range passes) (instance n actuals) h = cc
 
-  pub effect_allowed : (e : EffectTree) (type : DeclaredTree) → fault_of e type ≡ None → IsReadableEffect p at e → IsAllowed p at m e type
-  effect_allowed (stuck_at c) type h r = constant_within (is_of_kind type c) (in_domain type c) h
-  effect_allowed (follows e) type h r = r
-  effect_allowed inverted type h r = inverted_allowed type h
-  effect_allowed random type h r = tt
-  effect_allowed erroneous type h r = tt
-  effect_allowed frozen type h r = tt
-  effect_allowed stuck_at_pick type h r = tt
-  effect_allowed (offset d) boolean h r = cc
-  effect_allowed (offset d) (range lo hi) h r = tt
-  effect_allowed (offset d) (members ms) h r = cc
-  effect_allowed (offset d) (instance n actuals) h r = cc
-  effect_allowed (ramp_down d f) boolean h r = cc
-  effect_allowed (ramp_down d f) (range lo hi) h r = tt
-  effect_allowed (ramp_down d f) (members ms) h r = cc
-  effect_allowed (ramp_down d f) (instance n actuals) h r = cc
+pub effect_allowed : (p : ProgramTree) (at : Place) (m : ModuleTree) (e : EffectTree) (type : DeclaredTree) → fault_of e type ≡ None → IsReadableEffect p at e → IsAllowed p at m e type
+effect_allowed p at m e type h r = (demand_met (row e).demand type h, r)
 
 named_found : (p : ProgramTree) (x : Text) (m : ModuleTree) → find_module p x ≡ Some m → find_module p m.name ≡ Some m
 named_found p x m h = subst (λ y. find_module p y ≡ Some m) (sym (found_named p x m h)) h

@@ -14,7 +14,7 @@ use Rattle.smv_language.specs.Scope.{Role, state, input, frozen_role, Kind, a_de
 use Rattle.fault_instructions.specs.declared.instructions.ModeRule.{ModeRule}
 use Rattle.fault_instructions.specs.declared.instructions.Slice.{Slice}
 use Rattle.fault_instructions.specs.declared.instructions.Extension.{Extension}
-use Rattle.fault_instructions.specs.Instructions.{EffectTree, stuck_at, follows, inverted, random, erroneous, frozen, stuck_at_pick, offset, ramp_down, effect_tree, mode_tree, slice_tree, extension_tree}
+use Rattle.fault_instructions.specs.Instructions.{EffectTree, plain, of_constant, of_expression, of_number, of_numbers, effect_tree, mode_tree, slice_tree, extension_tree}
 use Rattle.fault_instructions.specs.Numbers.{HasNegation, ValueHasNegation, MemberHasNegation, EffectHasNegations, TypeHasNegations}
 use Rattle.fault_instructions.specs.KindTypes.{type_of_kind}
 use Rattle.fault_instructions.specs.WeaveNumbers.{ModeHasNegations, SliceHasNegations, ExtensionHasNegations, ModuleHasNegations}
@@ -110,15 +110,11 @@ value_has (number n) h = number_has n h
 value_has (symbol x) h = tt
 
 effect_has : (e : EffectTree) → effect_negates e ≡ true → EffectHasNegations e
-effect_has (stuck_at c) h = value_has c h
-effect_has (follows e) h = tt
-effect_has inverted h = tt
-effect_has random h = tt
-effect_has erroneous h = tt
-effect_has frozen h = tt
-effect_has stuck_at_pick h = tt
-effect_has (offset d) h = number_has d h
-effect_has (ramp_down d f) h = (number_has d (left_true (has_negation d) (has_negation f) h), number_has f (right_true (has_negation d) (has_negation f) h))
+effect_has (plain k) h = tt
+effect_has (of_constant k c) h = value_has c h
+effect_has (of_expression k e) h = tt
+effect_has (of_number k n) h = number_has n h
+effect_has (of_numbers k m n) h = (number_has m (left_true (has_negation m) (has_negation n) h), number_has n (right_true (has_negation m) (has_negation n) h))
 
 mode_has : (m : ModeRule) → mode_negates (mode_tree m) ≡ true → ModeHasNegations m
 mode_has m h = effect_has (effect_tree m.effect) h
@@ -151,15 +147,11 @@ value_negates_if (number n) h = has_number n h
 value_negates_if (symbol x) h = refl
 
 effect_negates_if : (e : EffectTree) → EffectHasNegations e → effect_negates e ≡ true
-effect_negates_if (stuck_at c) h = value_negates_if c h
-effect_negates_if (follows e) h = refl
-effect_negates_if inverted h = refl
-effect_negates_if random h = refl
-effect_negates_if erroneous h = refl
-effect_negates_if frozen h = refl
-effect_negates_if stuck_at_pick h = refl
-effect_negates_if (offset d) h = has_number d h
-effect_negates_if (ramp_down d f) h = both_hold (has_negation d) (has_negation f) (has_number d h.0) (has_number f h.1)
+effect_negates_if (plain k) h = refl
+effect_negates_if (of_constant k c) h = value_negates_if c h
+effect_negates_if (of_expression k e) h = refl
+effect_negates_if (of_number k n) h = has_number n h
+effect_negates_if (of_numbers k m n) h = both_hold (has_negation m) (has_negation n) (has_number m h.0) (has_number n h.1)
 
 mode_negates_if : (m : ModeRule) → ModeHasNegations m → mode_negates (mode_tree m) ≡ true
 mode_negates_if m h = effect_negates_if (effect_tree m.effect) h

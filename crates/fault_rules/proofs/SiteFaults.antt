@@ -10,7 +10,7 @@ use Rattle.fault_instructions.specs.declared.instructions.Slice.{Slice}
 use Rattle.fault_instructions.specs.declared.instructions.Extension.{Extension}
 use Rattle.fault_instructions.specs.Instructions.{ModeTree, SliceTree, ExtensionTree, mode_tree, slice_tree, extension_tree}
 use Rattle.fault_instructions.specs.AddedNames.{own_name, mode_variable, mode_symbol}
-use Rattle.fault_instructions.specs.AllowedEffects.{fault_of}
+use Rattle.fault_instructions.specs.Effects.{fault_of}
 use Rattle.fault_instructions.specs.KindTypes.{type_of_kind}
 use Rattle.fault_rules.specs.Sites.{OwnedSlice, owned, Site, a_slice, a_mode, mode_sites, slice_sites, extension_sites}
 use Rattle.fault_rules.specs.Rules.{first_of, effect_rules, target_kind, is_not_declared, is_state_variable, is_slice_name, is_mode_name, is_affected_already, is_program_name, is_taken, state_names, states_before, owns_before, slice_adds_taken, hides_symbol, broken_at}

@@ -7,7 +7,7 @@ use Rattle.fault_instructions.specs.declared.instructions.ModeRule.{ModeRule}
 use Rattle.fault_instructions.specs.Instructions.{ModeTree, mode_tree}
 use Rattle.smv_language.proofs.ListLaws.{drop_here}
 use Rattle.fault_instructions.specs.AddedNames.{mode_symbol}
-use Rattle.fault_instructions.specs.AllowedEffects.{fault_of}
+use Rattle.fault_instructions.specs.Effects.{fault_of}
 use Rattle.fault_rules.specs.Rules.{first_of, effect_rules, is_taken, is_program_name}
 use Rattle.fault_rules.specs.KeyedLists.{with_text}
 use Rattle.fault_rules.specs.Faults.{fault_at, rule_of, faults_of, IsKnown}

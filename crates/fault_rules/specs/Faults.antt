@@ -6,7 +6,7 @@ use Rattle.smv_language.specs.Texts.{same_text, is_among}
 use Rattle.fault_instructions.specs.declared.instructions.Slice.{Slice}
 use Rattle.fault_instructions.specs.Instructions.{ModeTree, SliceTree, ExtensionTree, slice_tree}
 use Rattle.fault_instructions.specs.AddedNames.{own_name, mode_variable, mode_symbol}
-use Rattle.fault_instructions.specs.AllowedEffects.{fault_of}
+use Rattle.fault_instructions.specs.Effects.{fault_of}
 use Rattle.fault_rules.specs.Sites.{OwnedSlice, owned, Site, an_extension, slice_sites}
 use Rattle.fault_rules.specs.Rules.{first_of, effect_rules, is_program_name, is_taken, hides_symbol, states_before, owns_before, broken_at}
 use Rattle.fault_rules.specs.Names.{program_names}

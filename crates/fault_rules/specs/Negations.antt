@@ -6,8 +6,8 @@ use Rattle.smv_language.specs.declared.program.Member.TheVariants as member
 use Rattle.smv_language.specs.ProgramTree.{DeclaredTree, boolean, range, members, instance, DeclTree, SectionTree, var, ivar}
 use Rattle.smv_language.specs.ProgramTree.{frozen as frozen_section, define, constants, assign, init, invar, trans, ModuleTree}
 use Rattle.smv_language.specs.Values.{Value, truth, number, symbol, at_most}
-use Rattle.fault_instructions.specs.Instructions.{EffectTree, stuck_at, follows, inverted, random, erroneous, frozen, stuck_at_pick, offset}
-use Rattle.fault_instructions.specs.Instructions.{ramp_down, ModeTree, SliceTree, ExtensionTree}
+use Rattle.fault_instructions.specs.Instructions.{EffectTree, plain, of_constant, of_expression, of_number, of_numbers, ModeTree, SliceTree}
+use Rattle.fault_instructions.specs.Instructions.{ExtensionTree}
 
 -- the number's negation is within 64 bits
 abbrev pub has_negation : ℤ → Bool
@@ -53,15 +53,11 @@ value_negates (symbol x) = true
 
 -- each number of the effect
 abbrev pub effect_negates : EffectTree → Bool
-effect_negates (stuck_at c) = value_negates c
-effect_negates (follows e) = true
-effect_negates inverted = true
-effect_negates random = true
-effect_negates erroneous = true
-effect_negates frozen = true
-effect_negates stuck_at_pick = true
-effect_negates (offset d) = has_negation d
-effect_negates (ramp_down d f) = has_negation d && has_negation f
+effect_negates (plain k) = true
+effect_negates (of_constant k c) = value_negates c
+effect_negates (of_expression k e) = true
+effect_negates (of_number k n) = has_negation n
+effect_negates (of_numbers k m n) = has_negation m && has_negation n
 
 -- each number of the effect of a mode
 abbrev pub mode_negates : ModeTree → Bool

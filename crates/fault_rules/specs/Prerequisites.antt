@@ -3,17 +3,12 @@ use Rattle.std.specs.Prelude.{◌≡◌}
 use Rattle.smv_language.specs.ProgramTree.{Text, DeclaredTree, ModuleTree, ProgramTree}
 use Rattle.smv_language.specs.Scope.{Place, Role, a_variable, kind_in}
 use Rattle.smv_language.specs.Trace.{IsInstance, Each}
-use Rattle.fault_instructions.specs.Instructions.{EffectTree, follows, ModeTree, SliceTree, InstructionTree, slices_of}
+use Rattle.fault_instructions.specs.Instructions.{ModeTree, SliceTree, InstructionTree, slices_of}
 use Rattle.fault_instructions.specs.Types.{IsUniform}
-use Rattle.fault_instructions.specs.Weavable.{Among, IsReadable, IsLawfulInstance, IsLawfulGuard, IsWeavable}
+use Rattle.fault_instructions.specs.Weavable.{Among, IsReadableEffect, IsLawfulInstance, IsLawfulGuard, IsWeavable}
 use Rattle.fault_rules.specs.Sites.{item_sites}
 use Rattle.fault_rules.specs.Rules.{broken_at}
 use Rattle.fault_rules.specs.FirstBroken.{AllKept}
-
--- the names of what is followed mean something
-abbrev pub IsReadableEffect : ProgramTree → Place → EffectTree → Type 0
-IsReadableEffect p at (follows e) = IsReadable p at e
-IsReadableEffect p at _ = Unit {0}
 
 -- the guard and what is followed are judged at the instance
 pub record IsJudgedMode (p : ProgramTree) (at : Place) (m : ModuleTree) (mode : ModeTree) : Type 0 where

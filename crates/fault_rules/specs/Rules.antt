@@ -10,7 +10,7 @@ use Rattle.smv_language.specs.Scope.{state, input, frozen_role, Kind, a_formal, 
 use Rattle.smv_language.specs.Scope.{kind_at, is_symbol_of_type}
 use Rattle.fault_instructions.specs.Instructions.{ModeTree}
 use Rattle.fault_instructions.specs.AddedNames.{own_name, mode_variable, mode_symbol}
-use Rattle.fault_instructions.specs.AllowedEffects.{fault_of}
+use Rattle.fault_instructions.specs.Effects.{fault_of}
 use Rattle.fault_instructions.specs.declared.fault.EffectFault.{EffectFault}
 use Rattle.fault_instructions.specs.KindTypes.{type_of_kind}
 use Rattle.fault_rules.specs.Sites.{OwnedSlice, Site, an_extension, a_slice, a_mode}

@@ -3,7 +3,7 @@ use Rattle.std.specs.Prelude.{◌≡◌, ℕ, ◌+◌, Bool, ◌||◌, List, [],
 use Rattle.smv_language.specs.ProgramTree.{Text, declared_tree}
 use Rattle.smv_language.specs.Texts.{is_among}
 use Rattle.fault_instructions.specs.Instructions.{ModeTree}
-use Rattle.fault_instructions.specs.AllowedEffects.{fault_of}
+use Rattle.fault_instructions.specs.Effects.{fault_of}
 use Rattle.fault_rules.specs.Rules.{first_of, effect_rules}
 use Rattle.fault_rules.specs.KeyedLists.{with_text}
 use Rattle.fault_rules.specs.Faults.{fault_at}

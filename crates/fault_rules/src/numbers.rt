@@ -172,15 +172,10 @@ fn effect_negates(effect: &Effect) -> bool
     ensures { result ≡ effect_negates (effect_tree effect.now) }
 {
     match effect {
-        Effect::StuckAt(c) => constant_negates(c),
-        Effect::Offset(distance) => has_negation(*distance),
-        Effect::RampDown(step, floor) => has_negation(*step) && has_negation(*floor),
-        Effect::Follows(_)
-        | Effect::Inverted
-        | Effect::Random
-        | Effect::Erroneous
-        | Effect::Frozen
-        | Effect::StuckAtPick => true,
+        Effect::Plain(_) | Effect::OfExpression(_, _) => true,
+        Effect::OfConstant(_, c) => constant_negates(c),
+        Effect::OfNumber(_, n) => has_negation(*n),
+        Effect::OfNumbers(_, m, n) => has_negation(*m) && has_negation(*n),
     }
 }
 

@@ -11,7 +11,9 @@ use Rattle.smv_language.specs.Trace.{IsInstance, Each}
 use Rattle.fault_instructions.specs.declared.instructions.Dynamics.TheVariants.{Permanent}
 use Rattle.fault_instructions.specs.declared.instructions.Start.TheVariants.{Nominal, Any}
 use Rattle.fault_weave.specs.Faults.{HasFaults}
-use Rattle.fault_instructions.specs.Instructions.{InstructionTree, stuck_at, ramp_down, slices_of}
+use Rattle.fault_instructions.specs.declared.effects.ConstantEffect.TheVariants.{StuckAt}
+use Rattle.fault_instructions.specs.declared.effects.NumbersEffect.TheVariants.{RampDown}
+use Rattle.fault_instructions.specs.Instructions.{InstructionTree, of_constant, of_numbers, slices_of}
 use Rattle.fault_instructions.specs.Effects.{Allows}
 use Rattle.fault_weave.specs.ExtensionTraces.{Moment, FirstSection, DomainSection, EachSection, StepSection, FirstSlice, EachSlice, StepSlice, IsFirst, IsMoment, IsStep, IsExtended, HasFailed}
 
@@ -60,7 +62,7 @@ dark = record {
       name = codes "Lamp";
       target = codes "on";
       start = Nominal;
-      modes = record { name = codes "dark"; mark = None; dynamics = Permanent; effect = stuck_at (truth false); guard = None } ∷ [];
+      modes = record { name = codes "dark"; mark = None; dynamics = Permanent; effect = of_constant StuckAt (truth false); guard = None } ∷ [];
     } ∷ [];
   } ∷ [];
 }
@@ -117,7 +119,7 @@ any_dark = record {
       name = codes "Lamp";
       target = codes "on";
       start = Any;
-      modes = record { name = codes "dark"; mark = None; dynamics = Permanent; effect = stuck_at (truth false); guard = None } ∷ [];
+      modes = record { name = codes "dark"; mark = None; dynamics = Permanent; effect = of_constant StuckAt (truth false); guard = None } ∷ [];
     } ∷ [];
   } ∷ [];
 }
@@ -140,8 +142,8 @@ pub dark_at_first : IsExtended lamp any_dark (gone_dark ∷ [])
 dark_at_first = record { first = first_dark; moments = (moment_any_dark, tt); steps = tt }
 
 -- under RampDown(4, 1) the own value 7 reads 3 in the first moment, and then 1
-three_at_first : (gives : Formula → Value → Type 0) → Allows (ramp_down (pos 4) (pos 1)) gives (range (pos 0) (pos 9)) (number (pos 7)) (number (pos 7)) true (number (pos 3))
+three_at_first : (gives : Formula → Value → Type 0) → Allows (of_numbers RampDown (pos 4) (pos 1)) gives (range (pos 0) (pos 9)) (number (pos 7)) (number (pos 7)) true (number (pos 3))
 three_at_first gives = refl
 
-one_afterwards : (gives : Formula → Value → Type 0) → Allows (ramp_down (pos 4) (pos 1)) gives (range (pos 0) (pos 9)) (number (pos 7)) (number (pos 3)) false (number (pos 1))
+one_afterwards : (gives : Formula → Value → Type 0) → Allows (of_numbers RampDown (pos 4) (pos 1)) gives (range (pos 0) (pos 9)) (number (pos 7)) (number (pos 3)) false (number (pos 1))
 one_afterwards gives = refl

@@ -12,7 +12,9 @@ use Rattle.smv_language.specs.Scope.{Place, state, a_variable, a_define, an_inst
 use Rattle.smv_language.proofs.ValueLaws.{same_text_refl}
 use Rattle.fault_instructions.specs.declared.instructions.Dynamics.TheVariants.{Permanent, Transient}
 use Rattle.fault_instructions.specs.declared.instructions.Start.TheVariants.{Nominal, Any}
-use Rattle.fault_instructions.specs.Instructions.{InstructionTree, SliceTree, ModeTree, random, frozen, stuck_at, slices_of}
+use Rattle.fault_instructions.specs.declared.effects.PlainEffect.TheVariants.{Random, Frozen}
+use Rattle.fault_instructions.specs.declared.effects.ConstantEffect.TheVariants.{StuckAt}
+use Rattle.fault_instructions.specs.Instructions.{InstructionTree, SliceTree, ModeTree, plain, of_constant, slices_of}
 use Rattle.fault_instructions.specs.AddedNames.{ModeState}
 use Rattle.fault_instructions.specs.AddedNames.{own_name, mode_variable, mode_symbol}
 use Rattle.fault_weave.specs.Conservative.{IsExtensionOf}
@@ -42,8 +44,8 @@ eye = record {
       target = codes "seen";
       start = Nominal;
       modes =
-          record { name = codes "wild"; mark = None; dynamics = Transient; effect = random; guard = None } ∷
-          record { name = codes "hold"; mark = None; dynamics = Permanent; effect = frozen; guard = None } ∷ [];
+          record { name = codes "wild"; mark = None; dynamics = Transient; effect = plain Random; guard = None } ∷
+          record { name = codes "hold"; mark = None; dynamics = Permanent; effect = plain Frozen; guard = None } ∷ [];
     } ∷ [];
   } ∷ [];
 }
@@ -100,7 +102,7 @@ holding = record {
       name = codes "Lamp";
       target = codes "on";
       start = Any;
-      modes = record { name = codes "hold"; mark = None; dynamics = Permanent; effect = frozen; guard = None } ∷ [];
+      modes = record { name = codes "hold"; mark = None; dynamics = Permanent; effect = plain Frozen; guard = None } ∷ [];
     } ∷ [];
   } ∷ [];
 }
@@ -148,7 +150,7 @@ lamp_slice = record {
   name = codes "Lamp";
   target = codes "on";
   start = Nominal;
-  modes = record { name = codes "dark"; mark = None; dynamics = Permanent; effect = stuck_at (truth false); guard = None } ∷ [];
+  modes = record { name = codes "dark"; mark = None; dynamics = Permanent; effect = of_constant StuckAt (truth false); guard = None } ∷ [];
 }
 
 no_define : (x : Text) (e : Formula) → kind_in lamp_main x ≡ a_define e → ⊥
@@ -219,7 +221,7 @@ lamp_slice_lawful at m s ea em es = rw (ea, em, es) (record {
   mode_new = refl;
   mode_no_symbol = refl;
   symbol_new = symbol_is_new;
-  modes = (record { not_nominal = texts_differ (codes "dark") (codes "nominal") refl; effect_allowed = refl; guard_lawful = tt }, tt);
+  modes = (record { not_nominal = texts_differ (codes "dark") (codes "nominal") refl; effect_allowed = (refl, tt); guard_lawful = tt }, tt);
   modes_differ = λ a b p q e. one_mode a b p q;
 })
 

@@ -6,11 +6,14 @@ use Rattle.smv_language.specs.Texts.{same_text}
 use Rattle.smv_language.specs.Scope.{Role, state, Kind, a_formal, a_variable, a_define, an_instance, undeclared, find_module, formal_from, kind_declared, kind_in_decls, kind_in_defines, kind_in_sections, kind_after_formals, kind_in, module_of_kind, actual_of_kind}
 use Rattle.fault_instructions.specs.declared.instructions.Start.{Start}
 use Rattle.fault_instructions.specs.declared.instructions.Start.TheVariants.{Nominal, Any}
-use Rattle.fault_instructions.specs.Instructions.{EffectTree, stuck_at, follows, inverted, random, erroneous, stuck_at_pick, offset, ramp_down, frozen as frozen_effect, ModeTree, SliceTree, InstructionTree, is_affected}
+use Rattle.fault_instructions.specs.Instructions.{EffectTree, ModeTree, SliceTree, InstructionTree, is_affected}
 use Rattle.fault_instructions.specs.AddedNames.{own_name, mode_variable}
 use Rattle.fault_weave.specs.WovenProgram.{mode_type, start_rules, mode_rules, slice_sections, woven_section, added_sections, woven_module, woven}
 use Rattle.fault_instructions.specs.KindTypes.{type_of_kind}
-use Rattle.fault_instructions.specs.Templates.{rules, first_rules}
+use Rattle.fault_instructions.specs.declared.effects.EffectRule.{EffectRule}
+use Rattle.fault_instructions.specs.declared.effects.EffectRule.TheVariants.{NotOwn, AsBefore, AsEntered, Falling}
+use Rattle.fault_instructions.specs.Effects.{rule_of}
+use Rattle.fault_instructions.specs.Templates.{rules, rule_trees, first_trees}
 use Rattle.fault_instructions.specs.Weavable.{Among, IsFinite}
 use Rattle.smv_language.proofs.OneTree.{same_text_equal}
 
@@ -69,31 +72,23 @@ kind_woven i m x =
     ∙ formals_or (formal_from 0 m.formals x) (kind_in_sections m.sections x) (kind_in_sections (added_sections i m) x)
 
 -- rule sections declare nothing
-rule_kind : (e : EffectTree) (slice mode target : Text) (ts : List SectionTree) (x : Text) → kind_in_sections (rules e slice mode target ++ ts) x ≡ kind_in_sections ts x
-rule_kind (stuck_at c) slice mode target ts x = refl
-rule_kind (follows e) slice mode target ts x = refl
-rule_kind inverted slice mode target ts x = refl
-rule_kind random slice mode target ts x = refl
-rule_kind erroneous slice mode target ts x = refl
-rule_kind frozen_effect slice mode target ts x = refl
-rule_kind stuck_at_pick slice mode target ts x = refl
-rule_kind (offset d) slice mode target ts x = refl
-rule_kind (ramp_down d f) slice mode target ts x = refl
+rule_kind : (r : Option EffectRule) (slice mode target : Text) (ts : List SectionTree) (x : Text) → kind_in_sections (rule_trees r slice mode target ++ ts) x ≡ kind_in_sections ts x
+rule_kind None slice mode target ts x = refl
+rule_kind (Some NotOwn) slice mode target ts x = refl
+rule_kind (Some AsBefore) slice mode target ts x = refl
+rule_kind (Some AsEntered) slice mode target ts x = refl
+rule_kind (Some (Falling d f)) slice mode target ts x = refl
 
-first_kind : (e : EffectTree) (slice mode target : Text) (ts : List SectionTree) (x : Text) → kind_in_sections (first_rules e slice mode target ++ ts) x ≡ kind_in_sections ts x
-first_kind (stuck_at c) slice mode target ts x = refl
-first_kind (follows e) slice mode target ts x = refl
-first_kind inverted slice mode target ts x = refl
-first_kind random slice mode target ts x = refl
-first_kind erroneous slice mode target ts x = refl
-first_kind frozen_effect slice mode target ts x = refl
-first_kind stuck_at_pick slice mode target ts x = refl
-first_kind (offset d) slice mode target ts x = refl
-first_kind (ramp_down d f) slice mode target ts x = refl
+first_kind : (r : Option EffectRule) (slice mode target : Text) (ts : List SectionTree) (x : Text) → kind_in_sections (first_trees r slice mode target ++ ts) x ≡ kind_in_sections ts x
+first_kind None slice mode target ts x = refl
+first_kind (Some NotOwn) slice mode target ts x = refl
+first_kind (Some AsBefore) slice mode target ts x = refl
+first_kind (Some AsEntered) slice mode target ts x = refl
+first_kind (Some (Falling d f)) slice mode target ts x = refl
 
 start_kind : (start : Start) (e : EffectTree) (slice mode target : Text) (ts : List SectionTree) (x : Text) → kind_in_sections (start_rules start e slice mode target ++ ts) x ≡ kind_in_sections ts x
 start_kind Nominal e slice mode target ts x = refl
-start_kind Any e slice mode target ts x = first_kind e slice mode target ts x
+start_kind Any e slice mode target ts x = first_kind (rule_of e) slice mode target ts x
 
 append_append : (xs ys zs : List SectionTree) → (xs ++ ys) ++ zs ≡ xs ++ (ys ++ zs)
 append_append [] ys zs = refl
@@ -102,7 +97,7 @@ append_append (x ∷ xs) ys zs = ap (λ l. x ∷ l) (append_append xs ys zs)
 mode_kind : (start : Start) (e : EffectTree) (slice mode target : Text) (ts : List SectionTree) (x : Text) → kind_in_sections (mode_rules start e slice mode target ++ ts) x ≡ kind_in_sections ts x
 mode_kind start e slice mode target ts x =
     ap (λ l. kind_in_sections l x) (append_append (rules e slice mode target) (start_rules start e slice mode target) ts)
-    ∙ rule_kind e slice mode target (start_rules start e slice mode target ++ ts) x
+    ∙ rule_kind (rule_of e) slice mode target (start_rules start e slice mode target ++ ts) x
     ∙ start_kind start e slice mode target ts x
 
 rules_kind : (start : Start) (slice target : Text) (modes : List ModeTree) (ts : List SectionTree) (x : Text) →

@@ -9,7 +9,7 @@ use Rattle.smv_language.specs.Texts.{same_text}
 use Rattle.smv_language.specs.Scope.{Place, Role, state, input, frozen_role, a_variable, kind_declared, kind_in_sections, formal_from, kind_in, module_at, is_symbol_of_members}
 use Rattle.smv_language.specs.May.{Valuation, May}
 use Rattle.smv_language.specs.Trace.{Each, IsInstance, in_domain, is_member, Declares, FirstSection, EachSection, DomainSection}
-use Rattle.fault_instructions.specs.Instructions.{EffectTree, stuck_at, follows, inverted, random, erroneous, frozen as e_frozen, stuck_at_pick, offset, ramp_down, SliceTree, InstructionTree, slices_of, is_affected}
+use Rattle.fault_instructions.specs.Instructions.{SliceTree, InstructionTree, slices_of, is_affected}
 use Rattle.fault_instructions.specs.AddedNames.{ModeState}
 use Rattle.fault_weave.specs.ExtensionTraces as extended
 use Rattle.fault_weave.specs.ExtensionTraces.{Moment, EachSlice, BothDeclared}
@@ -18,7 +18,10 @@ use Rattle.fault_instructions.specs.AddedNames.{own_name, mode_variable, mode_sy
 use Rattle.fault_weave.specs.Conservative.{IsSlice, IsStateOf, IsCutMoment}
 use Rattle.fault_weave.specs.WovenProgram.{mode_type, mode_rules, slice_sections, slice_rules, woven_section, added_sections, woven_module, woven}
 use Rattle.fault_instructions.specs.KindTypes.{type_of_kind}
-use Rattle.fault_instructions.specs.Templates.{rules}
+use Rattle.fault_instructions.specs.declared.effects.EffectRule.{EffectRule}
+use Rattle.fault_instructions.specs.declared.effects.EffectRule.TheVariants.{NotOwn, AsBefore, AsEntered, Falling}
+use Rattle.fault_instructions.specs.Effects.{branch_of, rule_of}
+use Rattle.fault_instructions.specs.Templates.{rule_trees}
 use Rattle.fault_instructions.specs.Weavable.{Among, IsFinite, IsLawfulDecl, IsLawfulSection, IsWeavable}
 use Rattle.fault_instructions.specs.Types.{IsKnown}
 use Rattle.fault_instructions.proofs.Equivalence.{iff_refl, iff_both}
@@ -161,18 +164,14 @@ module _ (p : ProgramTree) (i : InstructionTree) (ok : IsWeavable p i) where
     rules_domain : (s : SliceTree) → Each (DomainSection at v) (slice_rules s)
     rules_domain s =
         (each_flat_map (DomainSection at v) (λ k. mode_rules s.start k.effect s.name k.name s.target) s.modes).1
-        (each_all _ s.modes (λ k b. (mode_rules_plain (DomainSection at v) (λ f. tt) s.start k.effect s.name k.name s.target).1 (none k.effect s.name k.name s.target)))
+        (each_all _ s.modes (λ k b. (mode_rules_plain (DomainSection at v) (λ f. tt) s.start k.effect s.name k.name s.target).1 (none (rule_of k.effect) s.name k.name s.target)))
       where
-        none : (e : EffectTree) (slice mode x : Text) → Each (DomainSection at v) (rules e slice mode x)
-        none (stuck_at c) slice mode x = tt
-        none (follows f) slice mode x = tt
-        none inverted slice mode x = tt
-        none random slice mode x = tt
-        none erroneous slice mode x = (tt, tt)
-        none e_frozen slice mode x = (tt, tt)
-        none stuck_at_pick slice mode x = (tt, tt)
-        none (offset d) slice mode x = tt
-        none (ramp_down d f) slice mode x = (tt, tt)
+        none : (r : Option EffectRule) (slice mode x : Text) → Each (DomainSection at v) (rule_trees r slice mode x)
+        none None slice mode x = tt
+        none (Some NotOwn) slice mode x = (tt, tt)
+        none (Some AsBefore) slice mode x = (tt, tt)
+        none (Some AsEntered) slice mode x = (tt, tt)
+        none (Some (Falling d f)) slice mode x = (tt, tt)
 
     -- domains of the woven module and of the extended one
     pub domains_iff : Each (DomainSection at v) (woven_module i m).sections ↔ ExtendedDomains
@@ -201,13 +200,13 @@ module _ (p : ProgramTree) (i : InstructionTree) (ok : IsWeavable p i) where
     -- what the mode that stands says of the moment alone
     abbrev pub NowRow : SliceTree → Type 0
     NowRow s =
-        Each (λ k. stands_at (mo.mode at s.name) k.name ≡ true → BranchAllows k.effect (λ f y. May p at mo.read mo.read f y) (type_of_kind (kind_in m s.target)) (mo.own at s.target) (mo.read at s.target)) s.modes
-        × Each (λ k. stands_at (mo.mode at s.name) k.name ≡ true → RuleNow k.effect (mo.own at s.target) (mo.read at s.target)) s.modes
+        Each (λ k. stands_at (mo.mode at s.name) k.name ≡ true → BranchAllows (branch_of k.effect) (λ f y. May p at mo.read mo.read f y) (type_of_kind (kind_in m s.target)) (mo.own at s.target) (mo.read at s.target)) s.modes
+        × Each (λ k. stands_at (mo.mode at s.name) k.name ≡ true → RuleNow (rule_of k.effect) (mo.own at s.target) (mo.read at s.target)) s.modes
 
     abbrev Row : SliceTree → DeclaredTree → Value → Value → Type 0
     Row s t x o = (mo.mode at s.name ≡ None → x ≡ o)
-        × (Each (λ k. stands_at (mo.mode at s.name) k.name ≡ true → BranchAllows k.effect (λ f y. May p at mo.read mo.read f y) t o x) s.modes
-        × Each (λ k. stands_at (mo.mode at s.name) k.name ≡ true → RuleNow k.effect o x) s.modes)
+        × (Each (λ k. stands_at (mo.mode at s.name) k.name ≡ true → BranchAllows (branch_of k.effect) (λ f y. May p at mo.read mo.read f y) t o x) s.modes
+        × Each (λ k. stands_at (mo.mode at s.name) k.name ≡ true → RuleNow (rule_of k.effect) o x) s.modes)
 
     pub target_finite : (s : SliceTree) (a : Among (slices_of i m.name) s) → IsFinite (ok.slices at m s is a).type
     target_finite s a = (ok.slices at m s is a).finite
@@ -224,7 +223,7 @@ module _ (p : ProgramTree) (i : InstructionTree) (ok : IsWeavable p i) where
 
     -- what a slice's sections ask of a first moment: where it starts, and what the mode's INIT says
     abbrev StartRowOf : SliceTree → Value → Value → Type 0
-    StartRowOf s x o = Starts s.start s.modes (mo.mode at s.name) × Each (λ k. stands_at (mo.mode at s.name) k.name ≡ true → RuleStep k.effect o true x) s.modes
+    StartRowOf s x o = Starts s.start s.modes (mo.mode at s.name) × Each (λ k. stands_at (mo.mode at s.name) k.name ≡ true → RuleStep (rule_of k.effect) o true x) s.modes
 
     abbrev pub StartRow : SliceTree → Type 0
     StartRow s = StartRowOf s (mo.read at s.target) (mo.own at s.target)

@@ -3,7 +3,7 @@ use Rattle.std.proofs.Common.{◌≡◌, ◌≢◌, ◌⊎◌, inl, inr, ◌↔�
 use Rattle.std.specs.Prelude.{ℤ, int_lt, ◌-ℤ◌, IsTrue, codes, ◌&&◌, ◌||◌, map, flat_map, if◌then◌else◌}
 use Rattle.smv_language.specs.declared.expr.Op.TheVariants as op
 use Rattle.smv_language.specs.Tree.{binary, choice, trees_from}
-use Rattle.smv_language.specs.ProgramTree.{Text, Formula, DeclaredTree, boolean, range, members, instance, ModuleTree, ProgramTree}
+use Rattle.smv_language.specs.ProgramTree.{Text, Formula, ModuleTree, ProgramTree}
 use Rattle.smv_language.specs.Values.{Value, truth, number, symbol, Values, no_value, one, either, has, same_value, opposite}
 use Rattle.smv_language.specs.Evaluate.{evaluate, evaluate_trees, gives_either, gives_choice}
 use Rattle.smv_language.specs.Scope.{Place}
@@ -14,15 +14,17 @@ use Rattle.fault_instructions.specs.declared.instructions.Dynamics.{Dynamics}
 use Rattle.fault_instructions.specs.declared.instructions.Dynamics.TheVariants.{Permanent, Transient}
 use Rattle.fault_instructions.specs.declared.instructions.Start.{Start}
 use Rattle.fault_instructions.specs.declared.instructions.Start.TheVariants.{Nominal, Any}
-use Rattle.fault_instructions.specs.Instructions.{EffectTree, stuck_at, follows, inverted, random, erroneous, frozen, stuck_at_pick, offset, ramp_down, ModeTree, SliceTree, InstructionTree, slices_of}
+use Rattle.fault_instructions.specs.declared.effects.EffectRule.{EffectRule}
+use Rattle.fault_instructions.specs.declared.effects.EffectRule.TheVariants.{NotOwn, AsBefore, AsEntered, Falling}
+use Rattle.fault_instructions.specs.Instructions.{ModeTree, SliceTree, InstructionTree, slices_of}
 use Rattle.fault_instructions.specs.AddedNames.{ModeState}
-use Rattle.fault_instructions.specs.Effects.{IsRamp}
+use Rattle.fault_instructions.specs.Effects.{rule_of, IsRamp}
 use Rattle.fault_weave.specs.Moves.{Starts, Moves, Stays, Guarded}
 use Rattle.fault_instructions.specs.AddedNames.{own_name, mode_variable, mode_symbol}
-use Rattle.fault_instructions.specs.Templates.{named, stands, frozen_rule, pick_rule, ramp_rule, frozen_first, ramp_first, rules, first_rules}
+use Rattle.fault_instructions.specs.Templates.{named, stands, frozen_rule, pick_rule, ramp_rule, frozen_first, ramp_first, rule_trees, first_trees, rules, first_rules}
 use Rattle.fault_weave.specs.WovenProgram.{start_tree, mode_rules, set_one, guard_formula, entries_from, entries, stay_branch, slice_rules, slice_sections, moves_tree, woven}
-use Rattle.fault_instructions.specs.Weavable.{Among, IsAllowed, IsRangeEffect, IsLawfulMode, IsLawfulGuard, IsWeavable}
-use Rattle.fault_instructions.specs.Types.{IsKnown}
+use Rattle.fault_instructions.specs.Weavable.{Among, IsLawfulMode, IsLawfulGuard, IsWeavable}
+use Rattle.fault_instructions.specs.Types.{IsKnown, IsRange}
 use Rattle.fault_instructions.proofs.Equivalence.{iff_refl, iff_both}
 use Rattle.fault_instructions.proofs.AmongLaws.{each_iff, each_append, each_flat_map, each_at, each_all}
 use Rattle.fault_weave.proofs.ModeRules.{mode_rules_plain}
@@ -32,7 +34,8 @@ use Rattle.fault_weave.proofs.LeafValues.{may_value, may_same, slice_leaves}
 use Rattle.fault_instructions.specs.EffectLaw.{SliceLeaves, stands_at}
 use Rattle.fault_instructions.proofs.TemplateLaws.{one_has}
 use Rattle.fault_weave.proofs.Cases.{chosen, case_value, chosen_none, chosen_some}
-use Rattle.fault_instructions.proofs.EffectRows.{RuleStep, stands_value, frozen_value, pick_value, ramp_value, frozen_first_value, ramp_first_value, implied, equal_value}
+use Rattle.fault_instructions.proofs.EffectRows.{RuleStep, RuleAsks, row_law, stands_value, frozen_value, pick_value, ramp_value, frozen_first_value, ramp_first_value, implied, equal_value}
+use Rattle.fault_instructions.proofs.EffectRowLaw.{number_in}
 use Rattle.fault_weave.proofs.WovenSlices.{mode_known, known_mode, true_has}
 use Rattle.smv_language.proofs.BoolLaws.{iff_trans, iff_sym}
 
@@ -90,24 +93,16 @@ module _ (p : ProgramTree) (i : InstructionTree) (ok : IsWeavable p i) (at : Pla
   symbol_iff : (st st' : ModeState) → IsKnown s st → IsKnown s st' → (symbol (mode_symbol s.name st) ≡ symbol (mode_symbol s.name st')) ↔ (st ≡ st')
   symbol_iff st st' k k' = ((λ e. state_same st st' k k' cc), (λ e. ap (λ t. symbol (mode_symbol s.name t)) e))
 
-  rules_first : (v : Valuation) (e : EffectTree) (n : Text) → Each (FirstSection (woven p i) at v) (rules e s.name n s.target)
-  rules_first v (stuck_at c) n = tt
-  rules_first v (follows e) n = tt
-  rules_first v inverted n = tt
-  rules_first v random n = tt
-  rules_first v erroneous n = (tt, tt)
-  rules_first v frozen n = (tt, tt)
-  rules_first v stuck_at_pick n = (tt, tt)
-  rules_first v (offset d) n = tt
-  rules_first v (ramp_down d f) n = (tt, tt)
+  rules_first : (v : Valuation) (r : Option EffectRule) (n : Text) → Each (FirstSection (woven p i) at v) (rule_trees r s.name n s.target)
+  rules_first v None n = tt
+  rules_first v (Some NotOwn) n = (tt, tt)
+  rules_first v (Some AsBefore) n = (tt, tt)
+  rules_first v (Some AsEntered) n = (tt, tt)
+  rules_first v (Some (Falling d f)) n = (tt, tt)
 
-  in_range : (t : DeclaredTree) (x : Value) → IsRangeEffect p at m t → IsTrue (in_domain t x) → (n : ℤ) × (x ≡ number n)
-  in_range boolean x h d = absurd h
-  in_range (members ms) x h d = absurd h
-  in_range (instance n es) x h d = absurd h
-  in_range (range lo hi) (number n) h d = (n, refl)
-  in_range (range lo hi) (truth b) h d = cc
-  in_range (range lo hi) (symbol y) h d = cc
+  -- what the rule of a mode asks of the type
+  rule_asks : (k : ModeTree) → Among s.modes k → RuleAsks (λ passes. IsRange (ok.slices at m s is a).type) (rule_of k.effect)
+  rule_asks k b = ((row_law k.effect).asks _ _ _ (mode_lawful k b).effect_allowed.0).1
 
   -- at a first moment
   module _ (v : Valuation) (st : ModeState) (known : IsKnown s st) (mode_eq : v at (mode_variable s.name) ≡ symbol (mode_symbol s.name st))
@@ -144,16 +139,12 @@ module _ (p : ProgramTree) (i : InstructionTree) (ok : IsWeavable p i) (at : Pla
         (sum_iff (iff_trans (one_has (symbol (mode_symbol s.name None)) (v at (mode_variable s.name))) (first_state None tt))
         (iff_trans more.2 (some_iff (λ k. v at (mode_variable s.name) ≡ symbol (mode_symbol s.name (Some k.name))) (λ k. st ≡ Some k.name) s.modes (λ k b. first_state (Some k.name) (mode_known s s.modes k b))))))
 
-    first_rule : (e : EffectTree) (n : Text) → IsKnown s (Some n) → n ≢ codes "nominal" → IsAllowed p at m e (ok.slices at m s is a).type →
-        Each (FirstSection (woven p i) at v) (first_rules e s.name n s.target) ↔ (stands_at st n ≡ true → RuleStep e (v at (own_name s.target)) true (v at s.target))
-    first_rule (stuck_at c) n k h al = ((λ q e. tt), (λ q. tt))
-    first_rule (follows f) n k h al = ((λ q e. tt), (λ q. tt))
-    first_rule inverted n k h al = ((λ q e. tt), (λ q. tt))
-    first_rule random n k h al = ((λ q e. tt), (λ q. tt))
-    first_rule erroneous n k h al = ((λ q e. tt), (λ q. tt))
-    first_rule (offset d) n k h al = ((λ q e. tt), (λ q. tt))
-    first_rule stuck_at_pick n k h al = ((λ q e never. cc), (λ q. tt))
-    first_rule frozen n k h al =
+    first_rule : (r : Option EffectRule) (n : Text) → IsKnown s (Some n) → n ≢ codes "nominal" → RuleAsks (λ passes. IsRange (ok.slices at m s is a).type) r →
+        Each (FirstSection (woven p i) at v) (first_trees r s.name n s.target) ↔ (stands_at st n ≡ true → RuleStep r (v at (own_name s.target)) true (v at s.target))
+    first_rule None n k h al = ((λ q e. tt), (λ q. tt))
+    first_rule (Some NotOwn) n k h al = ((λ q e. tt), (λ q. tt))
+    first_rule (Some AsEntered) n k h al = ((λ q e never. cc), (λ q. tt))
+    first_rule (Some AsBefore) n k h al =
         let value : May (woven p i) at v v (frozen_first s.name n s.target) (truth true)
         ↔ IsTrue (has (one (truth (opposite (stands_at st n) || same_value (v at s.target) (v at (own_name s.target))))) (truth true)) =
         may_value 1 (woven p i) at v v (frozen_first s.name n s.target) (one (truth (opposite (stands_at st n) || same_value (v at s.target) (v at (own_name s.target))))) (truth true)
@@ -163,9 +154,9 @@ module _ (p : ProgramTree) (i : InstructionTree) (ok : IsWeavable p i) (at : Pla
           (λ q e. (equal_value (v at s.target) (v at (own_name s.target))).0 (test.0 q.0 e)),
           (λ q. (test.1 (λ e. (equal_value (v at s.target) (v at (own_name s.target))).1 (q e)), tt)),
         )
-    first_rule (ramp_down d f) n k h al =
-        let x : (z : ℤ) × (v at (own_name s.target) ≡ number z) = in_range (ok.slices at m s is a).type (v at (own_name s.target)) al dw in
-        let y : (z : ℤ) × (v at s.target ≡ number z) = in_range (ok.slices at m s is a).type (v at s.target) al dr in
+    first_rule (Some (Falling d f)) n k h al =
+        let x : (z : ℤ) × (v at (own_name s.target) ≡ number z) = number_in (ok.slices at m s is a).type (v at (own_name s.target)) al dw in
+        let y : (z : ℤ) × (v at s.target ≡ number z) = number_in (ok.slices at m s is a).type (v at s.target) al dr in
         let bound : Value = number (if int_lt f (x.0 -ℤ d) then x.0 -ℤ d else f) in
         let value : May (woven p i) at v v (ramp_first d f s.name n s.target) (truth true)
         ↔ IsTrue (has (one (truth (opposite (stands_at st n) || same_value (number y.0) bound))) (truth true)) =
@@ -179,7 +170,7 @@ module _ (p : ProgramTree) (i : InstructionTree) (ok : IsWeavable p i) (at : Pla
 
     -- the condition that a mode's INIT puts on the first moment
     abbrev pub StartMode : ModeTree → Type 0
-    StartMode mode = stands_at st mode.name ≡ true → RuleStep mode.effect (v at (own_name s.target)) true (v at s.target)
+    StartMode mode = stands_at st mode.name ≡ true → RuleStep (rule_of mode.effect) (v at (own_name s.target)) true (v at s.target)
 
     -- a slice that starts nominal has no INIT, and no mode stands
     rules_start : (start : Start) → Starts start s.modes st →
@@ -187,14 +178,14 @@ module _ (p : ProgramTree) (i : InstructionTree) (ok : IsWeavable p i) (at : Pla
     rules_start Nominal none = (
       (λ h. each_all StartMode s.modes (λ mode b q. let no' : stands_at None mode.name ≡ true = subst (λ t. stands_at t mode.name ≡ true) none q in cc)),
       (λ h. (each_flat_map (FirstSection (woven p i) at v) (λ k. mode_rules Nominal k.effect s.name k.name s.target) s.modes).1
-          (each_all _ s.modes (λ k b. (each_append (FirstSection (woven p i) at v) (rules k.effect s.name k.name s.target) []).1 (rules_first v k.effect k.name, tt)))),
+          (each_all _ s.modes (λ k b. (each_append (FirstSection (woven p i) at v) (rules k.effect s.name k.name s.target) []).1 (rules_first v (rule_of k.effect) k.name, tt)))),
     )
     rules_start Any begun =
         iff_trans (each_flat_map (FirstSection (woven p i) at v) (λ k. mode_rules Any k.effect s.name k.name s.target) s.modes)
         (each_iff (λ k. Each (FirstSection (woven p i) at v) (mode_rules Any k.effect s.name k.name s.target)) StartMode s.modes
         (λ k b. iff_trans (each_append (FirstSection (woven p i) at v) (rules k.effect s.name k.name s.target) (first_rules k.effect s.name k.name s.target))
-        (iff_trans ((λ q. q.1), (λ q. (rules_first v k.effect k.name, q)))
-        (first_rule k.effect k.name (mode_known s s.modes k b) (mode_lawful k b).not_nominal (mode_lawful k b).effect_allowed))))
+        (iff_trans ((λ q. q.1), (λ q. (rules_first v (rule_of k.effect) k.name, q)))
+        (first_rule (rule_of k.effect) k.name (mode_known s s.modes k b) (mode_lawful k b).not_nominal (rule_asks k b)))))
 
     -- what a slice's sections ask of a first moment
     abbrev pub StartOfSlice : Type 0
@@ -217,16 +208,12 @@ module _ (p : ProgramTree) (i : InstructionTree) (ok : IsWeavable p i) (at : Pla
     next_leaves : (n : ℕ) → SliceLeaves s (ok.slices at m s is a).type (name_values (suc n) (woven p i) at v' v') (v' at s.target) (v' at (own_name s.target)) st'
     next_leaves n = slice_leaves p i ok n at m s v' v' (v' at (own_name s.target)) st' is a refl mode_eq'
 
-    rule_step : (e : EffectTree) (n : Text) → IsKnown s (Some n) → n ≢ codes "nominal" → IsAllowed p at m e (ok.slices at m s is a).type →
-        Each (StepSection (woven p i) at v v') (rules e s.name n s.target)
-        ↔ (stands_at st' n ≡ true → RuleStep e (v at s.target) (opposite (stands_at st n)) (v' at s.target))
-    rule_step (stuck_at c) n k h al = ((λ q e. tt), (λ q. tt))
-    rule_step (follows f) n k h al = ((λ q e. tt), (λ q. tt))
-    rule_step inverted n k h al = ((λ q e. tt), (λ q. tt))
-    rule_step random n k h al = ((λ q e. tt), (λ q. tt))
-    rule_step erroneous n k h al = ((λ q e. tt), (λ q. (tt, tt)))
-    rule_step (offset d) n k h al = ((λ q e. tt), (λ q. tt))
-    rule_step frozen n k h al =
+    rule_step : (r : Option EffectRule) (n : Text) → IsKnown s (Some n) → n ≢ codes "nominal" → RuleAsks (λ passes. IsRange (ok.slices at m s is a).type) r →
+        Each (StepSection (woven p i) at v v') (rule_trees r s.name n s.target)
+        ↔ (stands_at st' n ≡ true → RuleStep r (v at s.target) (opposite (stands_at st n)) (v' at s.target))
+    rule_step None n k h al = ((λ q e. tt), (λ q. tt))
+    rule_step (Some NotOwn) n k h al = ((λ q e. tt), (λ q. (tt, tt)))
+    rule_step (Some AsBefore) n k h al =
         let value : May (woven p i) at v v' (frozen_rule s.name n s.target) (truth true)
         ↔ IsTrue (has (one (truth (opposite (stands_at st' n) || same_value (v' at s.target) (v at s.target)))) (truth true)) =
         may_value 1 (woven p i) at v v' (frozen_rule s.name n s.target) (one (truth (opposite (stands_at st' n) || same_value (v' at s.target) (v at s.target)))) (truth true)
@@ -237,7 +224,7 @@ module _ (p : ProgramTree) (i : InstructionTree) (ok : IsWeavable p i) (at : Pla
           (λ q e. (equal_value (v' at s.target) (v at s.target)).0 (test.0 q.0 e)),
           (λ q. (test.1 (λ e. (equal_value (v' at s.target) (v at s.target)).1 (q e)), tt)),
         )
-    rule_step stuck_at_pick n k h al =
+    rule_step (Some AsEntered) n k h al =
         let value : May (woven p i) at v v' (pick_rule s.name n s.target) (truth true)
         ↔ IsTrue (has (one (truth (opposite (stands_at st n && stands_at st' n) || same_value (v' at s.target) (v at s.target)))) (truth true)) =
         may_value 1 (woven p i) at v v' (pick_rule s.name n s.target) (one (truth (opposite (stands_at st n && stands_at st' n) || same_value (v' at s.target) (v at s.target)))) (truth true)
@@ -248,9 +235,9 @@ module _ (p : ProgramTree) (i : InstructionTree) (ok : IsWeavable p i) (at : Pla
           (λ q e f. (equal_value (v' at s.target) (v at s.target)).0 (test.0 q.0 e f)),
           (λ q. (test.1 (λ e f. (equal_value (v' at s.target) (v at s.target)).1 (q e f)), tt)),
         )
-    rule_step (ramp_down d f) n k h al =
-        let x : (z : ℤ) × (v at s.target ≡ number z) = in_range (ok.slices at m s is a).type (v at s.target) al dr in
-        let y : (z : ℤ) × (v' at s.target ≡ number z) = in_range (ok.slices at m s is a).type (v' at s.target) al dr' in
+    rule_step (Some (Falling d f)) n k h al =
+        let x : (z : ℤ) × (v at s.target ≡ number z) = number_in (ok.slices at m s is a).type (v at s.target) al dr in
+        let y : (z : ℤ) × (v' at s.target ≡ number z) = number_in (ok.slices at m s is a).type (v' at s.target) al dr' in
         let bound : Value = number (if int_lt f (x.0 -ℤ d) then x.0 -ℤ d else f) in
         let value : May (woven p i) at v v' (ramp_rule d f s.name n s.target) (truth true)
         ↔ IsTrue (has (one (truth (opposite (stands_at st' n) || same_value (number y.0) bound))) (truth true)) =
@@ -265,14 +252,14 @@ module _ (p : ProgramTree) (i : InstructionTree) (ok : IsWeavable p i) (at : Pla
 
     -- the condition that a mode's TRANS puts on the step
     abbrev pub StepMode : ModeTree → Type 0
-    StepMode mode = stands_at st' mode.name ≡ true → RuleStep mode.effect (v at s.target) (opposite (stands_at st mode.name)) (v' at s.target)
+    StepMode mode = stands_at st' mode.name ≡ true → RuleStep (rule_of mode.effect) (v at s.target) (opposite (stands_at st mode.name)) (v' at s.target)
 
     pub rules_step : Each (StepSection (woven p i) at v v') (slice_rules s) ↔ Each StepMode s.modes
     rules_step =
         iff_trans (each_flat_map (StepSection (woven p i) at v v') (λ k. mode_rules s.start k.effect s.name k.name s.target) s.modes)
         (each_iff (λ k. Each (StepSection (woven p i) at v v') (mode_rules s.start k.effect s.name k.name s.target)) StepMode s.modes
         (λ k b. iff_trans (mode_rules_plain (StepSection (woven p i) at v v') (λ f. tt) s.start k.effect s.name k.name s.target)
-        (rule_step k.effect k.name (mode_known s s.modes k b) (mode_lawful k b).not_nominal (mode_lawful k b).effect_allowed)))
+        (rule_step (rule_of k.effect) k.name (mode_known s s.modes k b) (mode_lawful k b).not_nominal (rule_asks k b))))
 
     -- what the next mode is
     next_state : (t : ModeState) → IsKnown s t → (v' at (mode_variable s.name) ≡ symbol (mode_symbol s.name t)) ↔ (st' ≡ t)

@@ -1,21 +1,25 @@
 -- What the added sections of a slice say at an instance.
-use Rattle.std.proofs.Common.{◌≡◌, ◌≢◌, inl, inr, ◌↔◌, ℕ, suc, Bool, true, false, List, [], ◌∷◌, Some, None, refl, sym, ◌∙◌, ap, subst}
-use Rattle.std.specs.Prelude.{ℤ, IsTrue, codes, ◌||◌}
-use Rattle.smv_language.specs.ProgramTree.{Text, DeclaredTree, boolean, range, members, instance, ModuleTree, ProgramTree}
+use Rattle.std.proofs.Common.{◌≡◌, ◌≢◌, inl, inr, ◌↔◌, ℕ, suc, Bool, true, false, List, [], ◌∷◌, Option, Some, None, refl, sym, ◌∙◌, ap, subst}
+use Rattle.std.specs.Prelude.{IsTrue, codes, ◌||◌}
+use Rattle.smv_language.specs.ProgramTree.{Text, ModuleTree, ProgramTree}
 use Rattle.smv_language.specs.Values.{Value, truth, symbol, Values, one, has, same_value, opposite}
 use Rattle.smv_language.specs.Evaluate.{evaluate}
 use Rattle.smv_language.specs.Scope.{Place, kind_in}
 use Rattle.smv_language.specs.May.{Valuation, name_values, May}
 use Rattle.smv_language.specs.Trace.{Each, AtSome, IsInstance, in_domain, EachSection}
 use Rattle.smv_language.proofs.ValueLaws.{same_text_refl}
-use Rattle.fault_instructions.specs.Instructions.{EffectTree, stuck_at, follows, inverted, random, erroneous, frozen, stuck_at_pick, offset, ramp_down, ModeTree, SliceTree, InstructionTree, slices_of}
+use Rattle.fault_instructions.specs.declared.effects.EffectRule.{EffectRule}
+use Rattle.fault_instructions.specs.declared.effects.EffectRule.TheVariants.{NotOwn, AsBefore, AsEntered, Falling}
+use Rattle.fault_instructions.specs.EffectForms.{Branch, the_formula}
+use Rattle.fault_instructions.specs.Effects.{branch_of, rule_of}
+use Rattle.fault_instructions.specs.Instructions.{ModeTree, SliceTree, InstructionTree, slices_of}
 use Rattle.fault_instructions.specs.AddedNames.{ModeState}
 use Rattle.fault_instructions.specs.AddedNames.{own_name, mode_variable, mode_symbol}
 use Rattle.fault_weave.specs.WovenProgram.{mode_rules, slice_rules, slice_sections, read_tree, woven}
 use Rattle.fault_instructions.specs.KindTypes.{type_of_kind}
-use Rattle.fault_instructions.specs.Templates.{named, stands, branch, erroneous_rule, rules}
-use Rattle.fault_instructions.specs.Weavable.{Among, IsAllowed, IsBoolean, IsRangeEffect, IsLawfulMode, IsWeavable}
-use Rattle.fault_instructions.specs.Types.{IsKnown}
+use Rattle.fault_instructions.specs.Templates.{named, stands, branch, branch_tree, rule_trees, erroneous_rule}
+use Rattle.fault_instructions.specs.Weavable.{Among, IsReadable, IsLawfulMode, IsWeavable}
+use Rattle.fault_instructions.specs.Types.{IsKnown, IsBoolean, IsRange}
 use Rattle.fault_instructions.proofs.AmongLaws.{each_iff, each_flat_map, each_at, each_all}
 use Rattle.fault_weave.proofs.Agreement.{Agree, may_agree}
 use Rattle.fault_weave.proofs.LeafValues.{may_value, may_same, slice_leaves}
@@ -23,7 +27,7 @@ use Rattle.fault_instructions.specs.EffectLaw.{SliceLeaves, stands_at}
 use Rattle.fault_instructions.proofs.TemplateLaws.{one_has}
 use Rattle.fault_weave.proofs.ModeRules.{mode_rules_plain}
 use Rattle.fault_weave.proofs.Cases.{chosen, case_value, chosen_none, chosen_some}
-use Rattle.fault_instructions.proofs.EffectRows.{BranchAllows, RuleNow, Fits, branch_gives, stands_value, erroneous_value, implied, differs_value}
+use Rattle.fault_instructions.proofs.EffectRows.{BranchAllows, RuleNow, BranchAsks, BranchHolds, row_law, branch_gives, stands_value, erroneous_value, implied, differs_value}
 use Rattle.smv_language.proofs.OneTree.{same_text_equal}
 use Rattle.smv_language.proofs.BoolLaws.{iff_trans}
 
@@ -53,44 +57,24 @@ module _ (p : ProgramTree) (i : InstructionTree) (ok : IsWeavable p i) (at : Pla
     leaves : (n : ℕ) → SliceLeaves s (ok.slices at m s is a).type (name_values (suc n) (woven p i) at v v) (v at s.target) (v at (own_name s.target)) st
     leaves n = slice_leaves p i ok n at m s v v (v at (own_name s.target)) st is a refl mode_eq
 
-    branch_may : (e : EffectTree) (x : Value) → IsAllowed p at m e (ok.slices at m s is a).type →
-        May (woven p i) at v v (branch e (ok.slices at m s is a).type s.target) x
-        ↔ BranchAllows e (λ f y. May p at r r f y) (ok.slices at m s is a).type (v at (own_name s.target)) x
-    branch_may e x allowed = go e allowed
-      where
-        by : (e : EffectTree) → Fits e (ok.slices at m s is a).type →
-            May (woven p i) at v v (branch e (ok.slices at m s is a).type s.target) x
-            ↔ BranchAllows e (λ f y. May p at r r f y) (ok.slices at m s is a).type (v at (own_name s.target)) x
-        by e fits =
-            let gives : (vs : Values) × (evaluate (name_values 1 (woven p i) at v v) (name_values 1 (woven p i) at v v) (branch e (ok.slices at m s is a).type s.target) ≡ Some vs)
-            × ((y : Value) → IsTrue (has vs y) ↔ BranchAllows e (λ f z. May p at r r f z) (ok.slices at m s is a).type (v at (own_name s.target)) y) =
-            branch_gives s (ok.slices at m s is a).type _ _ (v at s.target) (v at (own_name s.target)) st (leaves 0) (λ f y. May p at r r f y) e (ok.slices at m s is a).type refl fits dw in
-            iff_trans (may_value 1 (woven p i) at v v (branch e (ok.slices at m s is a).type s.target) gives.0 x gives.1) (gives.2 x)
+    branch_may : (b : Branch) (x : Value) →
+        BranchAsks (λ c. IsTrue (in_domain (ok.slices at m s is a).type c)) (IsBoolean (ok.slices at m s is a).type) (λ passes. IsRange (ok.slices at m s is a).type) b →
+        BranchHolds (λ c. Unit {0}) (IsReadable p at) (λ n. Unit {0}) b →
+        May (woven p i) at v v (branch_tree b (ok.slices at m s is a).type s.target) x
+        ↔ BranchAllows b (λ f y. May p at r r f y) (ok.slices at m s is a).type (v at (own_name s.target)) x
+    branch_may (the_formula f) x asks h = may_agree p i ok at v v r r agree agree f x h
+    branch_may b x asks h =
+        let gives : (vs : Values) × (evaluate (name_values 1 (woven p i) at v v) (name_values 1 (woven p i) at v v) (branch_tree b (ok.slices at m s is a).type s.target) ≡ Some vs)
+        × ((y : Value) → IsTrue (has vs y) ↔ BranchAllows b (λ f z. May p at r r f z) (ok.slices at m s is a).type (v at (own_name s.target)) y) =
+        branch_gives s (ok.slices at m s is a).type (name_values 1 (woven p i) at v v) (name_values 1 (woven p i) at v v) (v at s.target) (v at (own_name s.target)) st (leaves 0) (λ f y. May p at r r f y) b asks (λ f e. cc) dw in
+        iff_trans (may_value 1 (woven p i) at v v (branch_tree b (ok.slices at m s is a).type s.target) gives.0 x gives.1) (gives.2 x)
 
-        boolean_fits : (t : DeclaredTree) → IsBoolean p at m t → Fits inverted t
-        boolean_fits boolean h = tt
-        boolean_fits (range lo hi) h = absurd h
-        boolean_fits (members ms) h = absurd h
-        boolean_fits (instance n es) h = absurd h
-
-        range_fits : (d : ℤ) (t : DeclaredTree) → IsRangeEffect p at m t → Fits (offset d) t
-        range_fits d boolean h = absurd h
-        range_fits d (range lo hi) h = tt
-        range_fits d (members ms) h = absurd h
-        range_fits d (instance n es) h = absurd h
-
-        go : (e : EffectTree) → IsAllowed p at m e (ok.slices at m s is a).type →
-            May (woven p i) at v v (branch e (ok.slices at m s is a).type s.target) x
-            ↔ BranchAllows e (λ f y. May p at r r f y) (ok.slices at m s is a).type (v at (own_name s.target)) x
-        go (stuck_at c) h = by (stuck_at c) h
-        go (follows f) h = may_agree p i ok at v v r r agree agree f x h
-        go inverted h = by inverted (boolean_fits (ok.slices at m s is a).type h)
-        go random h = by random tt
-        go erroneous h = by erroneous tt
-        go frozen h = by frozen tt
-        go stuck_at_pick h = by stuck_at_pick tt
-        go (offset d) h = by (offset d) (range_fits d (ok.slices at m s is a).type h)
-        go (ramp_down d f) h = by (ramp_down d f) tt
+    effect_may : (mode : ModeTree) → Among s.modes mode → (x : Value) →
+        May (woven p i) at v v (branch mode.effect (ok.slices at m s is a).type s.target) x
+        ↔ BranchAllows (branch_of mode.effect) (λ f y. May p at r r f y) (ok.slices at m s is a).type (v at (own_name s.target)) x
+    effect_may mode b x =
+        let allowed = (mode_lawful mode b).effect_allowed in
+        branch_may (branch_of mode.effect) x ((row_law mode.effect).asks _ _ _ allowed.0).0 ((row_law mode.effect).holds _ _ _ allowed.1).0
 
     tests : (n : ℕ) → Each (λ k. evaluate (name_values (suc n) (woven p i) at v v) (name_values (suc n) (woven p i) at v v) (stands s.name k.name) ≡ Some (one (truth (stands_at st k.name)))) s.modes
     tests n = each_all _ s.modes (λ k b. stands_value s (ok.slices at m s is a).type (name_values (suc n) (woven p i) at v v) (name_values (suc n) (woven p i) at v v) (v at s.target) (v at (own_name s.target)) st (leaves n) k.name (mode_known s s.modes k b) (mode_lawful k b).not_nominal)
@@ -98,7 +82,7 @@ module _ (p : ProgramTree) (i : InstructionTree) (ok : IsWeavable p i) (at : Pla
     -- the condition that a mode's effect puts on a moment
     abbrev pub NowMode : ModeTree → Type 0
     NowMode mode = stands_at st mode.name ≡ true →
-        BranchAllows mode.effect (λ f y. May p at r r f y) (ok.slices at m s is a).type (v at (own_name s.target)) (v at s.target)
+        BranchAllows (branch_of mode.effect) (λ f y. May p at r r f y) (ok.slices at m s is a).type (v at (own_name s.target)) (v at s.target)
 
     pub read_may : May (woven p i) at v v (read_tree (ok.slices at m s is a).type s) (v at s.target)
         ↔ ((st ≡ None → v at s.target ≡ v at (own_name s.target)) × Each NowMode s.modes)
@@ -125,14 +109,14 @@ module _ (p : ProgramTree) (i : InstructionTree) (ok : IsWeavable p i) (at : Pla
             rw state_is (chosen_some (λ k. branch k.effect (ok.slices at m s is a).type s.target) (named (own_name s.target)) s.modes found.0 found.1
             (λ b c. (ok.slices at m s is a).modes_differ found.0 b found.1 c)) in
             let effect : May (woven p i) at v v (branch found.0.effect (ok.slices at m s is a).type s.target) (v at s.target)
-            ↔ BranchAllows found.0.effect (λ f y. May p at r r f y) (ok.slices at m s is a).type (v at (own_name s.target)) (v at s.target) =
-            branch_may found.0.effect (v at s.target) (mode_lawful found.0 found.1).effect_allowed in (
+            ↔ BranchAllows (branch_of found.0.effect) (λ f y. May p at r r f y) (ok.slices at m s is a).type (v at (own_name s.target)) (v at s.target) =
+            effect_may found.0 found.1 (v at s.target) in (
               (λ h. (
                 (λ none. let no' : None ≡ Some n = sym none ∙ e in cc),
                 each_all _ s.modes (λ mode b q.
                     let same_name : found.0.name ≡ mode.name = same_text_equal _ _ (subst (λ t. stands_at t mode.name ≡ true) state_is q) in
                     let same_mode : found.0 ≡ mode = (ok.slices at m s is a).modes_differ found.0 mode found.1 b same_name in
-                    subst (λ k. BranchAllows k.effect (λ f y. May p at r r f y) (ok.slices at m s is a).type (v at (own_name s.target)) (v at s.target)) same_mode
+                    subst (λ k. BranchAllows (branch_of k.effect) (λ f y. May p at r r f y) (ok.slices at m s is a).type (v at (own_name s.target)) (v at s.target)) same_mode
                     (effect.0 (subst (λ f. May (woven p i) at v v f (v at s.target)) taken h))),
               )),
               (λ h. subst (λ f. May (woven p i) at v v f (v at s.target)) (sym taken)
@@ -140,11 +124,11 @@ module _ (p : ProgramTree) (i : InstructionTree) (ok : IsWeavable p i) (at : Pla
             )
 
     abbrev RuleMode : ModeTree → Type 0
-    RuleMode mode = stands_at st mode.name ≡ true → RuleNow mode.effect (v at (own_name s.target)) (v at s.target)
+    RuleMode mode = stands_at st mode.name ≡ true → RuleNow (rule_of mode.effect) (v at (own_name s.target)) (v at s.target)
 
-    rule_each : (e : EffectTree) (n : Text) → IsKnown s (Some n) → n ≢ codes "nominal" →
-        Each (EachSection (woven p i) at v) (rules e s.name n s.target) ↔ (stands_at st n ≡ true → RuleNow e (v at (own_name s.target)) (v at s.target))
-    rule_each erroneous n k h =
+    rule_each : (r : Option EffectRule) (n : Text) → IsKnown s (Some n) → n ≢ codes "nominal" →
+        Each (EachSection (woven p i) at v) (rule_trees r s.name n s.target) ↔ (stands_at st n ≡ true → RuleNow r (v at (own_name s.target)) (v at s.target))
+    rule_each (Some NotOwn) n k h =
         let value : May (woven p i) at v v (erroneous_rule s.name n s.target) (truth true) ↔ IsTrue (has (one (truth (opposite (stands_at st n) || opposite (same_value (v at s.target) (v at (own_name s.target)))))) (truth true)) =
         may_value 1 (woven p i) at v v (erroneous_rule s.name n s.target) (one (truth (opposite (stands_at st n) || opposite (same_value (v at s.target) (v at (own_name s.target)))))) (truth true)
         (erroneous_value s (ok.slices at m s is a).type (name_values 1 (woven p i) at v v) (name_values 1 (woven p i) at v v) (v at s.target) (v at (own_name s.target)) st (leaves 0) (ok.slices at m s is a).uniform dr dw n k h) in
@@ -153,14 +137,10 @@ module _ (p : ProgramTree) (i : InstructionTree) (ok : IsWeavable p i) (at : Pla
           (λ q e. (differs_value (v at s.target) (v at (own_name s.target))).0 (test.0 q.0 e)),
           (λ q. (test.1 (λ e. (differs_value (v at s.target) (v at (own_name s.target))).1 (q e)), tt)),
         )
-    rule_each (stuck_at c) n k h = ((λ q e. tt), (λ q. tt))
-    rule_each (follows f) n k h = ((λ q e. tt), (λ q. tt))
-    rule_each inverted n k h = ((λ q e. tt), (λ q. tt))
-    rule_each random n k h = ((λ q e. tt), (λ q. tt))
-    rule_each frozen n k h = ((λ q e. tt), (λ q. (tt, tt)))
-    rule_each stuck_at_pick n k h = ((λ q e. tt), (λ q. (tt, tt)))
-    rule_each (offset d) n k h = ((λ q e. tt), (λ q. tt))
-    rule_each (ramp_down d f) n k h = ((λ q e. tt), (λ q. (tt, tt)))
+    rule_each None n k h = ((λ q e. tt), (λ q. tt))
+    rule_each (Some AsBefore) n k h = ((λ q e. tt), (λ q. (tt, tt)))
+    rule_each (Some AsEntered) n k h = ((λ q e. tt), (λ q. (tt, tt)))
+    rule_each (Some (Falling d f)) n k h = ((λ q e. tt), (λ q. (tt, tt)))
 
     -- what a slice's sections ask of a moment: read as own where it is nominal, and what the mode's branch and INVAR say
     abbrev pub NowSlice : Type 0
@@ -173,7 +153,7 @@ module _ (p : ProgramTree) (i : InstructionTree) (ok : IsWeavable p i) (at : Pla
         iff_trans (each_flat_map (EachSection (woven p i) at v) (λ k. mode_rules s.start k.effect s.name k.name s.target) s.modes)
         (each_iff (λ k. Each (EachSection (woven p i) at v) (mode_rules s.start k.effect s.name k.name s.target)) RuleMode s.modes
         (λ k b. iff_trans (mode_rules_plain (EachSection (woven p i) at v) (λ f. tt) s.start k.effect s.name k.name s.target)
-        (rule_each k.effect k.name (mode_known s s.modes k b) (mode_lawful k b).not_nominal))) in (
+        (rule_each (rule_of k.effect) k.name (mode_known s s.modes k b) (mode_lawful k b).not_nominal))) in (
           (λ h.
               let now : (st ≡ None → v at s.target ≡ v at (own_name s.target)) × Each NowMode s.modes =
               read_may.0 (subst (λ t. May (woven p i) at v v (read_tree t s) (v at s.target)) type_same h.1.0.1.1.0) in

@@ -10,7 +10,7 @@ use Rattle.smv_language.specs.Trace.{Each, EachPair, AtSome, AtFirst, IsInstance
 use Rattle.smv_language.proofs.ValueLaws.{same_text_refl}
 use Rattle.fault_instructions.specs.Instructions.{ModeTree, SliceTree, InstructionTree, slices_of, is_affected}
 use Rattle.fault_instructions.specs.AddedNames.{ModeState}
-use Rattle.fault_instructions.specs.Effects.{Allows}
+use Rattle.fault_instructions.specs.Effects.{branch_of, rule_of, Allows}
 use Rattle.fault_weave.specs.Moves.{Starts, Moves}
 use Rattle.fault_weave.specs.ExtensionTraces as extended
 use Rattle.fault_weave.specs.ExtensionTraces.{Moment, EachSlice, Effected, StepSlice, FirstSlice, entered, type_of, IsExtended}
@@ -21,7 +21,7 @@ use Rattle.fault_instructions.specs.Weavable.{Among, IsLawfulSection, IsWeavable
 use Rattle.fault_instructions.specs.Types.{IsKnown}
 use Rattle.fault_instructions.proofs.Equivalence.{iff_refl}
 use Rattle.fault_instructions.proofs.AmongLaws.{each_iff, each_at, each_all, each_both, each_mono}
-use Rattle.fault_instructions.proofs.EffectRows.{BranchAllows, RuleNow, RuleStep, row}
+use Rattle.fault_instructions.proofs.EffectRows.{BranchAllows, RuleNow, RuleStep, row_law}
 use Rattle.fault_weave.proofs.WovenSlices.{known_mode}
 use Rattle.fault_weave.proofs.WovenMoves.{slice_step}
 use Rattle.fault_weave.proofs.WovenSections.{section_step}
@@ -52,19 +52,19 @@ each_parts (k ∷ ms) C A X Y Z f =
 -- what the modes that stand say of a moment alone
 abbrev pub NowRowOf : ProgramTree → Place → ModuleTree → Moment → SliceTree → Type 0
 NowRowOf p at m mo s =
-    Each (λ k. stands_at (mo.mode at s.name) k.name ≡ true → BranchAllows k.effect (λ f y. May p at mo.read mo.read f y) (type_of_kind (kind_in m s.target)) (mo.own at s.target) (mo.read at s.target)) s.modes
-    × Each (λ k. stands_at (mo.mode at s.name) k.name ≡ true → RuleNow k.effect (mo.own at s.target) (mo.read at s.target)) s.modes
+    Each (λ k. stands_at (mo.mode at s.name) k.name ≡ true → BranchAllows (branch_of k.effect) (λ f y. May p at mo.read mo.read f y) (type_of_kind (kind_in m s.target)) (mo.own at s.target) (mo.read at s.target)) s.modes
+    × Each (λ k. stands_at (mo.mode at s.name) k.name ≡ true → RuleNow (rule_of k.effect) (mo.own at s.target) (mo.read at s.target)) s.modes
 
 abbrev pub StepRules : Place → Moment → Moment → SliceTree → Type 0
 StepRules at mo mo' s =
-    Each (λ k. stands_at (mo'.mode at s.name) k.name ≡ true → RuleStep k.effect (mo.read at s.target) (opposite (stands_at (mo.mode at s.name) k.name)) (mo'.read at s.target)) s.modes
+    Each (λ k. stands_at (mo'.mode at s.name) k.name ≡ true → RuleStep (rule_of k.effect) (mo.read at s.target) (opposite (stands_at (mo.mode at s.name) k.name)) (mo'.read at s.target)) s.modes
 
 abbrev pub StepRow : ProgramTree → Place → Moment → Moment → SliceTree → Type 0
 StepRow p at mo mo' s = Moves s.modes (λ g. May p at mo.read mo.read g (truth true)) (mo.mode at s.name) (mo'.mode at s.name) × StepRules at mo mo' s
 
 abbrev pub StartRowOf : Place → Moment → SliceTree → Type 0
 StartRowOf at mo s =
-    Starts s.start s.modes (mo.mode at s.name) × Each (λ k. stands_at (mo.mode at s.name) k.name ≡ true → RuleStep k.effect (mo.own at s.target) true (mo.read at s.target)) s.modes
+    Starts s.start s.modes (mo.mode at s.name) × Each (λ k. stands_at (mo.mode at s.name) k.name ≡ true → RuleStep (rule_of k.effect) (mo.own at s.target) true (mo.read at s.target)) s.modes
 
 abbrev pub NowRows : ProgramTree → InstructionTree → Moment → Type 0
 NowRows p i mo = (at : Place) (m : ModuleTree) → IsInstance p at m → Each (NowRowOf p at m mo) (slices_of i m.name)
@@ -109,17 +109,17 @@ module _ (p : ProgramTree) (i : InstructionTree) (ok : IsWeavable p i) where
 
     -- what the mode's TRANS or INIT says
     abbrev StepRulesBy : (Text → Bool) → Type 0
-    StepRulesBy e = Each (λ k. stands_at (mo.mode at s.name) k.name ≡ true → RuleStep k.effect before (e k.name) (mo.read at s.target)) s.modes
+    StepRulesBy e = Each (λ k. stands_at (mo.mode at s.name) k.name ≡ true → RuleStep (rule_of k.effect) before (e k.name) (mo.read at s.target)) s.modes
 
     effected_rows : IsKnown s (mo.mode at s.name) → IsTrue (in_domain (type_of_kind (kind_in m s.target)) (mo.read at s.target)) →
         Effected p i at m mo s before is_entered (mo.mode at s.name) ↔ (NowRowOf p at m mo s × StepRulesBy is_entered)
     effected_rows known d =
         iff_trans (effected_each (mo.mode at s.name) known)
         (each_parts s.modes (λ k. stands_at (mo.mode at s.name) k.name ≡ true) (λ k. AllowedIn k (is_entered k.name))
-        (λ k. BranchAllows k.effect (λ f y. May p at mo.read mo.read f y) (type_of_kind (kind_in m s.target)) (mo.own at s.target) (mo.read at s.target))
-        (λ k. RuleNow k.effect (mo.own at s.target) (mo.read at s.target))
-        (λ k. RuleStep k.effect before (is_entered k.name) (mo.read at s.target))
-        (λ k. row k.effect (λ f y. May p at mo.read mo.read f y) (type_of_kind (kind_in m s.target)) (mo.own at s.target) before (is_entered k.name) (mo.read at s.target) d))
+        (λ k. BranchAllows (branch_of k.effect) (λ f y. May p at mo.read mo.read f y) (type_of_kind (kind_in m s.target)) (mo.own at s.target) (mo.read at s.target))
+        (λ k. RuleNow (rule_of k.effect) (mo.own at s.target) (mo.read at s.target))
+        (λ k. RuleStep (rule_of k.effect) before (is_entered k.name) (mo.read at s.target))
+        (λ k. (row_law k.effect).allows (λ f y. May p at mo.read mo.read f y) (type_of_kind (kind_in m s.target)) (mo.own at s.target) before (is_entered k.name) (mo.read at s.target) d))
 
   -- domains of the program at an instance
   own_domains : (mo : Moment) (at : Place) (m : ModuleTree) → Each (extended.DomainSection p i at m mo) m.sections → Each (DomainSection at mo.read) m.sections
@@ -156,18 +156,18 @@ module _ (p : ProgramTree) (i : InstructionTree) (ok : IsWeavable p i) where
       where
         Rows : Value → Value → Type 0
         Rows x y = Moves s.modes (λ g. May p at mo.read mo.read g (truth true)) (mo.mode at s.name) (mo'.mode at s.name)
-            × Each (λ k. stands_at (mo'.mode at s.name) k.name ≡ true → RuleStep k.effect x (opposite (stands_at (mo.mode at s.name) k.name)) y) s.modes
+            × Each (λ k. stands_at (mo'.mode at s.name) k.name ≡ true → RuleStep (rule_of k.effect) x (opposite (stands_at (mo.mode at s.name) k.name)) y) s.modes
 
     step_slice : (at : Place) (m : ModuleTree) (is : IsInstance p at m) (s : SliceTree) (a : Among (slices_of i m.name) s) → StepSlice p i at m mo mo' s ↔ (StepRow p at mo mo' s × NowRowOf p at m mo' s)
     step_slice at m is s a =
         let effect : Effected p i at m mo' s (mo.read at s.target) (entered p i at m (mo.mode at s.name)) (mo'.mode at s.name)
-        ↔ (NowRowOf p at m mo' s × Each (λ k. stands_at (mo'.mode at s.name) k.name ≡ true → RuleStep k.effect (mo.read at s.target) (entered p i at m (mo.mode at s.name) k.name) (mo'.read at s.target)) s.modes) =
+        ↔ (NowRowOf p at m mo' s × Each (λ k. stands_at (mo'.mode at s.name) k.name ≡ true → RuleStep (rule_of k.effect) (mo.read at s.target) (entered p i at m (mo.mode at s.name) k.name) (mo'.read at s.target)) s.modes) =
         effected_rows at m is mo' s a (mo.read at s.target) (entered p i at m (mo.mode at s.name)) (slice_known p i ok at m is v' mo' cut' s a)
         (subst (λ t. IsTrue (in_domain t (mo'.read at s.target))) (sym (type_same p i ok at m is v' mo' cut' s a)) (target_domain v' mo' cut' good' at m is s a)) in
-        let rules : Each (λ k. stands_at (mo'.mode at s.name) k.name ≡ true → RuleStep k.effect (mo.read at s.target) (entered p i at m (mo.mode at s.name) k.name) (mo'.read at s.target)) s.modes ↔ StepRules at mo mo' s =
+        let rules : Each (λ k. stands_at (mo'.mode at s.name) k.name ≡ true → RuleStep (rule_of k.effect) (mo.read at s.target) (entered p i at m (mo.mode at s.name) k.name) (mo'.read at s.target)) s.modes ↔ StepRules at mo mo' s =
         each_iff _ _ s.modes (λ k b.
-        subst (λ e. (stands_at (mo'.mode at s.name) k.name ≡ true → RuleStep k.effect (mo.read at s.target) (entered p i at m (mo.mode at s.name) k.name) (mo'.read at s.target))
-        ↔ (stands_at (mo'.mode at s.name) k.name ≡ true → RuleStep k.effect (mo.read at s.target) e (mo'.read at s.target))) (entered_is at m (mo.mode at s.name) k.name) iff_refl) in
+        subst (λ e. (stands_at (mo'.mode at s.name) k.name ≡ true → RuleStep (rule_of k.effect) (mo.read at s.target) (entered p i at m (mo.mode at s.name) k.name) (mo'.read at s.target))
+        ↔ (stands_at (mo'.mode at s.name) k.name ≡ true → RuleStep (rule_of k.effect) (mo.read at s.target) e (mo'.read at s.target))) (entered_is at m (mo.mode at s.name) k.name) iff_refl) in
         ((λ h. ((h.0, rules.0 (effect.0 h.1).1), (effect.0 h.1).0)), (λ h. (h.0.0, effect.1 (h.1, rules.1 h.0.1))))
 
     -- a step of the woven program, with what the modes that stand next say of that moment, is an extended step
@@ -222,7 +222,7 @@ module _ (p : ProgramTree) (i : InstructionTree) (ok : IsWeavable p i) where
           subst (λ t. IsTrue (in_domain t (mo.read at s.target))) (sym (type_same p i ok at m is v mo cut s a))
           (declares_domain (ok.slices at m s is a).type mo.read at s.target (ok.slices at m s is a).finite (target_declared p i ok at m is v mo cut s a (good at m is).0).0) in
           let effect : Effected p i at m mo s (mo.own at s.target) (λ n. true) (mo.mode at s.name)
-          ↔ (NowRowOf p at m mo s × Each (λ k. stands_at (mo.mode at s.name) k.name ≡ true → RuleStep k.effect (mo.own at s.target) true (mo.read at s.target)) s.modes) =
+          ↔ (NowRowOf p at m mo s × Each (λ k. stands_at (mo.mode at s.name) k.name ≡ true → RuleStep (rule_of k.effect) (mo.own at s.target) true (mo.read at s.target)) s.modes) =
           effected_rows at m is mo s a (mo.own at s.target) (λ n. true) (slice_known p i ok at m is v mo cut s a) inside in
           ((λ h. ((h.0, (effect.0 h.1).1), (effect.0 h.1).0)), (λ h. (h.0.0, effect.1 (h.1, h.0.1))))
 

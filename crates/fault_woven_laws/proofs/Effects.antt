@@ -1,6 +1,6 @@
 -- What the templates of a slice are judged as, where its names have the kinds that they are to have.
-use Rattle.std.proofs.Common.{◌≡◌, Bool, true, false, [], ◌∷◌, Some, None, ℤ, ◌+ℤ◌, ◌-ℤ◌, refl, ap, ◌∙◌}
-use Rattle.std.specs.Prelude.{◌&&◌}
+use Rattle.std.proofs.Common.{◌≡◌, Bool, true, false, [], ◌∷◌, Option, Some, None, ℤ, ◌+ℤ◌, ◌-ℤ◌, refl, ap, ◌∙◌}
+use Rattle.std.specs.Prelude.{◌&&◌, IsTrue}
 use Rattle.smv_language.specs.declared.expr.Op.TheVariants as op
 use Rattle.smv_language.specs.Tree.{next_of, binary}
 use Rattle.smv_language.specs.Laws.{AllLeaves}
@@ -10,14 +10,18 @@ use Rattle.smv_language.specs.Trace.{Each, in_domain}
 use Rattle.smv_language.proofs.ValueLaws.{both_true}
 use Rattle.fault_instructions.specs.declared.instructions.Start.{Start}
 use Rattle.fault_instructions.specs.declared.instructions.Start.TheVariants.{Nominal, Any}
-use Rattle.fault_instructions.specs.Instructions.{EffectTree, stuck_at, follows, inverted, random, erroneous, frozen, stuck_at_pick, offset, ramp_down, ModeTree, SliceTree}
+use Rattle.fault_instructions.specs.declared.effects.EffectRule.{EffectRule}
+use Rattle.fault_instructions.specs.declared.effects.EffectRule.TheVariants.{NotOwn, AsBefore, AsEntered, Falling}
+use Rattle.fault_instructions.specs.EffectForms.{Demand, no_demand, one_of_its, truth_values, two_values, a_range, Branch, the_constant, the_formula, the_opposite, the_sum, any_value}
+use Rattle.fault_instructions.specs.Effects.{row, branch_of, rule_of, fault_of}
+use Rattle.fault_instructions.specs.Instructions.{EffectTree, plain, of_constant, of_expression, of_number, of_numbers, EachArgument, ModeTree, SliceTree}
 use Rattle.fault_instructions.specs.AddedNames.{ModeState, own_name, mode_variable, mode_symbol}
-use Rattle.fault_instructions.specs.Types.{IsKnown}
-use Rattle.fault_instructions.specs.Templates.{named, number_tree, clipped_tree, branch, greater_tree, stands, stands_next, stays_tree, rules, first_rules}
+use Rattle.fault_instructions.specs.Types.{IsKnown, IsBoolean, Demanded}
+use Rattle.fault_instructions.specs.Templates.{named, number_tree, clipped_tree, branch, branch_tree, greater_tree, stands, stands_next, stays_tree, rules, rule_trees, first_trees}
 use Rattle.fault_weave.specs.WovenProgram.{start_rules}
 use Rattle.fault_instructions.specs.declared.fault.EffectFault.{EffectFault}
 use Rattle.fault_instructions.specs.declared.fault.EffectFault.TheVariants.{Outside}
-use Rattle.fault_instructions.specs.AllowedEffects.{is_small, offset_fits, ramp_fits, fault_unless, is_of_kind, fault_of}
+use Rattle.fault_instructions.specs.AllowedEffects.{is_small, offset_fits, ramp_fits, fault_unless, is_of_kind, demand_fault}
 use Rattle.smv_type_laws.specs.Intervals.{Interval, just, sum_of, difference_of, fits}
 use Rattle.smv_type_laws.specs.ExpressionKinds.{Class, truth_class, number_class, symbol_class, Kind, Judged, judged_number, judge}
 use Rattle.smv_type_laws.specs.DeclaredKinds.{judged_declared, class_declared}
@@ -25,11 +29,40 @@ use Rattle.fault_woven_laws.proofs.Rightly.{Rightly, not_right, connective_right
 use Rattle.fault_woven_laws.proofs.Numbers.{numbers_in, numbers_right, small_fits, between_fits, number_judged, sum_judged, difference_judged}
 use Rattle.fault_woven_laws.proofs.Domains.{range_kept, range_kind, MembersKnown, domain_right, value_right}
 use Rattle.fault_rules.proofs.KeptFacts.{constant_within}
+use Rattle.fault_extend_laws.specs.Expressions.{followed}
+use Rattle.fault_instructions.proofs.EffectRows.{BranchAsks, RuleAsks, BranchHolds, row_law}
 
 -- no fault
 pub unless_none : (b : Bool) (f : EffectFault) → fault_unless b f ≡ None → b ≡ true
 unless_none true f e = refl
 unless_none false f e = cc
+
+-- a range whose ends pass
+abbrev IsRangeThat : (ℤ → ℤ → Bool) → DeclaredTree → Type 0
+IsRangeThat passes (range lo hi) = passes lo hi ≡ true
+IsRangeThat passes _ = ⊥
+
+-- what an effect that is refused for nothing demands is so
+demanded : (d : Demand) (type : DeclaredTree) → demand_fault d type ≡ None → Demanded (λ c. IsTrue (in_domain type c)) (IsBoolean type) (λ passes. IsRangeThat passes type) d
+demanded no_demand type e = tt
+demanded (one_of_its c) type e = constant_within (is_of_kind type c) (in_domain type c) e
+demanded two_values type e = tt
+demanded truth_values boolean e = tt
+demanded truth_values (range lo hi) e = cc
+demanded truth_values (members ms) e = cc
+demanded truth_values (instance n actuals) e = cc
+demanded (a_range passes) (range lo hi) e = unless_none (passes lo hi) Outside e
+demanded (a_range passes) boolean e = cc
+demanded (a_range passes) (members ms) e = cc
+demanded (a_range passes) (instance n actuals) e = cc
+
+-- what holds of what is followed holds of each expression of an effect
+pub of_followed : (F : Formula → Type 0) (e : EffectTree) → ((f : Formula) → followed e ≡ Some f → F f) → EachArgument (λ c. Unit {0}) F (λ n. Unit {0}) e
+of_followed F (plain k) h = tt
+of_followed F (of_constant k c) h = tt
+of_followed F (of_expression k f) h = h f refl
+of_followed F (of_number k n) h = tt
+of_followed F (of_numbers k m n) h = (tt, tt)
 
 module _ (K : Path → Kind) (P : Path → Type 0) where
   -- the names of a slice have the kinds that they are to have
@@ -44,7 +77,7 @@ module _ (K : Path → Kind) (P : Path → Type 0) where
   -- the expressions of a mode are judged, and its effect is allowed
   pub record ModeKinds (type : DeclaredTree) (m : ModeTree) : Type 0 where
     pub allowed : fault_of m.effect type ≡ None
-    pub followed : (e : Formula) → m.effect ≡ follows e → AllLeaves P e → Rightly (class_declared type) (judge K true e)
+    pub following : EachArgument (λ c. Unit {0}) (λ f. AllLeaves P f → Rightly (class_declared type) (judge K true f)) (λ n. Unit {0}) m.effect
     pub guard : (g : Formula) → m.guard ≡ Some g → AllLeaves P g → Rightly truth_class (judge K false g)
 
   named_right : (sets : Bool) (c : Class) (x : Text) → (K (x ∷ [])).class ≡ c → Rightly c (judge K sets (named x))
@@ -123,23 +156,24 @@ module _ (K : Path → Kind) (P : Path → Type 0) where
         choice_alone number_class _ _ _ (order_right _ _ left right) left right (ap (λ (j : Judged). j.is_set) difference) (ap (λ (j : Judged). j.is_set) floor)
 
   -- the branch of a mode has the class of the variable
+  branch_kept : (b : Branch) (s : SliceTree) (type : DeclaredTree) → SliceKinds s type → BranchAsks (λ c. IsTrue (in_domain type c)) (IsBoolean type) (λ passes. IsRangeThat passes type) b →
+      BranchHolds (λ c. Unit {0}) (λ f. AllLeaves P f → Rightly (class_declared type) (judge K true f)) (λ n. Unit {0}) b → AllLeaves P (branch_tree b type s.target) → Rightly (class_declared type) (judge K true (branch_tree b type s.target))
+  branch_kept (the_constant c) s type kinds a f h = value_right K P true type c kinds.right kinds.members a h
+  branch_kept (the_formula e) s type kinds a f h = f h
+  branch_kept the_opposite s boolean kinds a f h = not_right (judge K false (named (own_name s.target))) (own_right s boolean kinds false h)
+  branch_kept the_opposite s (range lo hi) kinds a f h = absurd a
+  branch_kept the_opposite s (members ms) kinds a f h = absurd a
+  branch_kept the_opposite s (instance n actuals) kinds a f h = absurd a
+  branch_kept (the_sum d) s (range lo hi) kinds a f h = clipped_right s lo hi kinds d a h
+  branch_kept (the_sum d) s boolean kinds a f h = absurd a
+  branch_kept (the_sum d) s (members ms) kinds a f h = absurd a
+  branch_kept (the_sum d) s (instance n actuals) kinds a f h = absurd a
+  branch_kept any_value s type kinds a f h = domain_right K P type kinds.right kinds.members h
+
   pub branch_right : (e : EffectTree) (s : SliceTree) (type : DeclaredTree) → SliceKinds s type → fault_of e type ≡ None →
-      ((f : Formula) → e ≡ follows f → AllLeaves P f → Rightly (class_declared type) (judge K true f)) → AllLeaves P (branch e type s.target) → Rightly (class_declared type) (judge K true (branch e type s.target))
-  branch_right (stuck_at c) s type kinds a follow h = value_right K P true type c kinds.right kinds.members (constant_within (is_of_kind type c) (in_domain type c) a) h
-  branch_right (follows f) s type kinds a follow h = follow f refl h
-  branch_right inverted s boolean kinds a follow h = not_right (judge K false (named (own_name s.target))) (own_right s boolean kinds false h)
-  branch_right inverted s (range lo hi) kinds a follow h = cc
-  branch_right inverted s (members ms) kinds a follow h = cc
-  branch_right inverted s (instance n actuals) kinds a follow h = cc
-  branch_right random s type kinds a follow h = domain_right K P type kinds.right kinds.members h
-  branch_right erroneous s type kinds a follow h = domain_right K P type kinds.right kinds.members h
-  branch_right frozen s type kinds a follow h = domain_right K P type kinds.right kinds.members h
-  branch_right stuck_at_pick s type kinds a follow h = domain_right K P type kinds.right kinds.members h
-  branch_right (offset d) s boolean kinds a follow h = cc
-  branch_right (offset d) s (range lo hi) kinds a follow h = clipped_right s lo hi kinds d (unless_none (offset_fits d lo hi) Outside a) h
-  branch_right (offset d) s (members ms) kinds a follow h = cc
-  branch_right (offset d) s (instance n actuals) kinds a follow h = cc
-  branch_right (ramp_down d f) s type kinds a follow h = domain_right K P type kinds.right kinds.members h
+      EachArgument (λ c. Unit {0}) (λ f. AllLeaves P f → Rightly (class_declared type) (judge K true f)) (λ n. Unit {0}) e → AllLeaves P (branch e type s.target) → Rightly (class_declared type) (judge K true (branch e type s.target))
+  branch_right e s type kinds a f h =
+      branch_kept (branch_of e) s type kinds ((row_law e).asks _ _ _ (demanded (row e).demand type a)).0 ((row_law e).holds _ _ _ f).0 h
 
   -- a rule section is a condition that breaks no rule
   abbrev pub RuleRight : SectionTree → Type 0
@@ -149,64 +183,59 @@ module _ (K : Path → Kind) (P : Path → Type 0) where
   RuleRight _ = ⊥
 
   -- each rule section of a mode breaks no rule
-  pub rules_right : (e : EffectTree) (s : SliceTree) (type : DeclaredTree) (mode : Text) → SliceKinds s type → IsKnown s (Some mode) → fault_of e type ≡ None → Each RuleRight (rules e s.name mode s.target)
-  rules_right (stuck_at c) s type mode kinds known a = tt
-  rules_right (follows f) s type mode kinds known a = tt
-  rules_right inverted s type mode kinds known a = tt
-  rules_right random s type mode kinds known a = tt
-  rules_right erroneous s type mode kinds known a = (
+  rules_kept : (r : Option EffectRule) (s : SliceTree) (type : DeclaredTree) (mode : Text) → SliceKinds s type → IsKnown s (Some mode) → RuleAsks (λ passes. IsRangeThat passes type) r → Each RuleRight (rule_trees r s.name mode s.target)
+  rules_kept None s type mode kinds known a = tt
+  rules_kept (Some NotOwn) s type mode kinds known a = (
     λ h. connective_right (judge K false (stands s.name mode)) (judge K false (binary op.Differs (named s.target) (named (own_name s.target)))) (stands_right s type kinds mode known h.0)
         (same_right (class_declared type) (judge K false (named s.target)) (judge K false (named (own_name s.target))) (target_right s type kinds false h.1.0) (own_right s type kinds false h.1.1)),
     tt,
   )
-  rules_right frozen s type mode kinds known a = (
+  rules_kept (Some AsBefore) s type mode kinds known a = (
     λ h. connective_right (judge K false (stands_next s.name mode)) (judge K false (stays_tree s.target)) (stands_next_right s type kinds mode known h.0) (stays_right s type kinds h.1),
     tt,
   )
-  rules_right stuck_at_pick s type mode kinds known a = (
+  rules_kept (Some AsEntered) s type mode kinds known a = (
     λ h. connective_right (judge K false (binary op.And (stands s.name mode) (stands_next s.name mode))) (judge K false (stays_tree s.target))
         (connective_right (judge K false (stands s.name mode)) (judge K false (stands_next s.name mode)) (stands_right s type kinds mode known h.0.0) (stands_next_right s type kinds mode known h.0.1))
         (stays_right s type kinds h.1),
     tt,
   )
-  rules_right (offset d) s type mode kinds known a = tt
-  rules_right (ramp_down d f) s boolean mode kinds known a = cc
-  rules_right (ramp_down d f) s (range lo hi) mode kinds known a = (
+  rules_kept (Some (Falling d f)) s boolean mode kinds known a = absurd a
+  rules_kept (Some (Falling d f)) s (range lo hi) mode kinds known a = (
     λ h. connective_right (judge K false (stands_next s.name mode)) (judge K false (binary op.Equal (next_of (named s.target)) (greater_tree (binary op.Minus (named s.target) (number_tree d)) f)))
         (stands_next_right s (range lo hi) kinds mode known h.0)
         (same_right number_class (judge K false (named s.target)) (judge K false (greater_tree (binary op.Minus (named s.target) (number_tree d)) f)) (target_right s (range lo hi) kinds false h.1.0)
-        (greater_right s lo hi kinds s.target (read_judged s lo hi kinds h.1.0) d f (unless_none (ramp_fits d f lo hi) Outside a))),
+        (greater_right s lo hi kinds s.target (read_judged s lo hi kinds h.1.0) d f a)),
     tt,
   )
-  rules_right (ramp_down d f) s (members ms) mode kinds known a = cc
-  rules_right (ramp_down d f) s (instance n actuals) mode kinds known a = cc
+  rules_kept (Some (Falling d f)) s (members ms) mode kinds known a = absurd a
+  rules_kept (Some (Falling d f)) s (instance n actuals) mode kinds known a = absurd a
+
+  pub rules_right : (e : EffectTree) (s : SliceTree) (type : DeclaredTree) (mode : Text) → SliceKinds s type → IsKnown s (Some mode) → fault_of e type ≡ None → Each RuleRight (rules e s.name mode s.target)
+  rules_right e s type mode kinds known a = rules_kept (rule_of e) s type mode kinds known ((row_law e).asks _ _ _ (demanded (row e).demand type a)).1
 
   -- and each first rule section
-  first_right : (e : EffectTree) (s : SliceTree) (type : DeclaredTree) (mode : Text) → SliceKinds s type → IsKnown s (Some mode) → fault_of e type ≡ None → Each RuleRight (first_rules e s.name mode s.target)
-  first_right (stuck_at c) s type mode kinds known a = tt
-  first_right (follows f) s type mode kinds known a = tt
-  first_right inverted s type mode kinds known a = tt
-  first_right random s type mode kinds known a = tt
-  first_right erroneous s type mode kinds known a = tt
-  first_right stuck_at_pick s type mode kinds known a = tt
-  first_right (offset d) s type mode kinds known a = tt
-  first_right frozen s type mode kinds known a = (
+  first_kept : (r : Option EffectRule) (s : SliceTree) (type : DeclaredTree) (mode : Text) → SliceKinds s type → IsKnown s (Some mode) → RuleAsks (λ passes. IsRangeThat passes type) r → Each RuleRight (first_trees r s.name mode s.target)
+  first_kept None s type mode kinds known a = tt
+  first_kept (Some NotOwn) s type mode kinds known a = tt
+  first_kept (Some AsEntered) s type mode kinds known a = tt
+  first_kept (Some AsBefore) s type mode kinds known a = (
     λ h. connective_right (judge K false (stands s.name mode)) (judge K false (binary op.Equal (named s.target) (named (own_name s.target)))) (stands_right s type kinds mode known h.0)
         (same_right (class_declared type) (judge K false (named s.target)) (judge K false (named (own_name s.target))) (target_right s type kinds false h.1.0) (own_right s type kinds false h.1.1)),
     tt,
   )
-  first_right (ramp_down d f) s boolean mode kinds known a = cc
-  first_right (ramp_down d f) s (range lo hi) mode kinds known a = (
+  first_kept (Some (Falling d f)) s boolean mode kinds known a = absurd a
+  first_kept (Some (Falling d f)) s (range lo hi) mode kinds known a = (
     λ h. connective_right (judge K false (stands s.name mode)) (judge K false (binary op.Equal (named s.target) (greater_tree (binary op.Minus (named (own_name s.target)) (number_tree d)) f)))
         (stands_right s (range lo hi) kinds mode known h.0)
         (same_right number_class (judge K false (named s.target)) (judge K false (greater_tree (binary op.Minus (named (own_name s.target)) (number_tree d)) f)) (target_right s (range lo hi) kinds false h.1.0)
-        (greater_right s lo hi kinds (own_name s.target) (own_judged s lo hi kinds h.1.1.0.0.0) d f (unless_none (ramp_fits d f lo hi) Outside a))),
+        (greater_right s lo hi kinds (own_name s.target) (own_judged s lo hi kinds h.1.1.0.0.0) d f a)),
     tt,
   )
-  first_right (ramp_down d f) s (members ms) mode kinds known a = cc
-  first_right (ramp_down d f) s (instance n actuals) mode kinds known a = cc
+  first_kept (Some (Falling d f)) s (members ms) mode kinds known a = absurd a
+  first_kept (Some (Falling d f)) s (instance n actuals) mode kinds known a = absurd a
 
   pub start_right : (start : Start) (e : EffectTree) (s : SliceTree) (type : DeclaredTree) (mode : Text) → SliceKinds s type → IsKnown s (Some mode) → fault_of e type ≡ None →
       Each RuleRight (start_rules start e s.name mode s.target)
   start_right Nominal e s type mode kinds known a = tt
-  start_right Any e s type mode kinds known a = first_right e s type mode kinds known a
+  start_right Any e s type mode kinds known a = first_kept (rule_of e) s type mode kinds known ((row_law e).asks _ _ _ (demanded (row e).demand type a)).1

@@ -98,4 +98,4 @@ module _ (K : Path → Kind) (P : Path → Type 0) where
         let f : ModeTree → Formula = λ m. branch m.effect type s.target in
         let last = named (own_name s.target) in
         case_of_right (class_declared type) (mode_branches s.name f last s.modes) (branches_end s.name f last s.modes) (conditions_right f last s.modes j h)
-        (values_right (class_declared type) f last s.modes j (λ m known judged a. branch_right K P m.effect s type kinds judged.allowed judged.followed a) (λ a. own_right K P s type kinds true a) h)
+        (values_right (class_declared type) f last s.modes j (λ m known judged a. branch_right K P m.effect s type kinds judged.allowed judged.following a) (λ a. own_right K P s type kinds true a) h)

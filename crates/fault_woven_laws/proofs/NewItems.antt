@@ -19,14 +19,18 @@ use Rattle.smv_flat_laws.specs.Rules.{Rule, no_such_name, next_here, input_here,
 use Rattle.smv_flat_laws.proofs.Lists.{each_more}
 use Rattle.fault_instructions.specs.declared.instructions.Start.{Start}
 use Rattle.fault_instructions.specs.declared.instructions.Start.TheVariants.{Nominal, Any}
-use Rattle.fault_instructions.specs.Instructions.{EffectTree, stuck_at, follows, inverted, random, erroneous, stuck_at_pick, offset, ramp_down, frozen as frozen_effect, ModeTree, SliceTree, InstructionTree, slices_of}
+use Rattle.fault_instructions.specs.Instructions.{EffectTree, ModeTree, SliceTree, InstructionTree, slices_of}
 use Rattle.fault_instructions.specs.AddedNames.{ModeState, own_name, mode_variable, mode_symbol}
-use Rattle.fault_instructions.specs.Types.{IsKnown}
-use Rattle.fault_instructions.specs.Templates.{named, number_tree, value_tree, branch, greater_tree, stands, erroneous_rule, frozen_rule, pick_rule, ramp_rule, frozen_first, ramp_first}
+use Rattle.fault_instructions.specs.EffectForms.{Branch, the_constant, the_formula, the_opposite, the_sum, any_value}
+use Rattle.fault_instructions.specs.Effects.{branch_of}
+use Rattle.fault_instructions.specs.Types.{IsKnown, IsBoolean, IsRange}
+use Rattle.fault_instructions.specs.Templates.{named, number_tree, value_tree, branch, branch_tree, greater_tree, stands, erroneous_rule, frozen_rule, pick_rule, ramp_rule, frozen_first, ramp_first}
 use Rattle.fault_weave.specs.WovenProgram.{mode_type, start_tree, entries, stay_branch, moves_tree, read_tree, guard_formula, woven}
 use Rattle.fault_instructions.specs.KindTypes.{type_of_kind}
 use Rattle.fault_instructions.specs.Weavable.{Among, IsFinite, IsFreeMember, SymbolsAreFree, IsAllowed, IsLawfulMode, IsLawfulSlice, IsWeavable}
 use Rattle.fault_instructions.proofs.AmongLaws.{each_at}
+use Rattle.fault_instructions.proofs.EffectRows.{BranchAsks, BranchHolds, row_law}
+use Rattle.fault_woven_laws.proofs.Effects.{of_followed}
 use Rattle.fault_weave.proofs.Added.{slices_symbol, woven_symbol}
 use Rattle.fault_weave.proofs.Declared.{or_true, variable_symbol}
 use Rattle.fault_weave.proofs.LeafValues.{instance_among, own_variable, mode_variable_kind, symbol_kind, read_variable}
@@ -239,22 +243,25 @@ module _ (p : ProgramTree) (i : InstructionTree) (ok : IsWeavable p i) (at : Pla
   value_clean type (number n) f h = clean_number Good n
   value_clean type (symbol y) f h = clean_name Good y (constant_good type y f h)
 
-  -- what a mode of an effect reads
-  effect_clean : (type : DeclaredTree) (e : EffectTree) → IsGoodType Good type → IsAllowed p at m e type → ((r : Rule) → SomeBreaks p at false (followed e) r → ⊥) → Clean Good (branch e type s.target)
-  effect_clean type (stuck_at c) f allowed h = value_clean type c f allowed
-  effect_clean type (follows e) f allowed h = record {
+  -- what a branch reads
+  branch_clean : (type : DeclaredTree) (b : Branch) → IsGoodType Good type → BranchAsks (λ c. IsTrue (in_domain type c)) (IsBoolean type) (λ passes. IsRange type) b →
+      BranchHolds (λ c. Unit {0}) (λ e. (r : Rule) → SomeBreaks p at false (Some e) r → ⊥) (λ n. Unit {0}) b → Clean Good (branch_tree b type s.target)
+  branch_clean type (the_constant c) f allowed h = value_clean type c f allowed
+  branch_clean type (the_formula e) f allowed h = record {
     leaves = with_both (Valued p at) (Quiet p at) Good (leaves_in e) (λ name v q. (still_valued p i ok at name v, still_quiet p i ok at name q)) (each_not (HasNoValue p at) (leaves_in e) (h no_such_name))
         (each_not (GivesInput p at) (leaves_in e) (λ b. h input_here (refl, b)));
     free = not_true (has_next e) (h next_here);
   }
-  effect_clean type inverted f allowed h = clean_not Good (named (own_name s.target)) (clean_name Good (own_name s.target) own_good)
-  effect_clean type random f allowed h = clean_domain Good type f
-  effect_clean type erroneous f allowed h = clean_domain Good type f
-  effect_clean type frozen_effect f allowed h = clean_domain Good type f
-  effect_clean type stuck_at_pick f allowed h = clean_domain Good type f
-  effect_clean type (offset d) f allowed h =
+  branch_clean type the_opposite f allowed h = clean_not Good (named (own_name s.target)) (clean_name Good (own_name s.target) own_good)
+  branch_clean type (the_sum d) f allowed h =
       clean_clipped Good type (binary op.Plus (named (own_name s.target)) (number_tree d)) (clean_binary Good op.Plus (named (own_name s.target)) (number_tree d) (clean_name Good (own_name s.target) own_good) (clean_number Good d))
-  effect_clean type (ramp_down d e) f allowed h = clean_domain Good type f
+  branch_clean type any_value f allowed h = clean_domain Good type f
+
+  -- what a mode of an effect reads
+  effect_clean : (type : DeclaredTree) (e : EffectTree) → IsGoodType Good type → IsAllowed p at m e type → ((r : Rule) → SomeBreaks p at false (followed e) r → ⊥) → Clean Good (branch e type s.target)
+  effect_clean type e f allowed h =
+      branch_clean type (branch_of e) f ((row_law e).asks _ _ _ allowed.0).0
+      ((row_law e).holds _ _ _ (of_followed (λ e. (r : Rule) → SomeBreaks p at false (Some e) r → ⊥) e (λ g same r. subst (λ o. SomeBreaks p at false o r → ⊥) same (h r)))).0
 
   stands_clean : (n : ModeTree) → Among s.modes n → Clean Good (stands s.name n.name)
   stands_clean n b = record { leaves = (mode_good, (some_good n b, tt)); free = refl }

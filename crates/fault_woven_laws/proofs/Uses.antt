@@ -13,7 +13,7 @@ use Rattle.smv_language.specs.Trace.{Each, IsInstance, IsVariable}
 use Rattle.smv_language.proofs.ValueLaws.{same_text_refl}
 use Rattle.fault_instructions.specs.Instructions.{ModeTree, SliceTree, InstructionTree, slices_of}
 use Rattle.fault_instructions.specs.AddedNames.{own_name, mode_variable, mode_symbol}
-use Rattle.fault_instructions.specs.AllowedEffects.{fault_of}
+use Rattle.fault_instructions.specs.Effects.{fault_of}
 use Rattle.fault_weave.specs.WovenProgram.{mode_type, woven}
 use Rattle.fault_instructions.specs.KindTypes.{type_of_kind}
 use Rattle.fault_instructions.specs.Weavable.{Among, IsFreeMember, SymbolsAreFree, IsLawfulSlice, IsWeavable}
@@ -38,10 +38,10 @@ use Rattle.smv_type_laws.specs.Models.{judged_in, least, breaches}
 use Rattle.smv_type_laws.proofs.Flags.{same_judged}
 use Rattle.smv_type_laws.proofs.Parts.{none_first, none_second, class_kept}
 use Rattle.fault_extend_laws.specs.Uses.{use_of_site, uses_from, uses_at}
-use Rattle.fault_extend_laws.specs.Expressions.{followed, IsForm, broken_by, class_of_followed, class_of_guard, or_else, kind_rule, KeepsUse, AllUsesKept}
+use Rattle.fault_extend_laws.specs.Expressions.{IsForm, broken_by, class_of_followed, class_of_guard, or_else, kind_rule, KeepsUse, AllUsesKept}
 use Rattle.fault_woven_laws.proofs.Rightly.{Rightly}
 use Rattle.fault_woven_laws.proofs.Domains.{MemberKnown}
-use Rattle.fault_woven_laws.proofs.Effects.{SliceKinds, ModeKinds}
+use Rattle.fault_woven_laws.proofs.Effects.{SliceKinds, ModeKinds, of_followed}
 use Rattle.fault_woven_laws.proofs.Moves.{ModesJudged}
 use Rattle.fault_woven_laws.proofs.Leaves.{kind_given, HasLeaf, declared_so}
 use Rattle.fault_woven_laws.proofs.Definitions.{variable_there, written_agrees}
@@ -200,7 +200,8 @@ module _ (p : ProgramTree) (i : InstructionTree) (ok : IsWeavable p i) (m w : Fl
         let none : BreaksNone m lawful.type one.forms.follows_as one.forms.guard_as = breaks_none m lawful.type one.forms.follows_as one.forms.guard_as one.kinds in
         record {
           allowed = allowed;
-          followed = λ e same h. followed_right e one.forms.follows_as (subst (λ o. IsForm p m at o one.forms.follows_as) (ap followed same) one.forms.is_followed) none.followed_kept none.followed_class h;
+          following = of_followed (λ f. AllLeaves resolved f → Rightly (class_declared lawful.type) (judge after true f)) mode.effect
+              (λ e same h. followed_right e one.forms.follows_as (subst (λ o. IsForm p m at o one.forms.follows_as) same one.forms.is_followed) none.followed_kept none.followed_class h);
           guard = λ g same h. guard_right g one.forms.guard_as (subst (λ o. IsForm p m at o one.forms.guard_as) same one.forms.is_guard) none.guard_kept none.guard_class h;
         }
 

@@ -9,9 +9,12 @@ use Rattle.smv_language.specs.Scope.{Place, Key, Role, state, input, frozen_role
 use Rattle.smv_language.specs.Trace.{Each, IsInstance, IsVariable}
 use Rattle.fault_instructions.specs.declared.instructions.Start.{Start}
 use Rattle.fault_instructions.specs.declared.instructions.Start.TheVariants.{Nominal, Any}
-use Rattle.fault_instructions.specs.Instructions.{EffectTree, stuck_at, follows, inverted, random, erroneous, stuck_at_pick, offset, ramp_down, frozen as frozen_effect, ModeTree, SliceTree, InstructionTree, slices_of, is_affected}
+use Rattle.fault_instructions.specs.Instructions.{EffectTree, ModeTree, SliceTree, InstructionTree, slices_of, is_affected}
 use Rattle.fault_instructions.specs.AddedNames.{own_name}
-use Rattle.fault_instructions.specs.Templates.{rules, first_rules}
+use Rattle.fault_instructions.specs.declared.effects.EffectRule.{EffectRule}
+use Rattle.fault_instructions.specs.declared.effects.EffectRule.TheVariants.{NotOwn, AsBefore, AsEntered, Falling}
+use Rattle.fault_instructions.specs.Effects.{rule_of}
+use Rattle.fault_instructions.specs.Templates.{rules, rule_trees, first_trees}
 use Rattle.fault_weave.specs.WovenProgram.{mode_type, start_rules, mode_rules, slice_sections, added_sections, woven}
 use Rattle.fault_instructions.specs.KindTypes.{type_of_kind}
 use Rattle.fault_instructions.specs.Weavable.{Among, IsFinite, IsLawfulMode, IsWeavable}
@@ -148,38 +151,30 @@ module _ (G : Key → Type 0) where
   woven_has affected at (an_invar e) h = h
   woven_has affected at (a_trans e) h = h
 
-  rules_have : (at : Place) (e : EffectTree) (slice mode target : Text) → Each (ItemHas at) (flat_map items_of_section (rules e slice mode target))
-  rules_have at (stuck_at c) slice mode target = tt
-  rules_have at (follows f) slice mode target = tt
-  rules_have at inverted slice mode target = tt
-  rules_have at random slice mode target = tt
-  rules_have at erroneous slice mode target = (λ n. tt, tt)
-  rules_have at frozen_effect slice mode target = (λ n. tt, tt)
-  rules_have at stuck_at_pick slice mode target = (λ n. tt, tt)
-  rules_have at (offset d) slice mode target = tt
-  rules_have at (ramp_down d f) slice mode target = (λ n. tt, tt)
+  rules_have : (at : Place) (r : Option EffectRule) (slice mode target : Text) → Each (ItemHas at) (flat_map items_of_section (rule_trees r slice mode target))
+  rules_have at None slice mode target = tt
+  rules_have at (Some NotOwn) slice mode target = (λ n. tt, tt)
+  rules_have at (Some AsBefore) slice mode target = (λ n. tt, tt)
+  rules_have at (Some AsEntered) slice mode target = (λ n. tt, tt)
+  rules_have at (Some (Falling d f)) slice mode target = (λ n. tt, tt)
 
-  first_rules_have : (at : Place) (e : EffectTree) (slice mode target : Text) → Each (ItemHas at) (flat_map items_of_section (first_rules e slice mode target))
-  first_rules_have at (stuck_at c) slice mode target = tt
-  first_rules_have at (follows f) slice mode target = tt
-  first_rules_have at inverted slice mode target = tt
-  first_rules_have at random slice mode target = tt
-  first_rules_have at erroneous slice mode target = tt
-  first_rules_have at frozen_effect slice mode target = (λ n. tt, tt)
-  first_rules_have at stuck_at_pick slice mode target = tt
-  first_rules_have at (offset d) slice mode target = tt
-  first_rules_have at (ramp_down d f) slice mode target = (λ n. tt, tt)
+  first_rules_have : (at : Place) (r : Option EffectRule) (slice mode target : Text) → Each (ItemHas at) (flat_map items_of_section (first_trees r slice mode target))
+  first_rules_have at None slice mode target = tt
+  first_rules_have at (Some NotOwn) slice mode target = tt
+  first_rules_have at (Some AsBefore) slice mode target = (λ n. tt, tt)
+  first_rules_have at (Some AsEntered) slice mode target = tt
+  first_rules_have at (Some (Falling d f)) slice mode target = (λ n. tt, tt)
 
   start_rules_have : (at : Place) (start : Start) (e : EffectTree) (slice mode target : Text) → Each (ItemHas at) (flat_map items_of_section (start_rules start e slice mode target))
   start_rules_have at Nominal e slice mode target = tt
-  start_rules_have at Any e slice mode target = first_rules_have at e slice mode target
+  start_rules_have at Any e slice mode target = first_rules_have at (rule_of e) slice mode target
 
   all_rules_have : (at : Place) (s : SliceTree) (ms : List ModeTree) → Each (λ section. Each (ItemHas at) (items_of_section section)) (flat_map (λ mode. mode_rules s.start mode.effect s.name mode.name s.target) ms)
   all_rules_have at s [] = tt
   all_rules_have at s (mode ∷ ms) =
       each_join (λ section. Each (ItemHas at) (items_of_section section)) (mode_rules s.start mode.effect s.name mode.name s.target) (flat_map (λ n. mode_rules s.start n.effect s.name n.name s.target) ms)
       (each_join (λ section. Each (ItemHas at) (items_of_section section)) (rules mode.effect s.name mode.name s.target) (start_rules s.start mode.effect s.name mode.name s.target)
-      ((each_flat (ItemHas at) items_of_section (rules mode.effect s.name mode.name s.target)).0 (rules_have at mode.effect s.name mode.name s.target))
+      ((each_flat (ItemHas at) items_of_section (rules mode.effect s.name mode.name s.target)).0 (rules_have at (rule_of mode.effect) s.name mode.name s.target))
       ((each_flat (ItemHas at) items_of_section (start_rules s.start mode.effect s.name mode.name s.target)).0 (start_rules_have at s.start mode.effect s.name mode.name s.target)))
       (all_rules_have at s ms)
 

@@ -1,5 +1,5 @@
 -- The items of a woven module: those of the module, some renamed, and then the added ones.
-use Rattle.std.proofs.Common.{◌≡◌, inl, inr, ℕ, suc, ◌+◌, Bool, true, false, List, [], ◌∷◌, ◌++◌, length, map, flat_map, Some, None, refl, sym, ◌∙◌, ap, subst, append_assoc}
+use Rattle.std.proofs.Common.{◌≡◌, inl, inr, ℕ, suc, ◌+◌, Bool, true, false, List, [], ◌∷◌, ◌++◌, length, map, flat_map, Option, Some, None, refl, sym, ◌∙◌, ap, subst, append_assoc}
 use Rattle.std.specs.Prelude.{ℤ}
 use Rattle.std.proofs.lemmas.Grind.{flat_map-append}
 use Rattle.smv_language.specs.ProgramTree.{Text, Formula, DeclTree, DefineTree, AssignmentTree, SectionTree, var, ivar, frozen, define, constants, assign, init, invar, trans, ModuleTree, ProgramTree}
@@ -12,9 +12,12 @@ use Rattle.smv_flat_laws.proofs.Lists.{map_joined}
 use Rattle.smv_flat_laws.proofs.Conditions.{each_join}
 use Rattle.fault_instructions.specs.declared.instructions.Start.{Start}
 use Rattle.fault_instructions.specs.declared.instructions.Start.TheVariants.{Nominal, Any}
-use Rattle.fault_instructions.specs.Instructions.{EffectTree, stuck_at, follows, inverted, random, erroneous, stuck_at_pick, offset, ramp_down, frozen as frozen_effect, ModeTree, SliceTree, InstructionTree, slices_of, is_affected}
+use Rattle.fault_instructions.specs.Instructions.{EffectTree, ModeTree, SliceTree, InstructionTree, slices_of, is_affected}
 use Rattle.fault_instructions.specs.AddedNames.{own_name, mode_variable}
-use Rattle.fault_instructions.specs.Templates.{erroneous_rule, frozen_rule, pick_rule, ramp_rule, frozen_first, ramp_first, rules, first_rules}
+use Rattle.fault_instructions.specs.declared.effects.EffectRule.{EffectRule}
+use Rattle.fault_instructions.specs.declared.effects.EffectRule.TheVariants.{NotOwn, AsBefore, AsEntered, Falling}
+use Rattle.fault_instructions.specs.Effects.{rule_of}
+use Rattle.fault_instructions.specs.Templates.{erroneous_rule, frozen_rule, pick_rule, ramp_rule, frozen_first, ramp_first, rules, rule_trees, first_trees}
 use Rattle.fault_weave.specs.WovenProgram.{tree_map_both, rename, same_path, woven_assignment, woven_section, mode_type, start_tree, start_rules, mode_rules, moves_tree, read_tree, slice_rules, slice_sections, added_sections, woven_module}
 use Rattle.fault_instructions.specs.KindTypes.{type_of_kind}
 use Rattle.fault_instructions.specs.Weavable.{Among}
@@ -103,36 +106,28 @@ pub record OfRules (P : Item → Type 0) (slice mode x : Text) : Type 0 where
   pub stays_first : P (an_init (frozen_first slice mode x))
   pub ramps_first : (d f : ℤ) → P (an_init (ramp_first d f slice mode x))
 
-of_effect : (P : Item → Type 0) (slice mode x : Text) → OfRules P slice mode x → (e : EffectTree) → Each P (flat_map items_of_section (rules e slice mode x))
-of_effect P slice mode x h (stuck_at c) = tt
-of_effect P slice mode x h (follows e) = tt
-of_effect P slice mode x h inverted = tt
-of_effect P slice mode x h random = tt
-of_effect P slice mode x h erroneous = (h.differs, tt)
-of_effect P slice mode x h frozen_effect = (h.stays, tt)
-of_effect P slice mode x h stuck_at_pick = (h.picked, tt)
-of_effect P slice mode x h (offset d) = tt
-of_effect P slice mode x h (ramp_down d f) = (h.ramps d f, tt)
+of_rule : (P : Item → Type 0) (slice mode x : Text) → OfRules P slice mode x → (r : Option EffectRule) → Each P (flat_map items_of_section (rule_trees r slice mode x))
+of_rule P slice mode x h None = tt
+of_rule P slice mode x h (Some NotOwn) = (h.differs, tt)
+of_rule P slice mode x h (Some AsBefore) = (h.stays, tt)
+of_rule P slice mode x h (Some AsEntered) = (h.picked, tt)
+of_rule P slice mode x h (Some (Falling d f)) = (h.ramps d f, tt)
 
-of_first : (P : Item → Type 0) (slice mode x : Text) → OfRules P slice mode x → (e : EffectTree) → Each P (flat_map items_of_section (first_rules e slice mode x))
-of_first P slice mode x h (stuck_at c) = tt
-of_first P slice mode x h (follows e) = tt
-of_first P slice mode x h inverted = tt
-of_first P slice mode x h random = tt
-of_first P slice mode x h erroneous = tt
-of_first P slice mode x h frozen_effect = (h.stays_first, tt)
-of_first P slice mode x h stuck_at_pick = tt
-of_first P slice mode x h (offset d) = tt
-of_first P slice mode x h (ramp_down d f) = (h.ramps_first d f, tt)
+of_first : (P : Item → Type 0) (slice mode x : Text) → OfRules P slice mode x → (r : Option EffectRule) → Each P (flat_map items_of_section (first_trees r slice mode x))
+of_first P slice mode x h None = tt
+of_first P slice mode x h (Some NotOwn) = tt
+of_first P slice mode x h (Some AsBefore) = (h.stays_first, tt)
+of_first P slice mode x h (Some AsEntered) = tt
+of_first P slice mode x h (Some (Falling d f)) = (h.ramps_first d f, tt)
 
 of_start : (P : Item → Type 0) (slice mode x : Text) → OfRules P slice mode x → (start : Start) (e : EffectTree) → Each P (flat_map items_of_section (start_rules start e slice mode x))
 of_start P slice mode x h Nominal e = tt
-of_start P slice mode x h Any e = of_first P slice mode x h e
+of_start P slice mode x h Any e = of_first P slice mode x h (rule_of e)
 
 of_mode : (P : Item → Type 0) (slice mode x : Text) → OfRules P slice mode x → (start : Start) (e : EffectTree) → Each P (flat_map items_of_section (mode_rules start e slice mode x))
 of_mode P slice mode x h start e =
     subst (Each P) (sym (flat_map-append items_of_section (rules e slice mode x) (start_rules start e slice mode x)))
-    (each_join P (flat_map items_of_section (rules e slice mode x)) (flat_map items_of_section (start_rules start e slice mode x)) (of_effect P slice mode x h e) (of_start P slice mode x h start e))
+    (each_join P (flat_map items_of_section (rules e slice mode x)) (flat_map items_of_section (start_rules start e slice mode x)) (of_rule P slice mode x h (rule_of e)) (of_start P slice mode x h start e))
 
 of_modes : (P : Item → Type 0) (start : Start) (slice x : Text) (ms : List ModeTree) → ((m : ModeTree) → Among ms m → OfRules P slice m.name x) →
     Each P (flat_map items_of_section (flat_map (λ m. mode_rules start m.effect slice m.name x) ms))

@@ -2,7 +2,10 @@
 use crate::texts::is_text;
 use base_values::{Name, OutOfMemory};
 use fault_instructions::EffectFault::{OneValueOnly, Outside, WrongKind};
-use fault_instructions::{Constant, Effect, EffectFault, allowed, branch, first_rule, rule};
+use fault_instructions::{
+    Constant, ConstantEffect, Effect, EffectFault, NumberEffect, NumbersEffect, PlainEffect,
+    allowed, branch, first_rule, rule,
+};
 use smv_language::{Declared, Section, print_expr};
 use std::alloc::Global;
 
@@ -25,7 +28,7 @@ fn made_names(alloc: Global) -> Result<EffectNames, OutOfMemory> {
 /// The text of the rule section by which `x` falls in steps of 4 to 1.
 fn ramp_text(alloc: Global) -> Option<Vec<u8>> {
     let names = made_names(alloc).ok()?;
-    let effect = Effect::RampDown(4, 1);
+    let effect = Effect::OfNumbers(NumbersEffect::RampDown, 4, 1);
     match rule(alloc, &effect, &names.slice, &names.mode, &names.x) {
         Ok(Some(Section::Trans(made))) => print_expr(alloc, &made).ok(),
         _ => None,
@@ -35,7 +38,13 @@ fn ramp_text(alloc: Global) -> Option<Vec<u8>> {
 /// The text of the first rule section by which `x` starts frozen.
 fn frozen_text(alloc: Global) -> Option<Vec<u8>> {
     let names = made_names(alloc).ok()?;
-    match first_rule(alloc, &Effect::Frozen, &names.slice, &names.mode, &names.x) {
+    match first_rule(
+        alloc,
+        &Effect::Plain(PlainEffect::Frozen),
+        &names.slice,
+        &names.mode,
+        &names.x,
+    ) {
         Ok(Some(Section::Init(made))) => print_expr(alloc, &made).ok(),
         _ => None,
     }
@@ -44,7 +53,13 @@ fn frozen_text(alloc: Global) -> Option<Vec<u8>> {
 /// The text of the branch by which `x : 0..9` is read 5 too high.
 fn offset_text(alloc: Global) -> Option<Vec<u8>> {
     let x = Name::new(alloc, b"x").ok()?;
-    let made = branch(alloc, &Effect::Offset(5), &x, &Declared::Range(0, 9)).ok()?;
+    let made = branch(
+        alloc,
+        &Effect::OfNumber(NumberEffect::Offset, 5),
+        &x,
+        &Declared::Range(0, 9),
+    )
+    .ok()?;
     print_expr(alloc, &made).ok()
 }
 
@@ -75,12 +90,22 @@ enum JudgedEffect {
 
 fn effect_of(judged: JudgedEffect) -> Effect {
     match judged {
-        JudgedEffect::Erroneous => Effect::Erroneous,
-        JudgedEffect::StuckAtNumber(n) => Effect::StuckAt(Constant::Number(n)),
-        JudgedEffect::StuckAtTruth(b) => Effect::StuckAt(Constant::Truth(b)),
-        JudgedEffect::RampDown(step, floor) => Effect::RampDown(step, floor),
-        JudgedEffect::Offset(distance) => Effect::Offset(distance),
-        JudgedEffect::Frozen => Effect::Frozen,
+        JudgedEffect::Erroneous => Effect::Plain(PlainEffect::Erroneous),
+        JudgedEffect::StuckAtNumber(n) => Effect::OfConstant(
+            ConstantEffect::StuckAt,
+            Constant::Number(n),
+        ),
+        JudgedEffect::StuckAtTruth(b) => Effect::OfConstant(
+            ConstantEffect::StuckAt,
+            Constant::Truth(b),
+        ),
+        JudgedEffect::RampDown(step, floor) => Effect::OfNumbers(
+            NumbersEffect::RampDown,
+            step,
+            floor,
+        ),
+        JudgedEffect::Offset(distance) => Effect::OfNumber(NumberEffect::Offset, distance),
+        JudgedEffect::Frozen => Effect::Plain(PlainEffect::Frozen),
     }
 }
 

@@ -21,15 +21,20 @@ use Rattle.fault_instructions.specs.declared.instructions.Dynamics.{Dynamics}
 use Rattle.fault_instructions.specs.declared.instructions.Dynamics.TheVariants.{Permanent, Transient}
 use Rattle.fault_instructions.specs.declared.instructions.Start.{Start}
 use Rattle.fault_instructions.specs.declared.instructions.Start.TheVariants.{Nominal, Any}
-use Rattle.fault_instructions.specs.Instructions.{EffectTree, stuck_at, follows, inverted, random, erroneous, frozen, stuck_at_pick, offset, ramp_down, ModeTree, SliceTree, ExtensionTree, InstructionTree, slices_from, slices_of, is_affected}
+use Rattle.fault_instructions.specs.declared.effects.EffectRule.{EffectRule}
+use Rattle.fault_instructions.specs.declared.effects.EffectRule.TheVariants.{NotOwn, AsBefore, AsEntered, Falling}
+use Rattle.fault_instructions.specs.EffectForms.{Branch, the_constant, the_formula, the_opposite, the_sum, any_value}
+use Rattle.fault_instructions.specs.Effects.{branch_of, rule_of}
+use Rattle.fault_instructions.specs.Instructions.{EffectTree, ModeTree, SliceTree, ExtensionTree, InstructionTree, slices_from, slices_of, is_affected}
 use Rattle.fault_instructions.specs.SpellsInstructions.{BytesSpellInstructions}
 use Rattle.fault_instructions.specs.AddedNames.{own_name, mode_variable, mode_symbol}
-use Rattle.fault_instructions.specs.Templates.{named, number_tree, value_tree, member_trees, domain_tree, clipped_tree, branch, stands, stands_next, rules, first_rules}
+use Rattle.fault_instructions.specs.Templates.{named, number_tree, value_tree, member_trees, domain_tree, clipped_tree, branch, branch_tree, stands, stands_next, rules, rule_trees, first_trees}
 use Rattle.fault_weave.specs.WovenProgram.{start_tree, start_rules, mode_rules, mode_branches, set_one, guard_formula, entries_from, entries, stay_branch, moves_tree, read_tree, slice_rules, slice_sections, tree_map_both, trees_map_both, branches_map_both, rename, same_path, woven_assignment, woven_section, added_sections, woven_module, woven}
 use Rattle.fault_instructions.specs.KindTypes.{type_of_kind}
 use Rattle.fault_instructions.proofs.AmongLaws.{each_append, each_map}
 use Rattle.verb_loading.proofs.AddedNames.{own_is_name, mode_variable_is_name, nominal_is_name, symbol_is_name}
 use Rattle.fault_instructions.specs.WritableInstructions.{IsWritableConstant, IsWritableEffect, IsWritableGuard, IsWritableMode, IsWritableSlice, IsWritableExtension, IsWritableInstructions}
+use Rattle.fault_instructions.proofs.EffectRows.{BranchHolds, NumbersHold, row_law}
 use Rattle.fault_instructions.proofs.SpelledInstructions.{instructions_writable}
 use Rattle.sat_encoding_laws.proofs.SetLaws.{each_kept}
 use Rattle.cut_text_laws.proofs.FlatNames.{type_declared}
@@ -145,17 +150,13 @@ clipped_writable (range lo hi) e h w =
 clipped_writable (members ms) e h w = w
 clipped_writable (instance m actuals) e h w = w
 
-branch_writable : (f : EffectTree) (t : DeclaredTree) (x : Text) → IsWritableEffect f → IsWritableType t → IsName x → IsWritable (branch f t x)
-branch_writable (stuck_at c) t x h w named_x = value_writable c h
-branch_writable (follows e) t x h w named_x = h
-branch_writable inverted t x h w named_x = one_name (own_name x) (own_is_name x named_x.1)
-branch_writable random t x h w named_x = domain_writable t w
-branch_writable erroneous t x h w named_x = domain_writable t w
-branch_writable frozen t x h w named_x = domain_writable t w
-branch_writable stuck_at_pick t x h w named_x = domain_writable t w
-branch_writable (offset d) t x h w named_x =
+branch_writable : (b : Branch) (t : DeclaredTree) (x : Text) → BranchHolds IsWritableConstant IsWritable IsEnd b → IsWritableType t → IsName x → IsWritable (branch_tree b t x)
+branch_writable (the_constant c) t x h w named_x = value_writable c h
+branch_writable (the_formula e) t x h w named_x = h
+branch_writable the_opposite t x h w named_x = one_name (own_name x) (own_is_name x named_x.1)
+branch_writable (the_sum d) t x h w named_x =
     clipped_writable t (binary op.Plus (named (own_name x)) (number_tree d)) w (one_name (own_name x) (own_is_name x named_x.1), number_writable d h)
-branch_writable (ramp_down d f) t x h w named_x = domain_writable t w
+branch_writable any_value t x h w named_x = domain_writable t w
 
 module _ (slice : Text) (named_slice : IsName slice) where
   states : IsWritable (named (mode_variable slice))
@@ -173,41 +174,33 @@ module _ (slice : Text) (named_slice : IsName slice) where
   standing_next : (mode : Text) → IsName mode → IsWritable (stands_next slice mode)
   standing_next mode h = (states, one_name (mode_symbol slice (Some mode)) (symbol_named mode h))
 
-  rules_writable : (f : EffectTree) (mode x : Text) → IsWritableEffect f → IsName mode → IsName x → Each IsWritableSection (rules f slice mode x)
-  rules_writable erroneous mode x h g w = ((standing mode g, (one_name x w, one_name (own_name x) (own_is_name x w.1))), tt)
-  rules_writable frozen mode x h g w = ((standing_next mode g, (one_name x w, one_name x w)), tt)
-  rules_writable stuck_at_pick mode x h g w = (((standing mode g, standing_next mode g), (one_name x w, one_name x w)), tt)
-  rules_writable (ramp_down d f) mode x h g w =
+  rules_writable : (r : Option EffectRule) (mode x : Text) → NumbersHold IsEnd r → IsName mode → IsName x → Each IsWritableSection (rule_trees r slice mode x)
+  rules_writable None mode x h g w = tt
+  rules_writable (Some NotOwn) mode x h g w = ((standing mode g, (one_name x w, one_name (own_name x) (own_is_name x w.1))), tt)
+  rules_writable (Some AsBefore) mode x h g w = ((standing_next mode g, (one_name x w, one_name x w)), tt)
+  rules_writable (Some AsEntered) mode x h g w = (((standing mode g, standing_next mode g), (one_name x w, one_name x w)), tt)
+  rules_writable (Some (Falling d f)) mode x h g w =
       let less : IsWritable (binary op.Minus (named x) (number_tree d)) = (one_name x w, number_writable d h.0) in
       let floor = number_writable f h.1 in
       ((standing_next mode g, (one_name x w, ((less, floor), less, floor))), tt)
-  rules_writable (stuck_at c) mode x h g w = tt
-  rules_writable (follows e) mode x h g w = tt
-  rules_writable inverted mode x h g w = tt
-  rules_writable random mode x h g w = tt
-  rules_writable (offset d) mode x h g w = tt
 
-  first_rules_writable : (f : EffectTree) (mode x : Text) → IsWritableEffect f → IsName mode → IsName x → Each IsWritableSection (first_rules f slice mode x)
-  first_rules_writable frozen mode x h g w = ((standing mode g, (one_name x w, one_name (own_name x) (own_is_name x w.1))), tt)
-  first_rules_writable (ramp_down d f) mode x h g w =
+  first_rules_writable : (r : Option EffectRule) (mode x : Text) → NumbersHold IsEnd r → IsName mode → IsName x → Each IsWritableSection (first_trees r slice mode x)
+  first_rules_writable None mode x h g w = tt
+  first_rules_writable (Some NotOwn) mode x h g w = tt
+  first_rules_writable (Some AsBefore) mode x h g w = ((standing mode g, (one_name x w, one_name (own_name x) (own_is_name x w.1))), tt)
+  first_rules_writable (Some AsEntered) mode x h g w = tt
+  first_rules_writable (Some (Falling d f)) mode x h g w =
       let less : IsWritable (binary op.Minus (named (own_name x)) (number_tree d)) = (one_name (own_name x) (own_is_name x w.1), number_writable d h.0) in
       let floor = number_writable f h.1 in
       ((standing mode g, (one_name x w, ((less, floor), less, floor))), tt)
-  first_rules_writable (stuck_at c) mode x h g w = tt
-  first_rules_writable (follows e) mode x h g w = tt
-  first_rules_writable inverted mode x h g w = tt
-  first_rules_writable random mode x h g w = tt
-  first_rules_writable erroneous mode x h g w = tt
-  first_rules_writable stuck_at_pick mode x h g w = tt
-  first_rules_writable (offset d) mode x h g w = tt
 
   start_rules_writable : (start : Start) (f : EffectTree) (mode x : Text) → IsWritableEffect f → IsName mode → IsName x → Each IsWritableSection (start_rules start f slice mode x)
   start_rules_writable Nominal f mode x h g w = tt
-  start_rules_writable Any f mode x h g w = first_rules_writable f mode x h g w
+  start_rules_writable Any f mode x h g w = first_rules_writable (rule_of f) mode x ((row_law f).holds _ _ _ h).1 g w
 
   mode_rules_writable : (start : Start) (f : EffectTree) (mode x : Text) → IsWritableEffect f → IsName mode → IsName x → Each IsWritableSection (mode_rules start f slice mode x)
   mode_rules_writable start f mode x h g w =
-      (each_append IsWritableSection (rules f slice mode x) (start_rules start f slice mode x)).1 (rules_writable f mode x h g w, start_rules_writable start f mode x h g w)
+      (each_append IsWritableSection (rules f slice mode x) (start_rules start f slice mode x)).1 (rules_writable (rule_of f) mode x ((row_law f).holds _ _ _ h).1 g w, start_rules_writable start f mode x h g w)
 
   -- the states that a slice may start in
   state_trees_writable : (ms : List ModeTree) → Each IsWritableMode ms → AreWritable (trees_from (map (λ m. named (mode_symbol slice (Some m.name))) ms))
@@ -259,7 +252,7 @@ module _ (s : SliceTree) (h : IsWritableSlice s) where
   read_writable t w =
       let f : ModeTree → Formula = λ m. branch m.effect t s.target in (
         mode_branches_some s.name h.0 f (named (own_name s.target)) s.modes,
-        mode_branches_writable s.name h.0 f (named (own_name s.target)) (λ m g. branch_writable m.effect t s.target g.2 w h.1)
+        mode_branches_writable s.name h.0 f (named (own_name s.target)) (λ m g. branch_writable (branch_of m.effect) t s.target ((row_law m.effect).holds _ _ _ g.2).0 w h.1)
             (one_name (own_name s.target) (own_is_name s.target h.1.1)) s.modes h.3,
       )
 
