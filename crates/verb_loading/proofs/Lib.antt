@@ -24,5 +24,6 @@ pub mod CaseLemmas
 pub mod TopLaws
 pub mod TopLemmas
 pub mod LoadedLaws
+pub mod LoadedText
 pub mod EventLemmas
 pub mod StopLaws

@@ -155,11 +155,7 @@ pub record HoldsFaults (files : List NamedFile) (name : Text) (p : ProgramTree) 
   pub has : HasBytes files name bytes
   pub extension : IsExtensionText p bytes text report
 
--- what the code made is the text and the report of the extension
-abbrev pub IsMade : ProgramTree → List ℕ → Made → Type 0
-IsMade p bytes made = IsExtensionText p bytes made.text.items made.report
-
--- so of the instructions that a file holds
+-- the file holds instructions that are taken, and what the code made is the text and the report of the extension
 abbrev pub HoldsExtension : List NamedFile → Text → ProgramTree → Made → Type 0
 HoldsExtension files name p made = HoldsFaults files name p made.text.items made.report
 

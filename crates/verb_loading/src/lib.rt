@@ -10,10 +10,10 @@
 //! in memory in `specs/LoadedCases.antt` and `specs/LoadedEvents.antt`, the numbers and lines of refusals in `specs/Wrongs.antt` and
 //! `specs/Statuses.antt`. That what files hold is one, and so what is wrong with them, are the laws `proofs/One*`.
 //!
-//! The files stand in the order of the work: `input` (a file's bytes), `model` (program, flat model, kinds), `faults`
-//! (instructions, the weave, the limits of the whole, as a text that is written), `report` (the names of faults), `loaded` (the
-//! same, with the flat model in memory), `top` (the top event) and `event` (model, extension and top event together). `wrong`
-//! has what each refusal tells.
+//! The files stand in the order of the work: `input` (a file's bytes), `model` (program, flat model, kinds), `loaded`
+//! (instructions, the weave, the limits of the whole, and its flat model), `report` (the names of faults), `faults` (the extension
+//! as a text that is written), `top` (the top event) and `event` (model, extension and top event together). `wrong` has what each
+//! refusal tells.
 //!
 //! ```text
 //! let model = load_model(alloc, desk, "lamp.smv")?;

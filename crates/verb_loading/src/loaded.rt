@@ -1,5 +1,5 @@
 //! An instruction file as the extension of a model in memory, with its faults and its flat model ([`load_case`]), for the
-//! work that reads and searches it. The same rules are tried as where an extension is written.
+//! work that writes, reads and searches it. The whole is flattened and typed once more, for the limits that neither file passes alone.
 ghost use Rattle.std.specs.Prelude.{◌≡◌, ◌≤◌, length, map, IfOk, OnOk, IfErr, IfSome, IsErrOf};
 ghost use Rattle.base_values.specs.declared.limits.TheConstants.{MOST_FILE_BYTES};
 ghost use Rattle.base_files.specs.Desk.{OnlyReads, Rose};
@@ -9,14 +9,14 @@ ghost use Rattle.fault_extend.specs.InstanceLaws.{HasInstancesInVar};
 ghost use Rattle.fault_extend.specs.WovenFaults.{fault_tree};
 ghost use Rattle.smv_type_laws.specs.Models.{IsTyped};
 ghost use Rattle.verb_loading.specs.Wrongs.{IfRefused};
-ghost use Rattle.verb_loading.specs.Models.{IsLawful, IsSpelled};
-ghost use Rattle.verb_loading.specs.Wholes.{BreaksKinds, HasItsModes};
+ghost use Rattle.smv_flat_laws.specs.Rules.{IsAccepted};
+ghost use Rattle.verb_loading.specs.Models.{IsModelOf, IsLawful, IsSpelled};
+ghost use Rattle.verb_loading.specs.Wholes.{BreaksNames, BreaksKinds, HasItsModes};
 ghost use Rattle.verb_loading.specs.Inputs.{IsWrongFaults, RefusesFaults};
 ghost use Rattle.verb_loading.specs.LoadedCases.{IsLoaded, HoldsLoaded, IsLoadedFrom, IsLimited, IsWrongLimited};
 ghost use Rattle.verb_loading.specs.declared.status.Refusal.{Refusal};
 ghost use Rattle.verb_loading.specs.declared.input.Stop.TheVariants as stop;
 
-use crate::faults::flat_whole;
 use crate::input::{Input, Stop, read_input};
 use crate::model::LoadedModel;
 use crate::wrong::Wrong;
@@ -24,7 +24,8 @@ use base_files::Desk;
 use fault_extend::{Woven, fault_list, weave_typed};
 use fault_instructions::Instructions;
 use fault_reader::instructions;
-use smv_flat::with_history;
+use smv_flat::{FlatFault, flatten, with_history};
+use smv_language::Program;
 use smv_language::model::{FaultList, FlatModel};
 use smv_types::{TypeFault, Typed, check_model};
 use std::alloc::Global;
@@ -108,6 +109,21 @@ fn within_limits(alloc: Global, woven: Woven) -> Result<Limited, Wrong>
         typed,
         full,
     })
+}
+
+/// The flat model of an extension. What is wrong with it is wrong with the whole.
+fn flat_whole(alloc: Global, program: &Program) -> Result<FlatModel, Wrong>
+    ensures accepted { OnOk result (IsAccepted (program_tree program.now)) }
+    ensures model { IfOk result (λ flat. IsModelOf (program_tree program.now) (model_tree flat)) }
+    ensures wrong { IfErr result (IfRefused (BreaksNames (program_tree program.now))) }
+{
+    match flatten(alloc, program) {
+        Ok(flat) => Ok(flat),
+        Err(fault) => Err(Wrong::from(FlatFault {
+            rule: fault.rule,
+            item: 0,
+        })),
+    }
 }
 
 /// The flat model of an extension with its kinds.

@@ -2,7 +2,7 @@ use Rattle.std.proofs.Common.{◌∙◌}
 use Rattle.smv_language.specs.ProgramTree.{program_tree}
 use Rattle.verb_loading.specs.Wholes.{BreaksNames}
 use Rattle.verb_loading.proofs.Told.{if_refused, named}
-use Rattle.verb_loading.proofs.faults.flat_whole.Goals as goal
+use Rattle.verb_loading.proofs.loaded.flat_whole.Goals as goal
 
 pub returns-in-Err-clause-wrong : goal.returns-in-Err-clause-wrong
 returns-in-Err-clause-wrong c =
