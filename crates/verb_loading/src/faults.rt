@@ -47,7 +47,8 @@ pub fn load_extension<D: Desk>(
     ensures stays { OnlyReads (D.told desk.old) (D.told desk.new) }
 {
     let case = load_case(alloc, desk, name, model)?;
-    Ok(made_of(alloc, &case.limited.woven.program, &case.limited.faults)?)
+    let made = made_of(alloc, &case.limited.woven.program, &case.limited.faults)?;
+    Ok(made)
 }
 
 /// The text of an extension, and what is said of its faults.

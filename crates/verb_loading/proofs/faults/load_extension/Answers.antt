@@ -13,4 +13,4 @@ returns-in_err-case-clause-refused g c r e =
 
 pub returns-clause-ok : goal.returns-clause-ok
 returns-clause-ok g c =
-    holds_extension _ _ _ c.in_ok-case.case c.in_ok-made_of.made_of c.in_ok-case.ensures.loaded c.in_ok-made_of.ensures.text c.in_ok-made_of.ensures.report c.in_ok-case.ensures.ok
+    holds_extension _ _ _ c.in_ok-case.case c.in_ok-made.made c.in_ok-case.ensures.loaded c.in_ok-made.ensures.text c.in_ok-made.ensures.report c.in_ok-case.ensures.ok
