@@ -1,4 +1,4 @@
--- A guard that is a number: EXTENSION OF MODULE main SLICE Lamp AFFECTS on WITH MODE dark : Permanent StuckAt(FALSE) WHEN 3;
+-- Worked example: a guard that is a number: EXTENSION OF MODULE main SLICE Lamp AFFECTS on WITH MODE dark : Permanent StuckAt(FALSE) WHEN 3;
 use Rattle.std.proofs.Common.{[], ◌∷◌, Some, None, inl, inr, refl}
 use Rattle.std.specs.Prelude.{codes, pos, false}
 use Rattle.smv_language.specs.Tree.{number}

@@ -14,6 +14,7 @@ use Rattle.smv_flat_laws.proofs.Resolving.{same_meaning}
 use Rattle.fault_generator.specs.Generator.{stage_name, output_of, dead_formula}
 use Rattle.fault_generator_laws.proofs.Stages.{IsStageBefore, relay_with, program_with, AreStages, IsFed, stage_found, no_stage_dead}
 use Rattle.std.proofs.lemmas.Option.{none-some as never_some}
+use Rattle.std.proofs.lemmas.Bool.{false≢true}
 
 -- none of one list and none of another
 pub at_neither : {A : Type 0} (P : A → Type 0) (xs ys : List A) → (AtSome P xs → ⊥) → (AtSome P ys → ⊥) → AtSome P (xs ++ ys) → ⊥
@@ -68,9 +69,6 @@ AtOut (Some l) = begins l.name ≡ true
 
 not_in_main : (x : Text) → x ∷ [] ≡ [] → ⊥
 not_in_main x e = cc
-
-no_out_is_feed : false ≡ true → ⊥
-no_out_is_feed e = cc
 
 module _ (sections : List SectionTree) (fs : List (Option ℕ)) (last_a last_b : Option ℕ) (are : AreStages fs last_a last_b) (out : kind_in_sections sections (codes "out") ≡ a_variable state boolean) where
   abbrev p : ProgramTree
@@ -192,7 +190,7 @@ module _ (sections : List SectionTree) (fs : List (Option ℕ)) (last_a last_b :
       by_feed (Some j) h e (suc zero) rest b =
           let bad : Some (record { place = stage_name j ∷ []; name = codes "out" ∷ [] }) ≡ Some (record { place = x ∷ []; name = codes "feed" ∷ rest }) =
           sym (second_look j (stage_there j h.0 (omega (arith, h.1)))) ∙ sym (ap (step_on p) e) ∙ b in
-          no_out_is_feed (subst AtOut bad refl)
+          false≢true (subst AtOut bad refl)
       by_feed (Some j) h e (suc (suc n)) rest b =
           let stage = stage_there j h.0 (omega (arith, h.1)) in
           ended n 3 (suc (suc (suc n))) (omega arith) (ap (λ o. step_on p (step_on p o)) e ∙ ap (step_on p) (second_look j stage) ∙ third_look j stage) (record { place = x ∷ []; name = codes "feed" ∷ rest }) b

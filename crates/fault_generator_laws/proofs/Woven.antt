@@ -7,7 +7,7 @@ use Rattle.smv_language.specs.Scope.{state}
 use Rattle.smv_language.specs.Trace.{Each}
 use Rattle.smv_language.specs.Flat.{FlatInstance}
 use Rattle.smv_flat_laws.specs.Items.{Item, NumberedItem, NumberedModule, numbered_items, numbered_from, items_named, modules_of, Visit, walk_items, walk, visits, instances_of_visit, instances_of}
-use Rattle.smv_flat_laws.specs.Rules.{too_many, Site, a_header, an_item, a_visit, a_use, instances_before, variables_before, visit_sites, module_sites, use_sites, sites, Breaks}
+use Rattle.smv_flat_laws.specs.Rules.{too_many, a_header, an_item, a_visit, a_use, instances_before, variables_before, visit_sites, module_sites, use_sites, sites, Breaks, IsWithin}
 use Rattle.smv_flat_laws.proofs.Reaches.{each_right}
 use Rattle.smv_flat_laws.proofs.Conditions.{each_join, each_flat}
 use Rattle.fault_instructions.specs.AddedNames.{own_name, mode_variable}
@@ -59,10 +59,6 @@ within_more k i f before are =
       instances = omega (arith, instances_and b3 (mode_inside i), instances_and b2 (own_inside i), instances_and b1 (out_inside i), instances_and before (stage_visit k i f), are.instances);
       variables = omega (arith, variables_and b3 (mode_inside i), variables_and b2 (own_inside i), variables_and b1 (out_inside i), variables_and before (stage_visit k i f), are.variables);
     }
-
--- only the walk can meet too many
-abbrev IsWithin : ProgramTree → Site → Type 0
-IsWithin p site = Breaks p too_many site → ⊥
 
 header_within : (p : ProgramTree) (m : NumberedModule) → IsWithin p (a_header m)
 header_within p m b = b

@@ -1,5 +1,5 @@
 -- The text of instructions spells them.
-use Rattle.std.proofs.Common.{◌≡◌, ◌≢◌, inl, inr, true, false, List, [], ◌∷◌, ◌++◌, Option, map, Some, None, sym, ap, refl, subst, arith, append_assoc}
+use Rattle.std.proofs.Common.{◌≢◌, inl, inr, true, false, List, [], ◌∷◌, ◌++◌, Option, map, Some, None, sym, ap, refl, subst, arith, append_assoc}
 use Rattle.std.specs.Prelude.{codes}
 use Rattle.std.specs.Fmt.{signed_decimal}
 use Rattle.smv_lexer.specs.declared.token.TokenKind.{TokenKind}
@@ -21,12 +21,14 @@ use Rattle.fault_instructions.specs.declared.instructions.Dynamics.{Dynamics}
 use Rattle.fault_instructions.specs.declared.instructions.Dynamics.TheVariants.{Permanent, Transient}
 use Rattle.fault_instructions.specs.declared.instructions.Start.{Start}
 use Rattle.fault_instructions.specs.declared.instructions.Start.TheVariants.{Nominal, Any}
+use Rattle.fault_instructions.specs.Instructions.{EffectTree, ModeTree, SliceTree, ExtensionTree, InstructionTree, plain, of_constant, of_expression, of_number, of_numbers, kind_of}
+use Rattle.fault_instructions.specs.SpellsInstructions.{SpellsConst, const_true, const_false, const_int, const_name, SpellsEffect, SpellsDynamics, d_permanent, d_transient, SpellsGuard, no_guard, a_guard, IsTokenText, number_text, word_text, sign_of, SpellsMark, no_mark, a_mark, SpellsMode, a_mode, SpellsStart, at_nominal, at_any, SpellsSlice, a_slice, SpellsExtension, an_extension, SpellsInstructions, unnamed, named, BytesSpellInstructions, SpellsArguments, no_argument, a_constant, an_expression, a_number, two_numbers, an_effect}
+use Rattle.fault_instructions.specs.InstructionText.{effect_text, dynamics_text, mark_text, guard_text, mode_head, mode_line, start_text, slice_text, extension_text, extension_words, file_words, name_line, instructions_text, arguments_text}
+use Rattle.fault_instructions.specs.WritableInstructions.{IsInner, IsMarkText, IsWritableEffect, IsWritableMark, IsWritableGuard, IsWritableMode, IsWritableSlice, IsWritableExtension, IsWritableInstructions}
+use Rattle.smv_language.specs.WritableProgram.{IsPlain}
+use Rattle.fault_instructions.proofs.OneInstructions.{OneToken}
 use Rattle.fault_instructions.specs.Effects.{keyword}
 use Rattle.fault_instructions.proofs.EffectRows.{keyword_word}
-use Rattle.fault_instructions.specs.Instructions.{EffectTree, plain, of_constant, of_expression, of_number, of_numbers, kind_of, ModeTree, SliceTree, ExtensionTree, InstructionTree}
-use Rattle.fault_instructions.specs.SpellsInstructions.{SpellsConst, const_true, const_false, const_int, const_name, SpellsArguments, no_argument, a_constant, an_expression, a_number, two_numbers, SpellsEffect, an_effect, SpellsDynamics, d_permanent, d_transient, SpellsGuard, no_guard, a_guard, IsTokenText, number_text, word_text, sign_of, SpellsMark, no_mark, a_mark, SpellsMode, a_mode, SpellsStart, at_nominal, at_any, SpellsSlice, a_slice, SpellsExtension, an_extension, SpellsInstructions, unnamed, named, BytesSpellInstructions}
-use Rattle.fault_instructions.specs.InstructionText.{arguments_text, effect_text, dynamics_text, mark_text, guard_text, mode_head, mode_line, start_text, slice_text, extension_text, extension_words, file_words, name_line, instructions_text}
-use Rattle.fault_instructions.specs.WritableInstructions.{IsInner, IsMarkText, IsWritableConstant, IsWritableEffect, IsWritableMark, IsWritableGuard, IsWritableMode, IsWritableSlice, IsWritableExtension, IsWritableInstructions}
 
 -- a blank before, and a word with a blank or a line's end behind it
 indented : (more rest : Text) (ls : List Lexeme) → Reads more rest ls → Reads (32 ∷ more) rest ls
@@ -37,10 +39,6 @@ worded w more rest ls h r = then w (32 ∷ more) rest (word w ∷ []) ls (is_wor
 
 lined : (w more rest : Text) (ls : List Lexeme) → IsWord w [] → Reads more rest ls → Reads (w ++ 10 ∷ more) rest (word w ∷ ls)
 lined w more rest ls h r = then w (10 ∷ more) rest (word w ∷ []) ls (is_word w ((10 ∷ more) ++ rest) h (at_line _)) (then (10 ∷ []) more rest [] ls (line_feed (more ++ rest)) r)
-
--- tokens of a mark
-SpellsToken : List Lexeme → Text → Type 0
-SpellsToken ts x = (t : Lexeme) × (ts ≡ t ∷ []) × IsTokenText t x
 
 sign_before_space : (s : TokenKind) (rest : Text) → IsInner s → Reads (sign_text s) (32 ∷ rest) (sign s ∷ [])
 sign_before_space k.Word rest h = absurd h
@@ -74,8 +72,8 @@ token_in x [] rest h = token_before x (125 ∷ rest) h (at_brace rest) (λ s i. 
 token_in x (y ∷ ys) rest h =
     token_before x (32 ∷ ((y ++ each_after (codes " ") ys) ++ 125 ∷ rest)) h (at_space _) (λ s i. sign_before_space s ((y ++ each_after (codes " ") ys) ++ 125 ∷ rest) i)
 
-more_tokens : (xs : List Text) (rest : Text) → Each IsMarkText xs → Spelled (SpellsMany SpellsToken) (each_after (codes " ") xs) (125 ∷ rest) xs
-unfolding SpellsToken
+more_tokens : (xs : List Text) (rest : Text) → Each IsMarkText xs → Spelled (SpellsMany OneToken) (each_after (codes " ") xs) (125 ∷ rest) xs
+unfolding OneToken
 more_tokens [] rest h = ([], nothing (125 ∷ rest), no_more)
 more_tokens (x ∷ xs) rest h =
     let more = more_tokens xs rest h.1 in
@@ -85,8 +83,8 @@ more_tokens (x ∷ xs) rest h =
       one_more (one.0, refl, one.2) more.2,
     )
 
-tokens_spelled : (xs : List Text) (rest : Text) → Each IsMarkText xs → Spelled (SpellsMany SpellsToken) (joined (codes " ") xs) (125 ∷ rest) xs
-unfolding SpellsToken
+tokens_spelled : (xs : List Text) (rest : Text) → Each IsMarkText xs → Spelled (SpellsMany OneToken) (joined (codes " ") xs) (125 ∷ rest) xs
+unfolding OneToken
 tokens_spelled [] rest h = ([], nothing (125 ∷ rest), no_more)
 tokens_spelled (x ∷ xs) rest h =
     let more = more_tokens xs rest h.1 in
@@ -94,7 +92,7 @@ tokens_spelled (x ∷ xs) rest h =
     (one.0 ∷ more.0, then x (each_after (codes " ") xs) (125 ∷ rest) (one.0 ∷ []) more.0 one.1 more.1, one_more (one.0, refl, one.2) more.2)
 
 mark_spelled : (m : Option (List Text)) (rest : Text) → IsWritableMark m → Spelled SpellsMark (mark_text m) rest m
-unfolding SpellsToken
+unfolding OneToken
 mark_spelled None rest h = ([], nothing rest, no_mark)
 mark_spelled (Some xs) rest h =
     let list = tokens_spelled xs rest h in (
@@ -105,7 +103,7 @@ mark_spelled (Some xs) rest h =
       a_mark list.2,
     )
 
-constant_spelled : (c : Value) (rest : Text) → IsWritableConstant c → Ends rest → Spelled SpellsConst (value_text c) rest c
+constant_spelled : (c : Value) (rest : Text) → IsPlain c → Ends rest → Spelled SpellsConst (value_text c) rest c
 constant_spelled (truth true) rest h e = (word (codes "TRUE") ∷ [], is_word (codes "TRUE") rest (refl, (refl, (refl, (refl, tt)))) e, const_true)
 constant_spelled (truth false) rest h e = (word (codes "FALSE") ∷ [], is_word (codes "FALSE") rest (refl, (refl, (refl, (refl, (refl, tt))))) e, const_false)
 constant_spelled (number n) rest h e = (printed_int n, int_reads n rest h e, const_int (int_spells n))

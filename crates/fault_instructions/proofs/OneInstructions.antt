@@ -103,7 +103,7 @@ one_guard xs ys a b r s (a_guard {ts = x0} {g = m} p) (a_guard {ts = y0} {g = n}
     (rw inner.0 refl, rw inner.1 refl, inner.2)
 
 -- a token of a mark, and its text
-abbrev pub OneToken : List Lexeme → Text → Type 0
+unfoldable pub OneToken : List Lexeme → Text → Type 0
 OneToken us x = (t : Lexeme) × (us ≡ t ∷ []) × IsTokenText t x
 
 one_text : (t t' : Lexeme) (x y : Text) → t ≡ t' → IsTokenText t x → IsTokenText t' y → x ≡ y
@@ -118,6 +118,7 @@ one_text t t' x y e (sign_of m) word_text = cc
 one_text t t' x y e (sign_of {s = a} m) (sign_of {s = b} n) = let same : a ≡ b = cc in ap sign_text same
 
 one_token : OneBefore OneToken Any
+unfolding OneToken
 one_token xs ys a b r s (t, is, p) (t', is', q) e u v =
     let joined : ◌≡◌ {A = List Lexeme} (t ∷ r) (t' ∷ s) = ap (λ z. z ++ r) (sym is) ∙ e ∙ ap (λ z. z ++ s) is' in
     let heads : t ≡ t' = cc in
@@ -131,6 +132,7 @@ no_brace t x z (sign_of {s = k.CloseBrace} n) h = n refl
 no_brace t x z (sign_of {s = s} n) h = h
 
 token_starts : (ts : List Lexeme) (x : Text) (z : List Lexeme) → OneToken ts x → Braced (ts ++ z) → ⊥
+unfolding OneToken
 token_starts ts x z (t, is, p) h = no_brace t x z p (subst (λ us. Braced (us ++ z)) is h)
 
 one_mark_text : OneBefore (SpellsMany OneToken) Braced
@@ -141,6 +143,7 @@ Coloned (sign k.Colon ∷ ts) = Unit {0}
 Coloned _ = ⊥
 
 one_mark : OneBefore SpellsMark Coloned
+unfolding OneToken
 one_mark xs ys a b r s no_mark no_mark e u v = (refl, refl, e)
 one_mark xs ys a b r s no_mark (a_mark q) e u v = absurd (subst Coloned e u)
 one_mark xs ys a b r s (a_mark p) no_mark e u v = absurd (subst Coloned (sym e) v)

@@ -1,5 +1,5 @@
 -- The instructions that some text spells can be written.
-use Rattle.std.proofs.Common.{◌≡◌, ◌≢◌, inl, inr, ℕ, List, [], ◌∷◌, ◌++◌, Option, codes, refl, subst}
+use Rattle.std.proofs.Common.{◌≢◌, inl, inr, ℕ, List, [], ◌∷◌, ◌++◌, Option, codes, refl, subst}
 use Rattle.smv_lexer.specs.declared.token.TokenKind.{TokenKind}
 use Rattle.smv_lexer.specs.declared.token.TokenKind.TheVariants as k
 use Rattle.smv_language.specs.ProgramTree.{Text, Formula}
@@ -8,10 +8,12 @@ use Rattle.smv_language.specs.Lexemes.{Lexeme, word, sign}
 use Rattle.smv_language.specs.PrintedTokens.{IsSmall}
 use Rattle.smv_language.proofs.Spelled.{IsSign, Fits, AllFit, front, back, tokens_fit, int_writable, spelled_writable, many_writable}
 use Rattle.fault_instructions.specs.Instructions.{EffectTree, ModeTree, SliceTree, ExtensionTree, InstructionTree}
-use Rattle.fault_instructions.specs.SpellsInstructions.{SpellsConst, const_true, const_false, const_int, const_name, SpellsArguments, no_argument, a_constant, an_expression, a_number, two_numbers, SpellsEffect, an_effect, SpellsGuard, no_guard, a_guard, IsTokenText, number_text, word_text, sign_of, SpellsMark, no_mark, a_mark, SpellsMode, a_mode, SpellsSlice, a_slice, SpellsExtension, an_extension, SpellsInstructions, unnamed, named, BytesSpellInstructions}
-use Rattle.fault_instructions.specs.WritableInstructions.{IsInner, IsMarkText, IsWritableConstant, IsWritableEffect, IsWritableMark, IsWritableGuard, IsWritableMode, IsWritableSlice, IsWritableExtension, IsWritableInstructions}
+use Rattle.fault_instructions.specs.SpellsInstructions.{SpellsConst, const_true, const_false, const_int, const_name, SpellsEffect, SpellsGuard, no_guard, a_guard, IsTokenText, number_text, word_text, sign_of, SpellsMark, no_mark, a_mark, SpellsMode, a_mode, SpellsSlice, a_slice, SpellsExtension, an_extension, SpellsInstructions, unnamed, named, BytesSpellInstructions, SpellsArguments, no_argument, a_constant, an_expression, a_number, two_numbers, an_effect}
+use Rattle.fault_instructions.specs.WritableInstructions.{IsInner, IsMarkText, IsWritableEffect, IsWritableMark, IsWritableGuard, IsWritableMode, IsWritableSlice, IsWritableExtension, IsWritableInstructions}
+use Rattle.smv_language.specs.WritableProgram.{IsPlain}
+use Rattle.fault_instructions.proofs.OneInstructions.{OneToken}
 
-const_writable : {ts : List Lexeme} {c : Value} → SpellsConst ts c → AllFit ts → IsWritableConstant c
+const_writable : {ts : List Lexeme} {c : Value} → SpellsConst ts c → AllFit ts → IsPlain c
 const_writable const_true h = tt
 const_writable const_false h = tt
 const_writable (const_int p) h = int_writable p h
@@ -43,17 +45,14 @@ token_writable number_text h = inr (inl (h.1, subst IsSmall h.2 h.0))
 token_writable word_text h = inl h
 token_writable (sign_of {s} other) h = inr (inr (s, inner_of s other h, refl))
 
-IsOneToken : List Lexeme → Text → Type 0
-IsOneToken us x = (t : Lexeme) × (us ≡ t ∷ []) × IsTokenText t x
-
-one_writable : (us : List Lexeme) (x : Text) → IsOneToken us x → AllFit us → IsMarkText x
-unfolding IsOneToken
+one_writable : (us : List Lexeme) (x : Text) → OneToken us x → AllFit us → IsMarkText x
+unfolding OneToken
 one_writable us x (t, same, text) h = token_writable text (subst AllFit same h).0
 
 mark_writable : {ts : List Lexeme} {m : Option (List Text)} → SpellsMark ts m → AllFit ts → IsWritableMark m
-unfolding IsOneToken
+unfolding OneToken
 mark_writable no_mark h = tt
-mark_writable (a_mark {ts} p) h = many_writable IsOneToken IsMarkText one_writable p (front ts (sign k.CloseBrace ∷ []) h.1)
+mark_writable (a_mark {ts} p) h = many_writable OneToken IsMarkText one_writable p (front ts (sign k.CloseBrace ∷ []) h.1)
 
 mode_writable : (ts : List Lexeme) (m : ModeTree) → SpellsMode ts m → AllFit ts → IsWritableMode m
 mode_writable ts m (a_mode {ms = ms} {ds = ds} {es = es} {gs = gs} r mark d e g) h =

@@ -2,23 +2,17 @@
 use Rattle.std.specs.Prelude.{◌≡◌, ◌≢◌, ℕ, Bool, false, List, [], ◌∷◌, Option, Some, None, codes}
 use Rattle.smv_language.specs.declared.program.Member.{Member}
 use Rattle.smv_language.specs.declared.program.Member.TheVariants as member
-use Rattle.smv_language.specs.Tree.{Tree, Trees, Branches, truth as is_truth, number as is_number, leaf, not_of, negate, next_of, binary}
-use Rattle.smv_language.specs.Tree.{choice, case_of, set_of, span, no_tree, tree_then, no_branch, branch_then}
-use Rattle.smv_language.specs.ProgramTree.{Text, Path, Formula, DeclaredTree, members, instance, DeclTree, AssignmentTree}
-use Rattle.smv_language.specs.ProgramTree.{SectionTree, var, ivar, frozen as frozen_section, assign, init, invar, trans, ModuleTree}
-use Rattle.smv_language.specs.ProgramTree.{ProgramTree}
+use Rattle.smv_language.specs.Tree.{Tree, Trees, Branches, truth as is_truth, number as is_number, leaf, not_of, negate, next_of, binary, choice, case_of, set_of, span, no_tree, tree_then, no_branch, branch_then}
+use Rattle.smv_language.specs.ProgramTree.{Text, Path, Formula, DeclaredTree, members, instance, DeclTree, AssignmentTree, IsType, SectionTree, var, ivar, frozen as frozen_section, assign, init, invar, trans, ModuleTree, ProgramTree}
 use Rattle.smv_language.specs.Values.{truth, one}
 use Rattle.smv_language.specs.Evaluate.{evaluate}
 use Rattle.smv_language.specs.Laws.{AllLeaves}
-use Rattle.smv_language.specs.Scope.{Place, Role, state, input, frozen_role, a_variable, a_define, an_instance, undeclared, kind_declared}
-use Rattle.smv_language.specs.Scope.{kind_in, nth_formula, is_symbol, Meaning, Means}
+use Rattle.smv_language.specs.Scope.{Place, Role, state, input, frozen_role, a_variable, a_define, an_instance, undeclared, kind_declared, kind_in, nth_formula, is_symbol, Meaning, Means}
 use Rattle.smv_language.specs.May.{Valuation, name_values}
 use Rattle.smv_language.specs.Trace.{IsInstance, Each, AtSome, InDomains}
-use Rattle.fault_instructions.specs.Instructions.{EffectTree, EachArgument, ModeTree, SliceTree}
-use Rattle.fault_instructions.specs.Instructions.{InstructionTree, slices_of}
+use Rattle.fault_instructions.specs.Instructions.{EffectTree, ModeTree, SliceTree, InstructionTree, slices_of, EachArgument}
 use Rattle.fault_instructions.specs.Types.{IsUniform, IsKnown}
-use Rattle.fault_instructions.specs.AddedNames.{ModeState}
-use Rattle.fault_instructions.specs.AddedNames.{own_name, mode_variable, mode_symbol}
+use Rattle.fault_instructions.specs.AddedNames.{ModeState, own_name, mode_variable, mode_symbol}
 use Rattle.fault_instructions.specs.EffectLaw.{MayStand}
 
 -- `next` does not stand in it
@@ -47,11 +41,6 @@ abbrev mutual
 -- the value is one of the list
 abbrev pub Among : {A : Type 0} → List A → A → Type 0
 Among xs x = AtSome (λ y. y ≡ x) xs
-
--- the type is that of a variable, and no instance
-abbrev pub IsFinite : DeclaredTree → Type 0
-IsFinite (instance m actuals) = ⊥
-IsFinite _ = Unit {0}
 
 -- no symbol of the type is a formal or declared name of the module
 abbrev pub IsFreeMember : ModuleTree → Member → Type 0
@@ -132,7 +121,7 @@ module _ (p : ProgramTree) (at : Place) (m : ModuleTree) where
   pub record IsLawfulSlice (s : SliceTree) : Type 0 where
     pub type : DeclaredTree
     pub target_kind : kind_in m s.target ≡ a_variable state type
-    pub finite : IsFinite type
+    pub finite : IsType type
     pub uniform : IsUniform type
     pub symbols_free : SymbolsAreFree m type
     pub own_new : kind_in m (own_name s.target) ≡ undeclared

@@ -4,10 +4,11 @@ use Rattle.smv_lexer.specs.declared.token.TokenKind.{TokenKind}
 use Rattle.smv_lexer.specs.declared.token.TokenKind.TheVariants as k
 use Rattle.smv_lexer.specs.Tokens.{IsWord, IsNumber, number_of, sign_text}
 use Rattle.smv_language.specs.ProgramTree.{Text, Formula}
-use Rattle.smv_language.specs.Values.{Value, truth, number, symbol}
+use Rattle.smv_language.specs.Values.{number}
 use Rattle.smv_language.specs.PrintedTokens.{IsName, IsSmall, IsEnd, IsWritable}
 use Rattle.smv_language.specs.Trace.{Each}
-use Rattle.fault_instructions.specs.Instructions.{EffectTree, EachArgument, ModeTree, SliceTree, ExtensionTree, InstructionTree}
+use Rattle.fault_instructions.specs.Instructions.{EffectTree, ModeTree, SliceTree, ExtensionTree, InstructionTree, EachArgument}
+use Rattle.smv_language.specs.WritableProgram.{IsPlain}
 
 -- a sign that does not end a mark
 abbrev pub IsInner : TokenKind → Type 0
@@ -20,15 +21,9 @@ IsInner _ = Unit {0}
 abbrev pub IsMarkText : Text → Type 0
 IsMarkText x = IsWord x [] ⊎ ((IsNumber x [] × IsSmall (number_of x)) ⊎ ((s : TokenKind) × IsInner s × (x ≡ sign_text s)))
 
--- the constant is a name, or a number that can be written with its sign
-abbrev pub IsWritableConstant : Value → Type 0
-IsWritableConstant (truth b) = Unit {0}
-IsWritableConstant (number n) = IsEnd n
-IsWritableConstant (symbol x) = IsName x
-
 -- each argument can be written
 abbrev pub IsWritableEffect : EffectTree → Type 0
-IsWritableEffect e = EachArgument IsWritableConstant IsWritable IsEnd e
+IsWritableEffect e = EachArgument IsPlain IsWritable IsEnd e
 
 -- each text of the mark is that of a token
 abbrev pub IsWritableMark : Option (List Text) → Type 0

@@ -5,19 +5,17 @@ use Rattle.std.specs.List.{list_any}
 use Rattle.std.proofs.lemmas.List.{append_assoc}
 use Rattle.smv_language.specs.declared.program.Member.{Member}
 use Rattle.smv_language.specs.declared.program.Member.TheVariants as member
-use Rattle.smv_language.specs.ProgramTree.{Text, DeclaredTree, boolean, range, members, instance, DeclTree, DefineTree, SectionTree, var, ivar, frozen as frozen_section, define, constants, assign, init, invar, trans, ModuleTree, ProgramTree}
+use Rattle.smv_language.specs.ProgramTree.{Text, DeclaredTree, boolean, range, members, instance, DeclTree, DefineTree, SectionTree, var, ivar, frozen as frozen_section, define, constants, assign, init, invar, trans, ModuleTree, ProgramTree, IsType}
 use Rattle.smv_language.specs.Texts.{same_text, is_among}
 use Rattle.smv_language.specs.Scope.{Place, Role, state, input, frozen_role, Kind, a_formal, a_variable, a_define, an_instance, undeclared, find_module, kind_in, kind_in_decls, kind_in_defines, kind_in_sections, kind_after_formals, formal_from, kind_declared, kind_at, module_at, module_of_kind}
 use Rattle.smv_language.specs.Trace.{IsInstance, Each, AtSome, in_domain}
 use Rattle.fault_instructions.specs.Instructions.{EffectTree, ModeTree, SliceTree}
-use Rattle.fault_instructions.specs.EffectForms.{Demand, no_demand, one_of_its, truth_values, two_values, a_range}
-use Rattle.fault_instructions.specs.Effects.{row, fault_of}
 use Rattle.fault_instructions.specs.AddedNames.{ModeState, own_name, mode_variable, mode_symbol}
 use Rattle.fault_instructions.specs.AllowedEffects.{constant_fault, is_of_kind, demand_fault}
 use Rattle.fault_instructions.specs.Types.{IsKnown, Meets}
 use Rattle.fault_instructions.specs.declared.fault.EffectFault.{EffectFault}
 use Rattle.fault_instructions.specs.KindTypes.{type_of_kind}
-use Rattle.fault_instructions.specs.Weavable.{Among, IsFinite, IsFreeMember, SymbolsAreFree, IsReadableEffect, IsAllowed}
+use Rattle.fault_instructions.specs.Weavable.{Among, IsFreeMember, SymbolsAreFree, IsAllowed, IsReadableEffect}
 use Rattle.fault_instructions.proofs.OwnNames.{own_not_mode}
 use Rattle.fault_rules.specs.Sites.{OwnedSlice, a_slice, a_mode}
 use Rattle.fault_rules.specs.declared.fault.InstructionRule.{InstructionRule}
@@ -28,6 +26,8 @@ use Rattle.fault_rules.proofs.KeptItems.{among_left, among_right, among_map, IsK
 use Rattle.std.proofs.lemmas.Bool.{or_parts as or_false}
 use Rattle.smv_language.proofs.ProgramLaws.{found_named}
 use Rattle.smv_language.specs.Values.{opposite}
+use Rattle.fault_instructions.specs.EffectForms.{Demand, no_demand, one_of_its, truth_values, two_values, a_range}
+use Rattle.fault_instructions.specs.Effects.{row, fault_of}
 
 first_none : (b : Bool) (r : InstructionRule) (rs : List (Bool × InstructionRule)) → first_of ((b, r) ∷ rs) ≡ None → (b ≡ false) × (first_of rs ≡ None)
 first_none true r rs h = cc
@@ -150,30 +150,30 @@ state_type (a_formal i) h = cc
 state_type undeclared h = cc
 
 -- the type of a variable has finitely many values
-finite_declared : (role role' : Role) (what type : DeclaredTree) → kind_declared role what ≡ a_variable role' type → IsFinite type
-finite_declared role role' boolean type e = subst IsFinite (ap type_of_kind e) tt
-finite_declared role role' (range lo hi) type e = subst IsFinite (ap type_of_kind e) tt
-finite_declared role role' (members ms) type e = subst IsFinite (ap type_of_kind e) tt
+finite_declared : (role role' : Role) (what type : DeclaredTree) → kind_declared role what ≡ a_variable role' type → IsType type
+finite_declared role role' boolean type e = subst IsType (ap type_of_kind e) tt
+finite_declared role role' (range lo hi) type e = subst IsType (ap type_of_kind e) tt
+finite_declared role role' (members ms) type e = subst IsType (ap type_of_kind e) tt
 finite_declared role role' (instance m actuals) type e = cc
 
 module _ (x : Text) (role' : Role) (type : DeclaredTree) where
-  finite_decls : (role : Role) (ds : List DeclTree) (otherwise : Kind) → kind_in_decls role ds x otherwise ≡ a_variable role' type → (otherwise ≡ a_variable role' type → IsFinite type) → IsFinite type
+  finite_decls : (role : Role) (ds : List DeclTree) (otherwise : Kind) → kind_in_decls role ds x otherwise ≡ a_variable role' type → (otherwise ≡ a_variable role' type → IsType type) → IsType type
   finite_decls role [] otherwise e more = more e
   finite_decls role (d ∷ ds) otherwise e more = go (same_text d.name x) e (λ q. finite_decls role ds otherwise q more)
     where
-      go : (b : Bool) → (if b then kind_declared role d.what else kind_in_decls role ds x otherwise) ≡ a_variable role' type → (kind_in_decls role ds x otherwise ≡ a_variable role' type → IsFinite type) → IsFinite type
+      go : (b : Bool) → (if b then kind_declared role d.what else kind_in_decls role ds x otherwise) ≡ a_variable role' type → (kind_in_decls role ds x otherwise ≡ a_variable role' type → IsType type) → IsType type
       go true e more = finite_declared role role' d.what type e
       go false e more = more e
 
-  finite_defines : (ds : List DefineTree) (otherwise : Kind) → kind_in_defines ds x otherwise ≡ a_variable role' type → (otherwise ≡ a_variable role' type → IsFinite type) → IsFinite type
+  finite_defines : (ds : List DefineTree) (otherwise : Kind) → kind_in_defines ds x otherwise ≡ a_variable role' type → (otherwise ≡ a_variable role' type → IsType type) → IsType type
   finite_defines [] otherwise e more = more e
   finite_defines (d ∷ ds) otherwise e more = go (same_text d.name x) e (λ q. finite_defines ds otherwise q more)
     where
-      go : (b : Bool) → (if b then a_define d.value else kind_in_defines ds x otherwise) ≡ a_variable role' type → (kind_in_defines ds x otherwise ≡ a_variable role' type → IsFinite type) → IsFinite type
+      go : (b : Bool) → (if b then a_define d.value else kind_in_defines ds x otherwise) ≡ a_variable role' type → (kind_in_defines ds x otherwise ≡ a_variable role' type → IsType type) → IsType type
       go true e more = cc
       go false e more = more e
 
-  finite_sections : (ss : List SectionTree) → kind_in_sections ss x ≡ a_variable role' type → IsFinite type
+  finite_sections : (ss : List SectionTree) → kind_in_sections ss x ≡ a_variable role' type → IsType type
   finite_sections [] e = cc
   finite_sections (var ds ∷ ss) e = finite_decls state ds (kind_in_sections ss x) e (finite_sections ss)
   finite_sections (ivar ds ∷ ss) e = finite_decls input ds (kind_in_sections ss x) e (finite_sections ss)
@@ -185,10 +185,10 @@ module _ (x : Text) (role' : Role) (type : DeclaredTree) where
   finite_sections (invar t ∷ ss) e = finite_sections ss e
   finite_sections (trans t ∷ ss) e = finite_sections ss e
 
-  pub finite_type : (m : ModuleTree) → kind_in m x ≡ a_variable role' type → IsFinite type
+  pub finite_type : (m : ModuleTree) → kind_in m x ≡ a_variable role' type → IsType type
   finite_type m e = go (formal_from 0 m.formals x) e
     where
-      go : (o : Option ℕ) → kind_after_formals o (kind_in_sections m.sections x) ≡ a_variable role' type → IsFinite type
+      go : (o : Option ℕ) → kind_after_formals o (kind_in_sections m.sections x) ≡ a_variable role' type → IsType type
       go None e = finite_sections m.sections e
       go (Some n) e = cc
 

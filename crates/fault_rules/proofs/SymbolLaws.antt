@@ -1,6 +1,6 @@
 -- That symbols may be asked for after the name of their slice, before those of earlier modes are added.
-use Rattle.std.proofs.Common.{◌≡◌, ℕ, suc, ◌+◌, ◌<◌, length, drop, get_or, arith, rules, Bool, true, false, List, [], ◌∷◌, ◌++◌, Option, Some, None, map, refl, sym, ◌∙◌, ap, nat_eq}
-use Rattle.std.specs.Prelude.{◌||◌, ◌&&◌, codes}
+use Rattle.std.proofs.Common.{◌≡◌, ℕ, suc, ◌+◌, ◌<◌, length, drop, get_or, arith, Bool, true, false, List, [], ◌∷◌, ◌++◌, Option, Some, None, map, refl, sym, ◌∙◌, ap}
+use Rattle.std.specs.Prelude.{◌||◌, codes}
 use Rattle.smv_language.specs.ProgramTree.{Text, program_tree, declared_tree}
 use Rattle.smv_language.specs.Texts.{same_text, is_among}
 use Rattle.fault_instructions.specs.declared.instructions.ModeRule.{ModeRule}
@@ -20,15 +20,7 @@ use Rattle.fault_rules.specs.declared.modes.TakenSymbols.{TakenSymbols}
 use Rattle.fault_rules.proofs.KeyedLaws.{among_with}
 use Rattle.fault_rules.proofs.LocalLaws.{program_has}
 use Rattle.smv_language.proofs.BoolLaws.{or_false, or_assoc}
-
--- a number is itself
-itself : (n : ℕ) → nat_eq n n ≡ true
-itself n = search rules
-
--- texts that begin alike are the same where what follows is
-pub same_after : (x t u : Text) → same_text (x ++ t) (x ++ u) ≡ same_text t u
-same_after [] t u = refl
-same_after (b ∷ x) t u = ap (λ e. e && same_text (x ++ t) (x ++ u)) (itself b) ∙ same_after x t u
+use Rattle.smv_language.proofs.ValueLaws.{same_after}
 
 module _ (judged : JudgedSlice) (start : List Text) (symbols : TakenSymbols) (known : IsKnown judged.known.now) (are : AreSymbolsOf judged start symbols) where
   abbrev symbol_of : Text → Text

@@ -6,7 +6,7 @@ use Rattle.smv_language.specs.declared.program.Member.TheVariants as member
 use Rattle.smv_language.specs.ProgramTree.{Text, DeclaredTree, boolean, range, members, instance, DeclTree, DefineTree, SectionTree, var}
 use Rattle.smv_language.specs.ProgramTree.{ivar, frozen, define, constants, assign, init, invar, trans, ModuleTree, ProgramTree}
 use Rattle.smv_language.specs.Texts.{same_text, is_among}
-use Rattle.smv_language.specs.Scope.{state, input, frozen_role, Kind, a_formal, a_variable, a_define, an_instance, undeclared, find_module}
+use Rattle.smv_language.specs.Scope.{state, input, frozen_role, Kind, a_formal, a_variable, a_define, an_instance, undeclared, find_module, is_missing}
 use Rattle.smv_language.specs.Scope.{kind_at, is_symbol_of_type}
 use Rattle.fault_instructions.specs.Instructions.{ModeTree}
 use Rattle.fault_instructions.specs.AddedNames.{own_name, mode_variable, mode_symbol}
@@ -18,11 +18,6 @@ use Rattle.fault_rules.specs.declared.fault.InstructionRule.{InstructionRule}
 use Rattle.fault_rules.specs.declared.fault.InstructionRule.TheVariants.{NoSuchModule, NoSuchVariable, NotAStateVariable, DoubleSlice}
 use Rattle.fault_rules.specs.declared.fault.InstructionRule.TheVariants.{DoubleMode, VariableTaken, Effect, NameTaken}
 use Rattle.smv_language.specs.Values.{opposite}
-
--- no module has the name
-abbrev pub is_missing : Option ModuleTree → Bool
-is_missing None = true
-is_missing (Some m) = false
 
 -- what the target of a slice is in the slice's module
 abbrev pub target_kind : ProgramTree → OwnedSlice → Kind

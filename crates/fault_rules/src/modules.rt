@@ -3,11 +3,11 @@
 ghost use Rattle.std.specs.Prelude.{◌≡◌, [], IfOk, OnOk, map, flat_map, option_map, is_some};
 ghost use Rattle.std.specs.Option.{option_copied};
 ghost use Rattle.smv_language.specs.ProgramTree.{program_tree, module_tree, section_tree, decl_tree, define_tree, declared_tree};
-ghost use Rattle.smv_language.specs.Scope.{find_module, kind_at};
+ghost use Rattle.smv_language.specs.Scope.{find_module, kind_at, is_missing};
 ghost use Rattle.fault_rules.specs.KeyedLists.{with_entry, with_entries};
 ghost use Rattle.fault_rules.specs.Locals.{local_tree, declared_local, formal_entry, variable_entry, other_entry, define_entry};
 ghost use Rattle.fault_rules.specs.Locals.{section_locals, locals_of, scope_of, locals_in, scopes_in, seen_kind};
-ghost use Rattle.fault_rules.specs.Rules.{is_program_name, is_missing, is_local};
+ghost use Rattle.fault_rules.specs.Rules.{is_program_name, is_local};
 ghost use Rattle.fault_rules.specs.Faults.{IsKnown};
 ghost use Rattle.smv_language.specs.Texts.{first_with};
 ghost use Rattle.smv_language.specs.Values.{opposite};

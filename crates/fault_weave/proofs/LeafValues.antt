@@ -3,7 +3,7 @@ use Rattle.std.proofs.Common.{◌≡◌, ◌⊎◌, inl, inr, ◌↔◌, ℕ, su
 use Rattle.std.specs.Prelude.{IsTrue}
 use Rattle.smv_language.specs.declared.program.Member.{Member}
 use Rattle.smv_language.specs.declared.program.Member.TheVariants as member
-use Rattle.smv_language.specs.ProgramTree.{Text, Formula, DeclaredTree, boolean, range, members, instance, ModuleTree, ProgramTree}
+use Rattle.smv_language.specs.ProgramTree.{Text, Formula, DeclaredTree, boolean, range, members, instance, ModuleTree, ProgramTree, IsType}
 use Rattle.smv_language.specs.Values.{Value, symbol, Values, one, has}
 use Rattle.smv_language.specs.Evaluate.{evaluate}
 use Rattle.smv_language.specs.Scope.{Place, Role, state, Kind, a_variable, an_instance, undeclared, kind_declared, kind_in_sections, kind_in, kind_at, module_of_kind, module_at, is_symbol, is_symbol_of_members, is_symbol_of_type}
@@ -15,7 +15,7 @@ use Rattle.fault_instructions.specs.AddedNames.{ModeState}
 use Rattle.fault_instructions.specs.AddedNames.{own_name, mode_variable, mode_symbol}
 use Rattle.fault_weave.specs.WovenProgram.{mode_type, added_sections, woven}
 use Rattle.fault_instructions.specs.KindTypes.{type_of_kind}
-use Rattle.fault_instructions.specs.Weavable.{Among, IsFinite, IsFreeMember, SymbolsAreFree, IsLawfulSlice, IsWeavable}
+use Rattle.fault_instructions.specs.Weavable.{Among, IsFreeMember, SymbolsAreFree, IsLawfulSlice, IsWeavable}
 use Rattle.fault_instructions.specs.Types.{IsKnown}
 use Rattle.fault_weave.proofs.WovenKinds.{kind_or, kind_woven, Adds, IsAddedBy, added_or_not}
 use Rattle.fault_weave.proofs.Meanings.{module_woven, symbol_stays, kind_kept, Kept}
@@ -114,7 +114,7 @@ module _ (p : ProgramTree) (i : InstructionTree) (ok : IsWeavable p i) where
         type_leaves = λ ms e. free ms (subst (SymbolsAreFree m) e lawful.symbols_free) (λ y h. variable_symbol p m s.target state lawful.type y (instance_among at m is) lawful.target_kind (subst (λ t. is_symbol_of_type t y ≡ true) (sym e) h));
       }
     where
-      finite : (type : DeclaredTree) → IsFinite type → kind_in m s.target ≡ a_variable state type → name_values (suc n) (woven p i) at v v' (own_name s.target ∷ []) ≡ Some (one (v at (own_name s.target)))
+      finite : (type : DeclaredTree) → IsType type → kind_in m s.target ≡ a_variable state type → name_values (suc n) (woven p i) at v v' (own_name s.target ∷ []) ≡ Some (one (v at (own_name s.target)))
       finite boolean f e = variable_leaf n (woven p i) at v v' (own_name s.target) state boolean (own_variable at m s is a ∙ rw e refl)
       finite (range lo hi) f e = variable_leaf n (woven p i) at v v' (own_name s.target) state (range lo hi) (own_variable at m s is a ∙ rw e refl)
       finite (members ms) f e = variable_leaf n (woven p i) at v v' (own_name s.target) state (members ms) (own_variable at m s is a ∙ rw e refl)

@@ -1,7 +1,7 @@
 -- Names mean in the woven program what they mean in the program.
 use Rattle.std.proofs.Common.{◌≡◌, ◌⊎◌, inl, inr, ℕ, zero, suc, Bool, true, false, List, [], ◌∷◌, ◌++◌, Option, Some, None, refl, sym, ◌∙◌, ap, subst}
 use Rattle.std.specs.Prelude.{map, option_map, ◌||◌, if◌then◌else◌, codes}
-use Rattle.smv_language.specs.ProgramTree.{Text, Path, Formula, SectionTree, var, ivar, frozen, define, constants, assign, init, invar, trans, ModuleTree, ProgramTree}
+use Rattle.smv_language.specs.ProgramTree.{Text, Path, Formula, SectionTree, var, ivar, frozen, define, constants, assign, init, invar, trans, ModuleTree, ProgramTree, IsType}
 use Rattle.smv_language.specs.Scope.{Place, Key, actual_key, Kind, a_formal, a_variable, a_define, an_instance, undeclared, kind_in_sections, kind_in, kind_at, module_of_kind, module_at, actual_of_kind, is_symbol, is_symbol_of_sections, is_symbol_of_decls, Meaning, a_symbol, LookUp, plain_name, through_plain, through_actual, through_formal, by_kind, means_in}
 use Rattle.smv_language.specs.Texts.{is_among}
 use Rattle.smv_language.specs.Trace.{IsInstance}
@@ -9,7 +9,7 @@ use Rattle.fault_instructions.specs.Instructions.{SliceTree, InstructionTree, sl
 use Rattle.fault_instructions.specs.AddedNames.{own_name, mode_variable}
 use Rattle.fault_weave.specs.WovenProgram.{woven_section, added_sections, woven_module, woven}
 use Rattle.fault_instructions.specs.KindTypes.{type_of_kind}
-use Rattle.fault_instructions.specs.Weavable.{Among, IsFinite, IsLawfulSlice, IsWeavable}
+use Rattle.fault_instructions.specs.Weavable.{Among, IsLawfulSlice, IsWeavable}
 use Rattle.fault_weave.proofs.WovenKinds.{kind_woven, IsPlain, plain_no_module, plain_no_actual, added_plain, find_woven, Adds, IsAddedBy, added_or_not}
 
 -- symbols stay symbols
@@ -61,10 +61,10 @@ module _ (p : ProgramTree) (i : InstructionTree) (ok : IsWeavable p i) where
           let no : is_symbol p (mode_variable s.name) ≡ false = (ok.slices there.0 m s there.1 there.2).mode_no_symbol in
           let no' : is_symbol p x ≡ false = subst (λ y. is_symbol p y ≡ false) same no in cc
 
-  slice_finite : (at : Place) (m : ModuleTree) → IsInstance p at m → (s : SliceTree) → Among (slices_of i m.name) s → IsFinite (type_of_kind (kind_in m s.target))
+  slice_finite : (at : Place) (m : ModuleTree) → IsInstance p at m → (s : SliceTree) → Among (slices_of i m.name) s → IsType (type_of_kind (kind_in m s.target))
   slice_finite at m is s a =
       let lawful : IsLawfulSlice p at m s = ok.slices at m s is a in
-      subst (λ k. IsFinite (type_of_kind k)) (sym lawful.target_kind) lawful.finite
+      subst (λ k. IsType (type_of_kind k)) (sym lawful.target_kind) lawful.finite
 
   pub module_kept : (at : Place) (m : ModuleTree) (x : Text) → IsInstance p at m → Kept p (woven p i) x (kind_in m x) (kind_in (woven_module i m) x)
   module_kept at m x is = go (kind_in m x) refl

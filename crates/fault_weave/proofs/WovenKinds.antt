@@ -1,7 +1,7 @@
 -- What names are in a woven module.
 use Rattle.std.proofs.Common.{◌≡◌, ◌⊎◌, inl, inr, ℕ, Bool, true, false, List, [], ◌∷◌, ◌++◌, Option, Some, None, refl, sym, ◌∙◌, ap, subst}
 use Rattle.std.specs.Prelude.{map, flat_map, option_map, if◌then◌else◌}
-use Rattle.smv_language.specs.ProgramTree.{Text, DeclaredTree, boolean, range, members, instance, DeclTree, DefineTree, SectionTree, var, ivar, frozen, define, constants, assign, init, invar, trans, ModuleTree, ProgramTree}
+use Rattle.smv_language.specs.ProgramTree.{Text, DeclaredTree, boolean, range, members, instance, DeclTree, DefineTree, SectionTree, var, ivar, frozen, define, constants, assign, init, invar, trans, ModuleTree, ProgramTree, IsType}
 use Rattle.smv_language.specs.Texts.{same_text}
 use Rattle.smv_language.specs.Scope.{Role, state, Kind, a_formal, a_variable, a_define, an_instance, undeclared, find_module, formal_from, kind_declared, kind_in_decls, kind_in_defines, kind_in_sections, kind_after_formals, kind_in, module_of_kind, actual_of_kind}
 use Rattle.fault_instructions.specs.declared.instructions.Start.{Start}
@@ -10,12 +10,12 @@ use Rattle.fault_instructions.specs.Instructions.{EffectTree, ModeTree, SliceTre
 use Rattle.fault_instructions.specs.AddedNames.{own_name, mode_variable}
 use Rattle.fault_weave.specs.WovenProgram.{mode_type, start_rules, mode_rules, slice_sections, woven_section, added_sections, woven_module, woven}
 use Rattle.fault_instructions.specs.KindTypes.{type_of_kind}
+use Rattle.fault_instructions.specs.Templates.{rules, rule_trees, first_trees}
+use Rattle.fault_instructions.specs.Weavable.{Among}
+use Rattle.smv_language.proofs.OneTree.{same_text_equal}
 use Rattle.fault_instructions.specs.declared.effects.EffectRule.{EffectRule}
 use Rattle.fault_instructions.specs.declared.effects.EffectRule.TheVariants.{NotOwn, AsBefore, AsEntered, Falling}
 use Rattle.fault_instructions.specs.Effects.{rule_of}
-use Rattle.fault_instructions.specs.Templates.{rules, rule_trees, first_trees}
-use Rattle.fault_instructions.specs.Weavable.{Among, IsFinite}
-use Rattle.smv_language.proofs.OneTree.{same_text_equal}
 
 abbrev pub kind_or : Kind → Kind → Kind
 kind_or undeclared k = k
@@ -167,14 +167,14 @@ plain_no_actual (a_formal i) h j = absurd h
 plain_no_actual (a_define e) h j = absurd h
 plain_no_actual (an_instance m actuals) h j = absurd h
 
-finite_plain : (type : DeclaredTree) → IsFinite type → IsPlain (kind_declared state type)
+finite_plain : (type : DeclaredTree) → IsType type → IsPlain (kind_declared state type)
 finite_plain boolean h = tt
 finite_plain (range lo hi) h = tt
 finite_plain (members ms) h = tt
 finite_plain (instance m actuals) h = absurd h
 
 pub added_plain : (m : ModuleTree) (ss : List SliceTree) (x : Text) →
-    ((s : SliceTree) → Among ss s → IsFinite (type_of_kind (kind_in m s.target))) → IsPlain (kind_in_sections (flat_map (slice_sections m) ss) x)
+    ((s : SliceTree) → Among ss s → IsType (type_of_kind (kind_in m s.target))) → IsPlain (kind_in_sections (flat_map (slice_sections m) ss) x)
 added_plain m [] x h = tt
 added_plain m (s ∷ ss) x h =
     subst IsPlain (sym (slice_kind m s (flat_map (slice_sections m) ss) x))

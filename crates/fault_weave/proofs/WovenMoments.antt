@@ -3,26 +3,21 @@ use Rattle.std.proofs.Common.{◌≡◌, ◌↔◌, true, List, [], ◌∷◌, O
 use Rattle.std.specs.Prelude.{IsTrue, map, option_map, ◌||◌}
 use Rattle.smv_language.specs.declared.program.Member.{Member}
 use Rattle.smv_language.specs.declared.program.Member.TheVariants as member
-use Rattle.smv_language.specs.ProgramTree.{Text, DeclaredTree, boolean, range, members, instance, SectionTree, var, ivar, frozen, define, constants, assign, init, invar, trans, ModuleTree, ProgramTree}
+use Rattle.smv_language.specs.ProgramTree.{Text, DeclaredTree, boolean, range, members, instance, SectionTree, var, ivar, frozen, define, constants, assign, init, invar, trans, ModuleTree, ProgramTree, IsType}
 use Rattle.smv_language.specs.Values.{Value, symbol}
 use Rattle.smv_language.specs.Texts.{same_text}
 use Rattle.smv_language.specs.Scope.{Place, Role, state, input, frozen_role, a_variable, kind_declared, kind_in_sections, formal_from, kind_in, module_at, is_symbol_of_members}
 use Rattle.smv_language.specs.May.{Valuation, May}
 use Rattle.smv_language.specs.Trace.{Each, IsInstance, in_domain, is_member, Declares, FirstSection, EachSection, DomainSection}
 use Rattle.fault_instructions.specs.Instructions.{SliceTree, InstructionTree, slices_of, is_affected}
-use Rattle.fault_instructions.specs.AddedNames.{ModeState}
+use Rattle.fault_instructions.specs.AddedNames.{ModeState, own_name, mode_variable, mode_symbol}
 use Rattle.fault_weave.specs.ExtensionTraces as extended
 use Rattle.fault_weave.specs.ExtensionTraces.{Moment, EachSlice, BothDeclared}
 use Rattle.fault_weave.specs.Moves.{Starts}
-use Rattle.fault_instructions.specs.AddedNames.{own_name, mode_variable, mode_symbol}
 use Rattle.fault_weave.specs.Conservative.{IsSlice, IsStateOf, IsCutMoment}
 use Rattle.fault_weave.specs.WovenProgram.{mode_type, mode_rules, slice_sections, slice_rules, woven_section, added_sections, woven_module, woven}
 use Rattle.fault_instructions.specs.KindTypes.{type_of_kind}
-use Rattle.fault_instructions.specs.declared.effects.EffectRule.{EffectRule}
-use Rattle.fault_instructions.specs.declared.effects.EffectRule.TheVariants.{NotOwn, AsBefore, AsEntered, Falling}
-use Rattle.fault_instructions.specs.Effects.{branch_of, rule_of}
-use Rattle.fault_instructions.specs.Templates.{rule_trees}
-use Rattle.fault_instructions.specs.Weavable.{Among, IsFinite, IsLawfulDecl, IsLawfulSection, IsWeavable}
+use Rattle.fault_instructions.specs.Weavable.{Among, IsLawfulDecl, IsLawfulSection, IsWeavable}
 use Rattle.fault_instructions.specs.Types.{IsKnown}
 use Rattle.fault_instructions.proofs.Equivalence.{iff_refl, iff_both}
 use Rattle.fault_instructions.proofs.AmongLaws.{each_iff, each_map, each_append, each_flat_map, each_at, each_all, each_both, each_mono}
@@ -37,6 +32,10 @@ use Rattle.fault_weave.proofs.WovenSections.{own_value, section_first, section_e
 use Rattle.smv_language.proofs.BoolLaws.{iff_trans}
 use Rattle.smv_language.proofs.ProgramLaws.{after_formals}
 use Rattle.fault_instructions.specs.EffectLaw.{stands_at}
+use Rattle.fault_instructions.specs.declared.effects.EffectRule.{EffectRule}
+use Rattle.fault_instructions.specs.declared.effects.EffectRule.TheVariants.{NotOwn, AsBefore, AsEntered, Falling}
+use Rattle.fault_instructions.specs.Effects.{branch_of, rule_of}
+use Rattle.fault_instructions.specs.Templates.{rule_trees}
 
 pub known_of : (p : ProgramTree) (i : InstructionTree) (s : SliceTree) (st : ModeState) → IsStateOf p i s st → IsKnown s st
 known_of p i s None h = tt
@@ -48,7 +47,7 @@ declares_same (range lo hi) u u' at x x' e h = subst (λ y. IsTrue (in_domain (r
 declares_same (members ms) u u' at x x' e h = subst (λ y. IsTrue (in_domain (members ms) y)) e h
 declares_same (instance m es) u u' at x x' e h = tt
 
-pub declares_domain : (what : DeclaredTree) (u : Valuation) (at : Place) (x : Text) → IsFinite what → Declares u at x what → IsTrue (in_domain what (u at x))
+pub declares_domain : (what : DeclaredTree) (u : Valuation) (at : Place) (x : Text) → IsType what → Declares u at x what → IsTrue (in_domain what (u at x))
 declares_domain boolean u at x f h = h
 declares_domain (range lo hi) u at x f h = h
 declares_domain (members ms) u at x f h = h
@@ -208,7 +207,7 @@ module _ (p : ProgramTree) (i : InstructionTree) (ok : IsWeavable p i) where
         × (Each (λ k. stands_at (mo.mode at s.name) k.name ≡ true → BranchAllows (branch_of k.effect) (λ f y. May p at mo.read mo.read f y) t o x) s.modes
         × Each (λ k. stands_at (mo.mode at s.name) k.name ≡ true → RuleNow (rule_of k.effect) o x) s.modes)
 
-    pub target_finite : (s : SliceTree) (a : Among (slices_of i m.name) s) → IsFinite (ok.slices at m s is a).type
+    pub target_finite : (s : SliceTree) (a : Among (slices_of i m.name) s) → IsType (ok.slices at m s is a).type
     target_finite s a = (ok.slices at m s is a).finite
 
     -- the read and the own value of a slice's target are in the domain

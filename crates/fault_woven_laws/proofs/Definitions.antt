@@ -3,13 +3,13 @@ use Rattle.std.proofs.Common.{◌≡◌, ℕ, zero, suc, ◌<◌, ◌≤◌, ari
 use Rattle.std.specs.Prelude.{slice_get}
 use Rattle.smv_language.specs.Tree.{Tree}
 use Rattle.smv_language.specs.Laws.{AllLeaves}
-use Rattle.smv_language.specs.ProgramTree.{Text, Path, Formula, DeclaredTree, ModuleTree, ProgramTree}
+use Rattle.smv_language.specs.ProgramTree.{Text, Path, Formula, DeclaredTree, ModuleTree, ProgramTree, IsType}
 use Rattle.smv_language.specs.Scope.{Place, Role, Key, define_key, actual_key, Kind as NameKind, a_formal, a_variable, a_define, an_instance, undeclared, kind_in, kind_at as name_kind_at, kind_in_sections, module_at, actual_of_kind, Meaning, a_variable_at, an_expression_at, an_instance_at, a_symbol, Means}
 use Rattle.smv_language.specs.Trace.{Each, IsInstance, IsVariable}
 use Rattle.fault_instructions.specs.Instructions.{SliceTree, InstructionTree, slices_of}
 use Rattle.fault_weave.specs.WovenProgram.{added_sections, woven}
 use Rattle.fault_instructions.specs.KindTypes.{type_of_kind}
-use Rattle.fault_instructions.specs.Weavable.{Among, IsFinite, IsLawfulSlice, IsWeavable}
+use Rattle.fault_instructions.specs.Weavable.{Among, IsLawfulSlice, IsWeavable}
 use Rattle.fault_weave.proofs.WovenKinds.{kind_or, IsPlain, added_plain}
 use Rattle.fault_weave.proofs.Meanings.{Kept, kind_kept, module_woven, same_meaning}
 use Rattle.fault_weave.proofs.LeafValues.{kind_at_woven, read_variable}
@@ -65,10 +65,10 @@ module _ (m : FlatModel) (ds : List Definition) where
 
 module _ (p : ProgramTree) (i : InstructionTree) (ok : IsWeavable p i) where
   -- the variable of a slice has a type of values
-  pub slice_finite : (at : Place) (m : ModuleTree) → IsInstance p at m → (s : SliceTree) → Among (slices_of i m.name) s → IsFinite (type_of_kind (kind_in m s.target))
+  pub slice_finite : (at : Place) (m : ModuleTree) → IsInstance p at m → (s : SliceTree) → Among (slices_of i m.name) s → IsType (type_of_kind (kind_in m s.target))
   slice_finite at m is s a =
       let lawful : IsLawfulSlice p at m s = ok.slices at m s is a in
-      subst (λ k. IsFinite (type_of_kind k)) (sym lawful.target_kind) lawful.finite
+      subst (λ k. IsType (type_of_kind k)) (sym lawful.target_kind) lawful.finite
 
   plain_no_expression : (at : Place) (k : NameKind) → IsPlain k → expression_of_kind at k ≡ None
   plain_no_expression at undeclared h = refl

@@ -1,6 +1,6 @@
 -- A model breaks no rule where its variables, its definitions and the conditions at its instances do not.
 use Rattle.std.proofs.Common.{◌≡◌, ◌↔◌, ℕ, arith, false, List, [], ◌∷◌, ◌++◌, flat_map, Some, refl, sym, ap, ◌∙◌, subst}
-use Rattle.std.specs.Prelude.{slice_get, codes}
+use Rattle.std.specs.Prelude.{slice_get}
 use Rattle.smv_language.specs.Tree.{Tree}
 use Rattle.smv_language.specs.ProgramTree.{ModuleTree, ProgramTree}
 use Rattle.smv_language.specs.Scope.{Place, find_module}
@@ -11,9 +11,7 @@ use Rattle.smv_flat_laws.specs.NameResolution.{Resolver}
 use Rattle.smv_flat_laws.specs.Rules.{IsWalkable}
 use Rattle.smv_flat_laws.specs.Model.{Condition, Written, written_at, conditions, IsConditionTree, IsFormulaOf}
 use Rattle.smv_flat_laws.proofs.Conditions.{each_iff, each_at, each_from, each_flat, each_mapped}
-use Rattle.smv_flat_laws.proofs.Places.{are_instances}
-use Rattle.smv_flat_laws.proofs.Sections.{AreInstances, items_are}
-use Rattle.smv_flat_laws.proofs.Walkable.{main_is_there}
+use Rattle.smv_flat_laws.proofs.Sections.{items_are}
 use Rattle.smv_type_laws.specs.ExpressionKinds.{Judged}
 use Rattle.smv_type_laws.specs.DeclaredKinds.{judged_declared}
 use Rattle.smv_type_laws.specs.Models.{judged_definitions, judged_variables, judged_in, broken_condition, breaches_at, variable_breaches, definition_breaches, condition_breaches, breaches}
@@ -23,12 +21,7 @@ use Rattle.fault_woven_laws.proofs.Rightly.{none_joined}
 use Rattle.smv_type_laws.proofs.Typed.{none_at as no_breach, definitions_right}
 use Rattle.smv_type_laws.proofs.VariableTypes.{types_right}
 use Rattle.smv_language.proofs.BoolLaws.{iff_trans}
-
--- Instances.
-pub listed : (p : ProgramTree) → IsWalkable p → AreInstances p
-listed p walkable =
-    let main : (k : ModuleTree) × (find_module p (codes "main") ≡ Some k) = main_is_there p walkable in
-    are_instances p walkable main.0 main.1
+use Rattle.smv_flat_laws.proofs.Flattening.{all_instances}
 
 pub one_module : (p : ProgramTree) (k m : ModuleTree) (at bt : Place) → bt ≡ at → IsInstance p bt k → IsInstance p at m → k ≡ m
 one_module p k m at bt e a b = let there : IsInstance p at k = subst (λ q. IsInstance p q k) e a in let both : Some k ≡ Some m = sym there ∙ b in cc
@@ -39,13 +32,13 @@ module _ (p : ProgramTree) (walkable : IsWalkable p) where
       (Each (λ (x : FlatInstance). Each (λ (i : NumberedItem). C x.place i.item) (items_named p x.module_name)) (instances_of p)
       ↔ ((at : Place) (m : ModuleTree) → IsInstance p at m → Each (C at) (items_of m)))
   over_items C = (
-    (λ h at m is. let l : (i : ℕ) × (x : FlatInstance) × (slice_get (instances_of p) i ≡ Some x) × (x.place ≡ at) = (listed p walkable).all at m is in
-        let k : (k : ModuleTree) × IsInstance p l.1.place k × (find_module p l.1.module_name ≡ Some k) = (listed p walkable).real l.0 l.1 l.2 in
+    (λ h at m is. let l : (i : ℕ) × (x : FlatInstance) × (slice_get (instances_of p) i ≡ Some x) × (x.place ≡ at) = (all_instances p walkable).all at m is in
+        let k : (k : ModuleTree) × IsInstance p l.1.place k × (find_module p l.1.module_name ≡ Some k) = (all_instances p walkable).real l.0 l.1 l.2 in
         let same : k.0 ≡ m = one_module p k.0 m at l.1.place l.3 k.1 is in
         subst (λ a. Each (C a) (items_of m)) l.3 ((items_are (C l.1.place) p 1 [] l.1.module_name m (subst (λ q. find_module p l.1.module_name ≡ Some q) same k.2)).0
         (each_at (λ (x : FlatInstance). Each (λ (i : NumberedItem). C x.place i.item) (items_named p x.module_name)) (instances_of p) l.0 l.1 h l.2))),
     (λ h. each_from (λ (x : FlatInstance). Each (λ (i : NumberedItem). C x.place i.item) (items_named p x.module_name)) (instances_of p)
-        (λ i x e. let k : (k : ModuleTree) × IsInstance p x.place k × (find_module p x.module_name ≡ Some k) = (listed p walkable).real i x e in
+        (λ i x e. let k : (k : ModuleTree) × IsInstance p x.place k × (find_module p x.module_name ≡ Some k) = (all_instances p walkable).real i x e in
         (items_are (C x.place) p 1 [] x.module_name k.0 k.2).1 (h x.place k.0 k.1))),
   )
 

@@ -4,14 +4,14 @@ use Rattle.std.specs.Prelude.{if◌then◌else◌}
 use Rattle.smv_language.specs.declared.program.Moment.{Moment}
 use Rattle.smv_language.specs.declared.program.Moment.TheVariants.{Always, First, After}
 use Rattle.smv_language.specs.Tree.{Tree}
-use Rattle.smv_language.specs.ProgramTree.{Text, Path, Formula, DeclaredTree, boolean, range, members, instance, ModuleTree, ProgramTree}
+use Rattle.smv_language.specs.ProgramTree.{Text, Path, Formula, DeclaredTree, boolean, range, members, instance, ModuleTree, ProgramTree, IsType}
 use Rattle.smv_language.specs.Scope.{Place, state, a_variable, kind_declared, kind_at as name_kind_at, module_at}
 use Rattle.smv_language.specs.Trace.{Each, IsInstance, IsVariable}
 use Rattle.fault_instructions.specs.Instructions.{SliceTree, InstructionTree, slices_of, is_affected}
 use Rattle.fault_instructions.specs.AddedNames.{own_name}
 use Rattle.fault_weave.specs.WovenProgram.{tree_map_both, rename, same_path, woven}
 use Rattle.fault_instructions.specs.KindTypes.{type_of_kind}
-use Rattle.fault_instructions.specs.Weavable.{Among, IsFinite, IsLawfulSlice, IsWeavable}
+use Rattle.fault_instructions.specs.Weavable.{Among, IsLawfulSlice, IsWeavable}
 use Rattle.fault_weave.proofs.Added.{affected_slice}
 use Rattle.fault_weave.proofs.LeafValues.{own_variable}
 use Rattle.smv_language.specs.Flat.{FlatLeaf, flat_variable, FlatModel}
@@ -34,7 +34,7 @@ abbrev pub EachAsked : (Condition → Type 0) → Item → Type 0
 EachAsked A item = Each A (first_conditions item) × Each A (each_conditions item) × Each A (step_conditions item)
 
 module _ (p : ProgramTree) (i : InstructionTree) (ok : IsWeavable p i) where
-  finite_kind : (type : DeclaredTree) → IsFinite type → kind_declared state type ≡ a_variable state type
+  finite_kind : (type : DeclaredTree) → IsType type → kind_declared state type ≡ a_variable state type
   finite_kind boolean h = refl
   finite_kind (range lo hi) h = refl
   finite_kind (members ms) h = refl

@@ -12,10 +12,10 @@ use Rattle.smv_flat_laws.specs.NameResolution.{leaves_in, IsResolved, IsBefore}
 use Rattle.smv_flat_laws.specs.Rules.{IsWalkable}
 use Rattle.smv_flat_laws.specs.Model.{IsVariableOf, IsVariableNumber, IsFlatOf}
 use Rattle.smv_flat_laws.proofs.Conditions.{each_at}
-use Rattle.smv_flat_laws.proofs.Lists.{each_more, get_end, get_within, length_end}
+use Rattle.smv_flat_laws.proofs.Lists.{each_more, get_end, length_end}
 use Rattle.smv_flat_laws.proofs.Places.{has_main}
 use Rattle.smv_flat_laws.proofs.Resolving.{Known, names_known, each_leaf}
-use Rattle.smv_flat_laws.proofs.Variables.{both_at_second}
+use Rattle.smv_flat_laws.proofs.Variables.{both_at_second, RealVariable, real_variables}
 use Rattle.smv_flat_laws.proofs.Walkable.{main_is_there}
 use Rattle.smv_type_laws.specs.ExpressionKinds.{Kind, Judged, truth_class, judge}
 use Rattle.smv_type_laws.specs.DeclaredKinds.{judged_declared}
@@ -23,9 +23,9 @@ use Rattle.smv_type_laws.specs.Models.{kind_at, leaf_kind, judged_variables, jud
 use Rattle.smv_type_laws.proofs.ClosedLaws.{all_leaves}
 use Rattle.smv_type_laws.proofs.Mapped.{judge_mapped}
 use Rattle.smv_type_laws.proofs.ModelLaws.{after_keeps, judge_agrees}
-use Rattle.smv_type_laws.proofs.WrittenLaws.{IsReal, real_all}
 use Rattle.smv_type_laws.proofs.TraceLaws.{one_type}
 use Rattle.smv_language.proofs.ListLaws.{get_map}
+use Rattle.base_values.proofs.ListLaws.{get_within}
 
 -- the kind of what is given for a name
 abbrev pub kind_given : FlatModel → Option FlatLeaf → Kind
@@ -60,7 +60,7 @@ module _ (p : ProgramTree) (m : FlatModel) (walkable : IsWalkable p) (is : IsFla
   declared_so i v e =
       let main : (n : ModuleTree) × (find_module p (codes "main") ≡ Some n) = main_is_there p walkable in
       let from : (w : Visit) × (slice_get (variables_of p) i ≡ Some w) × IsVariableOf m w v = both_at_second (IsVariableOf m) (variables_of p) m.variables i v is.variables e in
-      let real : IsReal p from.0 = each_at (IsReal p) (variables_of p) i from.0 (real_all p (visits p) (has_main p walkable main.0 main.1)) from.1 in
+      let real : RealVariable p from.0 = each_at (RealVariable p) (variables_of p) i from.0 (real_variables p (visits p) (has_main p walkable main.0 main.1)) from.1 in
       let by = from.2 in
       subst (λ at. IsVariable p at v.name v.role v.declared) (sym by.place)
       (subst (λ x. IsVariable p from.0.place x v.role v.declared) (sym by.name)

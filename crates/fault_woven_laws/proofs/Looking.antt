@@ -2,7 +2,7 @@
 -- added variables and symbols.
 use Rattle.std.proofs.Common.{◌≡◌, inl, inr, ℕ, zero, suc, Bool, true, false, List, [], ◌∷◌, ◌++◌, Option, Some, None, refl, sym, ◌∙◌, ap, subst}
 use Rattle.std.specs.Prelude.{IsTrue, option_map, flat_map, if◌then◌else◌}
-use Rattle.smv_language.specs.ProgramTree.{Text, Path, Formula, DeclaredTree, boolean, range, members, instance, ModuleTree, ProgramTree}
+use Rattle.smv_language.specs.ProgramTree.{Text, Path, Formula, DeclaredTree, boolean, range, members, instance, ModuleTree, ProgramTree, IsType}
 use Rattle.smv_language.specs.Texts.{same_text}
 use Rattle.smv_language.specs.Scope.{Place, state, input, frozen_role, Key, define_key, actual_key, Kind, a_formal, a_variable, a_define, an_instance, undeclared, kind_declared, kind_in_sections, kind_in, kind_at, module_at, actual_of_kind, is_symbol, Meaning, a_variable_at, an_expression_at, an_instance_at, a_symbol, LookUp, plain_name, through_plain, through_actual, through_formal, by_kind, means_in, Means}
 use Rattle.smv_flat_laws.specs.Looks.{Look, at_actual, plain_of, step_formal, step_kind, step_of, step_on, look_after, ComesBack, MeansNothing}
@@ -11,7 +11,7 @@ use Rattle.fault_instructions.specs.Instructions.{SliceTree, InstructionTree, sl
 use Rattle.fault_instructions.specs.AddedNames.{own_name, mode_variable}
 use Rattle.fault_weave.specs.WovenProgram.{mode_type, slice_sections, added_sections, woven_module, woven}
 use Rattle.fault_instructions.specs.KindTypes.{type_of_kind}
-use Rattle.fault_instructions.specs.Weavable.{IsFinite, HasMeaning, IsWeavable}
+use Rattle.fault_instructions.specs.Weavable.{HasMeaning, IsWeavable}
 use Rattle.fault_weave.proofs.WovenKinds.{kind_woven, slice_kind}
 use Rattle.fault_weave.proofs.Meanings.{module_woven, same_meaning}
 use Rattle.fault_rules.proofs.KeptFacts.{finite_type}
@@ -25,10 +25,10 @@ abbrev pub Quiet : ProgramTree → Place → Path → Type 0
 Quiet q at name = GivesInput q at name → ⊥
 
 -- the type of a variable has finitely many values, and the type that stands for none has too
-pub type_finite : (m : ModuleTree) (x : Text) → IsFinite (type_of_kind (kind_in m x))
+pub type_finite : (m : ModuleTree) (x : Text) → IsType (type_of_kind (kind_in m x))
 type_finite m x = by_kind' (kind_in m x) refl
   where
-    by_kind' : (k : Kind) → kind_in m x ≡ k → IsFinite (type_of_kind k)
+    by_kind' : (k : Kind) → kind_in m x ≡ k → IsType (type_of_kind k)
     by_kind' (a_formal j) e = tt
     by_kind' (a_variable role type) e = finite_type x role type m e
     by_kind' (a_define f) e = tt
@@ -45,7 +45,7 @@ IsAdded (a_formal j) = ⊥
 IsAdded (a_define e) = ⊥
 IsAdded (an_instance m actuals) = ⊥
 
-finite_added : (type : DeclaredTree) → IsFinite type → IsAdded (kind_declared state type)
+finite_added : (type : DeclaredTree) → IsType type → IsAdded (kind_declared state type)
 finite_added boolean h = tt
 finite_added (range lo hi) h = tt
 finite_added (members ms) h = tt

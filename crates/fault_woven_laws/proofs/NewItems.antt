@@ -7,7 +7,7 @@ use Rattle.smv_language.specs.declared.program.Member.TheVariants as member
 use Rattle.smv_language.specs.declared.program.Moment.{Moment}
 use Rattle.smv_language.specs.declared.program.Moment.TheVariants.{Always, First, After}
 use Rattle.smv_language.specs.Tree.{binary}
-use Rattle.smv_language.specs.ProgramTree.{Text, Path, Formula, DeclaredTree, boolean, range, members, instance, ModuleTree, ProgramTree}
+use Rattle.smv_language.specs.ProgramTree.{Text, Path, Formula, DeclaredTree, boolean, range, members, instance, ModuleTree, ProgramTree, IsType}
 use Rattle.smv_language.specs.Values.{Value, truth, number, symbol}
 use Rattle.smv_language.specs.Texts.{same_text}
 use Rattle.smv_language.specs.Scope.{Place, state, a_variable, undeclared, kind_in, kind_at, module_at, is_symbol, is_symbol_of_members}
@@ -27,7 +27,7 @@ use Rattle.fault_instructions.specs.Types.{IsKnown, IsBoolean, IsRange}
 use Rattle.fault_instructions.specs.Templates.{named, number_tree, value_tree, branch, branch_tree, greater_tree, stands, erroneous_rule, frozen_rule, pick_rule, ramp_rule, frozen_first, ramp_first}
 use Rattle.fault_weave.specs.WovenProgram.{mode_type, start_tree, entries, stay_branch, moves_tree, read_tree, guard_formula, woven}
 use Rattle.fault_instructions.specs.KindTypes.{type_of_kind}
-use Rattle.fault_instructions.specs.Weavable.{Among, IsFinite, IsFreeMember, SymbolsAreFree, IsAllowed, IsLawfulMode, IsLawfulSlice, IsWeavable}
+use Rattle.fault_instructions.specs.Weavable.{Among, IsFreeMember, SymbolsAreFree, IsAllowed, IsLawfulMode, IsLawfulSlice, IsWeavable}
 use Rattle.fault_instructions.proofs.AmongLaws.{each_at}
 use Rattle.fault_instructions.proofs.EffectRows.{BranchAsks, BranchHolds, row_law}
 use Rattle.fault_woven_laws.proofs.Effects.{of_followed}
@@ -62,7 +62,7 @@ module _ (q : ProgramTree) (at : Place) where
   not_free : (b : Bool) → b ≡ false → IsTrue b → ⊥
   not_free b h k = let bad : false ≡ true = sym h ∙ k in cc
 
-  type_kept : (name : Text) (type : DeclaredTree) → IsFinite type → ItemKept q at (a_declaration state (record { name = name; what = type }))
+  type_kept : (name : Text) (type : DeclaredTree) → IsType type → ItemKept q at (a_declaration state (record { name = name; what = type }))
   type_kept name boolean h = record { names = λ b. b; target = λ b. b; loops = λ b. b; next = λ b. cc; inputs = λ b. b }
   type_kept name (range lo hi) h = record { names = λ b. b; target = λ b. b; loops = λ b. b; next = λ b. cc; inputs = λ b. b }
   type_kept name (members ms) h = record { names = λ b. b; target = λ b. b; loops = λ b. b; next = λ b. cc; inputs = λ b. b }

@@ -3,7 +3,7 @@ use Rattle.std.proofs.Common.{◌≡◌, inl, inr, ℕ, suc, Bool, true, false, 
 use Rattle.std.specs.Prelude.{IsTrue, option_map, if◌then◌else◌}
 use Rattle.smv_language.specs.declared.program.Moment.{Moment}
 use Rattle.smv_language.specs.declared.program.Moment.TheVariants.{Always, First, After}
-use Rattle.smv_language.specs.ProgramTree.{Text, Path, Formula, DeclaredTree, boolean, range, members, instance, ModuleTree, ProgramTree}
+use Rattle.smv_language.specs.ProgramTree.{Text, Path, Formula, DeclaredTree, boolean, range, members, instance, ModuleTree, ProgramTree, IsType}
 use Rattle.smv_language.specs.Scope.{Place, Role, state, Kind, a_formal, a_variable, a_define, an_instance, undeclared, kind_declared, kind_in, kind_at, module_at, find_module, plain_name, define_key, actual_key}
 use Rattle.smv_language.specs.Trace.{AtSome, IsInstance}
 use Rattle.smv_flat_laws.specs.Items.{Item, a_declaration, a_definition, an_assignment, some_constants, an_init, an_invar, a_trans}
@@ -14,7 +14,7 @@ use Rattle.fault_instructions.specs.Instructions.{SliceTree, InstructionTree, sl
 use Rattle.fault_instructions.specs.AddedNames.{own_name}
 use Rattle.fault_weave.specs.WovenProgram.{rename, same_path, tree_map_both, woven_module, woven}
 use Rattle.fault_instructions.specs.KindTypes.{type_of_kind}
-use Rattle.fault_instructions.specs.Weavable.{Among, IsFinite, IsWeavable}
+use Rattle.fault_instructions.specs.Weavable.{Among, IsWeavable}
 use Rattle.fault_weave.proofs.WovenKinds.{find_woven}
 use Rattle.fault_weave.proofs.Added.{affected_slice}
 use Rattle.fault_weave.proofs.LeafValues.{own_variable}
@@ -46,7 +46,7 @@ over_assigned when (a_define f) k' e fine h = fine (ap (may_be_assigned when) (s
 over_assigned when (an_instance n es) k' e fine h = fine (ap (may_be_assigned when) (sym e) ∙ h)
 over_assigned when undeclared k' e fine h = fine (not_assigned_none when)
 
-pub finite_kind : (type : DeclaredTree) → IsFinite type → kind_declared state type ≡ a_variable state type
+pub finite_kind : (type : DeclaredTree) → IsType type → kind_declared state type ≡ a_variable state type
 finite_kind boolean h = refl
 finite_kind (range lo hi) h = refl
 finite_kind (members ms) h = refl

@@ -14,7 +14,7 @@ use Rattle.fault_weave.specs.WovenProgram.{added_sections, woven_module, woven}
 use Rattle.fault_weave.proofs.WovenMoments.{all_instances}
 use Rattle.smv_language.specs.Flat.{FlatLeaf, flat_variable, flat_symbol, flat_definition, FlatVariable, FlatFormula, FlatModel}
 use Rattle.smv_flat_laws.specs.Items.{Item, a_declaration, a_definition, an_assignment, some_constants, an_init, an_invar, a_trans, items_of_section, items_of}
-use Rattle.smv_flat_laws.specs.Model.{first_appearances, symbols_of_item, symbols_of, Root, roots_of, IsDefinitionOf}
+use Rattle.smv_flat_laws.specs.Model.{first_appearances, symbols_of_item, symbols_of, Root, roots_of, IsDefinitionOf, symbols_of_module}
 use Rattle.smv_flat_laws.specs.NameResolution.{Definition, StandsFor, IsLeafOf, Resolver, IsSound, IsResolved}
 use Rattle.smv_flat_laws.specs.Rules.{expression_of}
 use Rattle.smv_flat_laws.proofs.Conditions.{each_at, each_from}
@@ -71,10 +71,7 @@ items_symbols : (affected : Text → Bool) (items : List Item) → flat_map symb
 items_symbols affected [] = refl
 items_symbols affected (item ∷ items) = λ j. item_symbols affected item j ++ items_symbols affected items j
 
-abbrev module_symbols : ModuleTree → List Text
-module_symbols k = flat_map symbols_of_item (items_of k)
-
-module_keeps : (i : InstructionTree) (k : ModuleTree) (y : Text) → In y (module_symbols k) → In y (module_symbols (woven_module i k))
+module_keeps : (i : InstructionTree) (k : ModuleTree) (y : Text) → In y (symbols_of_module k) → In y (symbols_of_module (woven_module i k))
 module_keeps i k y h =
     let affected = is_affected i k.name in
     let more : List Item = flat_map items_of_section (added_sections i k) in
@@ -83,20 +80,20 @@ module_keeps i k y h =
     (in_left y (flat_map symbols_of_item (map (woven_item affected) (items_of k))) (flat_map symbols_of_item more)
     (subst (λ (xs : List Text). In y xs) (sym (items_symbols affected (items_of k))) h)))
 
-modules_keep : (q : ProgramTree) (i : InstructionTree) (y : Text) → In y (flat_map module_symbols q) → In y (flat_map module_symbols (woven q i))
+modules_keep : (q : ProgramTree) (i : InstructionTree) (y : Text) → In y (flat_map symbols_of_module q) → In y (flat_map symbols_of_module (woven q i))
 modules_keep [] i y h = h
-modules_keep (k ∷ q) i y h = by (in_parts y (module_symbols k) (flat_map module_symbols q) h) (modules_keep q i y)
+modules_keep (k ∷ q) i y h = by (in_parts y (symbols_of_module k) (flat_map symbols_of_module q) h) (modules_keep q i y)
   where
-    by : In y (module_symbols k) ⊎ In y (flat_map module_symbols q) → (In y (flat_map module_symbols q) → In y (flat_map module_symbols (woven q i))) → In y (flat_map module_symbols (woven (k ∷ q) i))
-    by (inl h) more = in_left y (module_symbols (woven_module i k)) (flat_map module_symbols (woven q i)) (module_keeps i k y h)
-    by (inr h) more = in_right y (module_symbols (woven_module i k)) (flat_map module_symbols (woven q i)) (more h)
+    by : In y (symbols_of_module k) ⊎ In y (flat_map symbols_of_module q) → (In y (flat_map symbols_of_module q) → In y (flat_map symbols_of_module (woven q i))) → In y (flat_map symbols_of_module (woven (k ∷ q) i))
+    by (inl h) more = in_left y (symbols_of_module (woven_module i k)) (flat_map symbols_of_module (woven q i)) (module_keeps i k y h)
+    by (inr h) more = in_right y (symbols_of_module (woven_module i k)) (flat_map symbols_of_module (woven q i)) (more h)
 
 symbols_keep : (p : ProgramTree) (i : InstructionTree) (y : Text) → In y (symbols_of p) → In y (symbols_of (woven p i))
-symbols_keep p i y h = by (appeared [] (flat_map module_symbols p) y h)
+symbols_keep p i y h = by (appeared [] (flat_map symbols_of_module p) y h)
   where
-    by : In y [] ⊎ In y (flat_map module_symbols p) → In y (symbols_of (woven p i))
+    by : In y [] ⊎ In y (flat_map symbols_of_module p) → In y (symbols_of (woven p i))
     by (inl k) = let none : None ≡ Some y = k.1 in cc
-    by (inr k) = appears [] (flat_map module_symbols (woven p i)) y (inr (modules_keep p i y k))
+    by (inr k) = appears [] (flat_map symbols_of_module (woven p i)) y (inr (modules_keep p i y k))
 
 -- Definitions: an item that is woven has the definitions of the item.
 has_woven : (G : Key → Type 0) (affected : Text → Bool) (at : Place) (item : Item) → ItemHas G at (woven_item affected item) → ItemHas G at item

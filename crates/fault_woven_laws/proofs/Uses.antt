@@ -45,13 +45,14 @@ use Rattle.fault_woven_laws.proofs.Effects.{SliceKinds, ModeKinds, of_followed}
 use Rattle.fault_woven_laws.proofs.Moves.{ModesJudged}
 use Rattle.fault_woven_laws.proofs.Leaves.{kind_given, HasLeaf, declared_so}
 use Rattle.fault_woven_laws.proofs.Definitions.{variable_there, written_agrees}
-use Rattle.fault_woven_laws.proofs.Items.{listed, one_module, parts_of}
+use Rattle.fault_woven_laws.proofs.Items.{one_module, parts_of}
 use Rattle.fault_woven_laws.proofs.Renamed.{name_variable, name_symbol}
 use Rattle.fault_woven_laws.proofs.Kept.{own_kind_at, target_kind_at}
 use Rattle.fault_woven_laws.proofs.Sites.{SliceItems, slice_items, HasItem, mode_items}
 use Rattle.smv_type_laws.proofs.Least.{least_none as none_least}
 use Rattle.smv_type_laws.proofs.TraceLaws.{one_type}
 use Rattle.smv_language.proofs.ProgramLaws.{found_named}
+use Rattle.smv_flat_laws.proofs.Flattening.{all_instances}
 
 neither : (a b : Option KindRule) → or_else a b ≡ None → (a ≡ None) × (b ≡ None)
 neither None b e = (refl, e)
@@ -162,8 +163,8 @@ module _ (p : ProgramTree) (i : InstructionTree) (ok : IsWeavable p i) (m w : Fl
 
     sites_used : Each (IsUsedAt p m (record { place = at; module_name = k.name })) (item_sites i)
     sites_used =
-        let l : (j : ℕ) × (x : FlatInstance) × (slice_get (instances_of p) j ≡ Some x) × (x.place ≡ at) = (listed p walkable).all at k here in
-        let real : (n : ModuleTree) × IsInstance p l.1.place n × (find_module p l.1.module_name ≡ Some n) = (listed p walkable).real l.0 l.1 l.2 in
+        let l : (j : ℕ) × (x : FlatInstance) × (slice_get (instances_of p) j ≡ Some x) × (x.place ≡ at) = (all_instances p walkable).all at k here in
+        let real : (n : ModuleTree) × IsInstance p l.1.place n × (find_module p l.1.module_name ≡ Some n) = (all_instances p walkable).real l.0 l.1 l.2 in
         let same : real.0 ≡ k = one_module p real.0 k at l.1.place l.3 real.1 here in
         let name : k.name ≡ l.1.module_name = found_named p l.1.module_name k (subst (λ n. find_module p l.1.module_name ≡ Some n) same real.2) in
         let uses_here : Each (KeepsUse p m) (uses_at p i l.1) = each_at (λ x. Each (KeepsUse p m) (uses_at p i x)) (instances_of p) l.0 l.1 ((each_flat (KeepsUse p m) (uses_at p i) (instances_of p)).0 used) l.2 in

@@ -2,25 +2,24 @@
 use Rattle.std.proofs.Common.{◌≡◌, ℕ, zero, suc, Bool, true, false, List, [], ◌∷◌, ◌++◌, length, map, flat_map, Option, Some, None, refl, sym, ◌∙◌, ap, subst}
 use Rattle.std.specs.Prelude.{codes, option_map, if◌then◌else◌}
 use Rattle.std.proofs.lemmas.Grind.{flat_map-append}
-use Rattle.smv_language.specs.ProgramTree.{Text, DeclaredTree, boolean, range, members, instance, ModuleTree, ProgramTree}
+use Rattle.smv_language.specs.ProgramTree.{Text, DeclaredTree, boolean, range, members, instance, ModuleTree, ProgramTree, IsType}
 use Rattle.smv_language.specs.Texts.{is_among}
-use Rattle.smv_language.specs.Scope.{Place, Role, find_module}
+use Rattle.smv_language.specs.Scope.{Place, Role, find_module, is_missing}
 use Rattle.smv_language.specs.Trace.{Each}
 use Rattle.smv_flat_laws.specs.Items.{Item, a_declaration, a_definition, an_assignment, some_constants, an_init, an_invar, a_trans, NumberedItem, items_of, numbered_from, items_named, Visit, visits_inside, visits_of, walk_items, walk, visits, instances_of_visit, instances_of}
-use Rattle.smv_flat_laws.specs.Rules.{is_missing, is_missing_instance, is_other_count, is_miscounted}
+use Rattle.smv_flat_laws.specs.Rules.{is_missing_instance, is_other_count, is_miscounted}
 use Rattle.smv_flat_laws.proofs.Reaches.{each_left, each_right}
 use Rattle.smv_flat_laws.proofs.Conditions.{each_join}
 use Rattle.smv_flat_laws.proofs.Places.{VisitFacts}
 use Rattle.fault_instructions.specs.Instructions.{InstructionTree, is_affected, slices_of}
 use Rattle.fault_weave.specs.WovenProgram.{woven_module, woven}
-use Rattle.fault_instructions.specs.Weavable.{IsFinite}
 use Rattle.fault_weave.proofs.WovenKinds.{find_woven}
 use Rattle.fault_woven_laws.proofs.WovenNamesItems.{woven_item, added_items, woven_items, added_flat, of_slices, items_numbered, items_none}
 use Rattle.fault_woven_laws.proofs.Looking.{type_finite}
 
 -- an item that declares no instance
 abbrev IsPlainItem : Item → Type 0
-IsPlainItem (a_declaration role d) = IsFinite d.what
+IsPlainItem (a_declaration role d) = IsType d.what
 IsPlainItem (a_definition d) = Unit {0}
 IsPlainItem (an_assignment a) = Unit {0}
 IsPlainItem (some_constants xs) = Unit {0}
@@ -94,7 +93,7 @@ module _ (p : ProgramTree) (i : InstructionTree) where
     item_fits at n n' affected (an_invar e) = ((λ h. tt), refl)
     item_fits at n n' affected (a_trans e) = ((λ h. tt), refl)
 
-    finite_fits : (at : Place) (n : ℕ) (role : Role) (name : Text) (what : DeclaredTree) → IsFinite what → Fits [] (visits_of go' on at n (a_declaration role (record { name = name; what = what })))
+    finite_fits : (at : Place) (n : ℕ) (role : Role) (name : Text) (what : DeclaredTree) → IsType what → Fits [] (visits_of go' on at n (a_declaration role (record { name = name; what = what })))
     finite_fits at n role name boolean h = ((λ f. (record { exists = refl; counted = refl; apart = refl }, tt)), refl)
     finite_fits at n role name (range lo hi) h = ((λ f. (record { exists = refl; counted = refl; apart = refl }, tt)), refl)
     finite_fits at n role name (members ms) h = ((λ f. (record { exists = refl; counted = refl; apart = refl }, tt)), refl)

@@ -6,7 +6,7 @@ use Rattle.smv_language.specs.Scope.{Place, find_module}
 use Rattle.smv_language.specs.Trace.{Each, IsInstance}
 use Rattle.smv_language.specs.Flat.{FlatInstance}
 use Rattle.smv_flat_laws.specs.Items.{Item, NumberedItem, items_of, items_named, Visit, visits, instances_of}
-use Rattle.smv_flat_laws.specs.Rules.{no_such_module, wrong_count, module_loop, no_such_name, not_a_target, double_assign, define_loop, next_here, input_here, too_many, Site, a_visit, a_use, visit_sites, module_sites, use_sites, sites, Breaks, IsKept}
+use Rattle.smv_flat_laws.specs.Rules.{no_such_module, wrong_count, module_loop, no_such_name, not_a_target, double_assign, define_loop, next_here, input_here, too_many, Site, a_visit, a_use, visit_sites, module_sites, use_sites, sites, Breaks, IsKept, IsWithin}
 use Rattle.smv_flat_laws.proofs.Reaches.{each_left, each_right}
 use Rattle.smv_flat_laws.proofs.Conditions.{each_join, each_flat, each_from, each_at}
 use Rattle.smv_flat_laws.proofs.Lists.{each_of_map, each_map, each_more}
@@ -16,7 +16,7 @@ use Rattle.fault_instructions.specs.Instructions.{InstructionTree, slices_of, is
 use Rattle.fault_weave.specs.WovenProgram.{woven_module, woven}
 use Rattle.fault_weave.proofs.WovenKinds.{find_woven}
 use Rattle.fault_instructions.proofs.AmongLaws.{each_at as each_among}
-use Rattle.fault_woven_laws.specs.WovenNamesLaws.{OnlyLimits, WithinLimits, IsExtendable, WovenKeepsNames, WovenBreaksLimitsAlone, WovenIsAccepted}
+use Rattle.fault_woven_laws.specs.WovenNamesLaws.{OnlyLimits, IsExtendable, WovenKeepsNames, WovenBreaksLimitsAlone, WovenIsAccepted}
 use Rattle.fault_woven_laws.proofs.Orders.{EachAfter, after_numbered, numbered_after, after_two, after_more, after_each, each_after}
 use Rattle.fault_woven_laws.proofs.WovenNamesItems.{woven_item, slice_items, woven_items, added_flat, of_slices, items_numbered}
 use Rattle.fault_woven_laws.proofs.Walks.{visits_kept, same_instances}
@@ -130,5 +130,5 @@ woven_breaks_limits p i can rule item first =
 
 pub woven_accepted : WovenIsAccepted
 woven_accepted p i can within =
-    with_both (OnlyLimits (woven p i)) (WithinLimits (woven p i)) (IsKept (woven p i)) (sites (woven p i)) (λ site only in_limits rule b. in_limits (subst (λ r. Breaks (woven p i) r site) (only rule b) b))
+    with_both (OnlyLimits (woven p i)) (IsWithin (woven p i)) (IsKept (woven p i)) (sites (woven p i)) (λ site only in_limits rule b. in_limits (subst (λ r. Breaks (woven p i) r site) (only rule b) b))
     (all_limits p i can) within

@@ -4,7 +4,7 @@ use Rattle.std.specs.Prelude.{slice_get, codes}
 use Rattle.std.proofs.lemmas.Option.{slice_get_within}
 use Rattle.smv_language.specs.declared.expr.Op.TheVariants as op
 use Rattle.smv_language.specs.Tree.{leaf, next_of, binary}
-use Rattle.smv_language.specs.ProgramTree.{Text, Path, Formula, DeclaredTree, boolean, range, members, instance, ModuleTree, ProgramTree}
+use Rattle.smv_language.specs.ProgramTree.{Text, Path, Formula, DeclaredTree, boolean, range, members, instance, ModuleTree, ProgramTree, IsType}
 use Rattle.smv_language.specs.Scope.{Place, Key, Role, state, input, frozen_role, Kind as NameKind, a_formal, a_variable, a_define, an_instance, undeclared, kind_in, kind_in_sections, kind_at as name_kind_at, module_at, plain_name}
 use Rattle.smv_language.specs.Trace.{Each, IsInstance, IsVariable}
 use Rattle.fault_instructions.specs.declared.instructions.Start.{Start}
@@ -17,7 +17,7 @@ use Rattle.fault_instructions.specs.Effects.{rule_of}
 use Rattle.fault_instructions.specs.Templates.{rules, rule_trees, first_trees}
 use Rattle.fault_weave.specs.WovenProgram.{mode_type, start_rules, mode_rules, slice_sections, added_sections, woven}
 use Rattle.fault_instructions.specs.KindTypes.{type_of_kind}
-use Rattle.fault_instructions.specs.Weavable.{Among, IsFinite, IsLawfulMode, IsWeavable}
+use Rattle.fault_instructions.specs.Weavable.{Among, IsLawfulMode, IsWeavable}
 use Rattle.fault_instructions.proofs.AmongLaws.{each_all}
 use Rattle.fault_weave.proofs.LeafValues.{mode_variable_kind}
 use Rattle.fault_weave.proofs.WovenKinds.{kind_or, kind_woven, Adds, IsAddedBy, added_or_not}
@@ -32,7 +32,7 @@ use Rattle.smv_flat_laws.specs.Rules.{IsWalkable}
 use Rattle.smv_flat_laws.specs.Model.{Condition, kept, kept_declared, first_conditions, each_conditions, step_conditions, kept_conditions, Written, conditions, Root, root_of_actual, roots_of_actuals, roots_of_type, roots_of_item, roots_of, IsDefinitionOf, IsFlatOf}
 use Rattle.smv_flat_laws.proofs.Conditions.{each_at, each_from, each_flat, each_join}
 use Rattle.smv_flat_laws.proofs.Listed.{root_written}
-use Rattle.smv_flat_laws.proofs.Lists.{each_more, each_map, get_within}
+use Rattle.smv_flat_laws.proofs.Lists.{each_more, each_map}
 use Rattle.smv_flat_laws.proofs.Places.{In}
 use Rattle.smv_flat_laws.proofs.Reaches.{each_left, each_right}
 use Rattle.smv_flat_laws.proofs.Variables.{both_at}
@@ -51,6 +51,7 @@ use Rattle.fault_woven_laws.proofs.Uses.{type_right, kept_items}
 use Rattle.fault_woven_laws.proofs.Added.{added_keep}
 use Rattle.fault_woven_laws.proofs.WovenNamesItems.{woven_item, sections_woven}
 use Rattle.smv_flat_laws.proofs.BothLaws.{both_size}
+use Rattle.base_values.proofs.ListLaws.{get_within}
 
 each_three : {A : Type 0} (P Q R : A → Type 0) (xs : List A) → Each P xs → Each Q xs → Each R xs → Each (λ x. P x × Q x × R x) xs
 each_three P Q R [] h g j = tt
@@ -178,13 +179,13 @@ module _ (G : Key → Type 0) where
       ((each_flat (ItemHas at) items_of_section (start_rules s.start mode.effect s.name mode.name s.target)).0 (start_rules_have at s.start mode.effect s.name mode.name s.target)))
       (all_rules_have at s ms)
 
-  finite_has : (inside : Place) (n : ℕ) (what : DeclaredTree) → IsFinite what → Each OfKey (roots_of_type inside n what)
+  finite_has : (inside : Place) (n : ℕ) (what : DeclaredTree) → IsType what → Each OfKey (roots_of_type inside n what)
   finite_has inside n boolean h = tt
   finite_has inside n (range lo hi) h = tt
   finite_has inside n (members ms) h = tt
   finite_has inside n (instance k es) h = absurd h
 
-  slice_has : (at : Place) (k : ModuleTree) (s : SliceTree) → IsFinite (type_of_kind (kind_in k s.target)) → Each (λ section. Each (ItemHas at) (items_of_section section)) (slice_sections k s)
+  slice_has : (at : Place) (k : ModuleTree) (s : SliceTree) → IsType (type_of_kind (kind_in k s.target)) → Each (λ section. Each (ItemHas at) (items_of_section section)) (slice_sections k s)
   slice_has at k s finite =
       (((λ n. finite_has (own_name s.target ∷ at) n (type_of_kind (kind_in k s.target)) finite), ((λ n. tt), tt)), (((λ n. tt), ((λ n. tt), ((λ n. tt), tt))), all_rules_have at s s.modes))
 

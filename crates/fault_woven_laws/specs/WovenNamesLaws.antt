@@ -4,7 +4,7 @@ use Rattle.smv_language.specs.ProgramTree.{ProgramTree}
 use Rattle.smv_language.specs.Trace.{Each}
 use Rattle.smv_flat_laws.specs.Items.{instances_of}
 use Rattle.smv_flat_laws.specs.Looks.{ActualsMean}
-use Rattle.smv_flat_laws.specs.Rules.{Rule, too_many, Site, sites, Breaks, IsFirstBroken, IsAccepted}
+use Rattle.smv_flat_laws.specs.Rules.{Rule, too_many, Site, sites, Breaks, IsFirstBroken, IsAccepted, IsWithin}
 use Rattle.fault_instructions.specs.Instructions.{InstructionTree}
 use Rattle.fault_weave.specs.WovenProgram.{woven}
 use Rattle.fault_instructions.specs.Weavable.{IsWeavable}
@@ -17,10 +17,6 @@ use Rattle.fault_extend_laws.specs.Expressions.{KeepsNames}
 -- no rule is broken there but that of too many instances or variables
 abbrev pub OnlyLimits : ProgramTree → Site → Type 0
 OnlyLimits p site = (rule : Rule) → Breaks p rule site → rule ≡ too_many
-
--- and not that one
-abbrev pub WithinLimits : ProgramTree → Site → Type 0
-WithinLimits p site = Breaks p too_many site → ⊥
 
 -- What a weave starts from: the program breaks no rule of flattening, no item of the instructions breaks a rule, and
 -- no mode breaks a rule of names at any instance.
@@ -41,7 +37,7 @@ WovenBreaksLimitsAlone = (p : ProgramTree) (i : InstructionTree) → IsExtendabl
 
 -- and that, where it breaks no limit, it is accepted
 abbrev pub WovenIsAccepted : Type 0
-WovenIsAccepted = (p : ProgramTree) (i : InstructionTree) → IsExtendable p i → Each (WithinLimits (woven p i)) (sites (woven p i)) →
+WovenIsAccepted = (p : ProgramTree) (i : InstructionTree) → IsExtendable p i → Each (IsWithin (woven p i)) (sites (woven p i)) →
     IsAccepted (woven p i)
 
 -- its actuals mean something where those of the program do

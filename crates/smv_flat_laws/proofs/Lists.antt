@@ -5,7 +5,6 @@ use Rattle.smv_language.specs.Tree.{Tree, Trees, Branches, truth as is_truth, nu
 use Rattle.smv_language.specs.Leaves.{tree_map, trees_map, branches_map}
 use Rattle.smv_language.specs.Trace.{Each}
 use Rattle.smv_flat_laws.specs.NameResolution.{leaves_in, trees_leaves, branches_leaves}
-pub use Rattle.base_values.proofs.ListLaws.{get_within}
 
 pub get_end : {A : Type 0} (xs : List A) (x : A) → slice_get (xs ++ x ∷ []) (length xs) ≡ Some x
 get_end [] x = refl

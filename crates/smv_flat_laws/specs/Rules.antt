@@ -9,7 +9,7 @@ use Rattle.smv_language.specs.Tree.{span, no_tree, tree_then, no_branch, branch_
 use Rattle.smv_language.specs.ProgramTree.{Text, Path, Formula, DeclaredTree, boolean, range, members, instance, AssignmentTree, ModuleTree}
 use Rattle.smv_language.specs.ProgramTree.{ProgramTree}
 use Rattle.smv_language.specs.Values.{opposite}
-use Rattle.smv_language.specs.Scope.{Place, state, input, frozen_role, Kind, a_variable, a_define, Key, define_key, actual_key}
+use Rattle.smv_language.specs.Scope.{Place, state, input, frozen_role, Kind, a_variable, a_define, Key, define_key, actual_key, is_missing}
 use Rattle.smv_language.specs.Scope.{a_variable_at, an_expression_at, an_instance_at, Means, find_module, kind_at, module_at}
 use Rattle.smv_language.specs.Scope.{actual_of_kind, plain_name}
 use Rattle.smv_language.specs.Trace.{Each, AtSome}
@@ -20,7 +20,6 @@ use Rattle.smv_flat_laws.specs.Items.{NumberedItem, NumberedModule, modules_of, 
 use Rattle.smv_flat_laws.specs.Items.{instance_declared, variable_declared}
 use Rattle.smv_flat_laws.specs.Looks.{ComesBack, MeansNothing}
 use Rattle.smv_language.specs.Texts.{same_text, is_among}
-pub use Rattle.smv_language.specs.Scope.{is_missing}
 
 -- the fourteen rules of names, in the order of their numbers
 pub data Rule : Type 0 where
@@ -435,6 +434,10 @@ Breaks p rule (a_use at i) = BreaksAtUse p at i rule
 -- no rule is broken there
 abbrev pub IsKept : ProgramTree → Site → Type 0
 IsKept p site = (rule : Rule) → Breaks p rule site → ⊥
+
+-- the limits of instances and variables are kept there
+abbrev pub IsWithin : ProgramTree → Site → Type 0
+IsWithin p site = Breaks p too_many site → ⊥
 
 -- The rule is broken at a place with this item, none at the places before it, and none of a lower number at it.
 pub record IsFirstBroken (p : ProgramTree) (rule : Rule) (item : ℕ) : Type 0 where

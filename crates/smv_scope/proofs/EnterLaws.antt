@@ -4,10 +4,9 @@ use Rattle.std.specs.Prelude.{slice_get, flat_map, Vec}
 use Rattle.std.specs.declared.alloc.Global.{Global}
 use Rattle.std.proofs.lemmas.List.{append_assoc, map-append, length-append, length-map, length-reverse}
 use Rattle.smv_language.specs.ProgramTree.{Text, ModuleTree, ProgramTree}
-use Rattle.smv_language.specs.Scope.{Place}
+use Rattle.smv_language.specs.Scope.{Place, is_missing}
 use Rattle.smv_language.specs.Flat.{FlatVariable}
 use Rattle.smv_flat_laws.specs.Items.{Item as ItemOf, items_of, NumberedItem, modules_from, modules_of, items_named, Visit, visits_of, walk_items, walk}
-use Rattle.smv_flat_laws.specs.Rules.{is_missing}
 use Rattle.smv_flat_laws.proofs.Pigeons.{no_more_names}
 use Rattle.smv_scope.specs.declared.items.Numbered.{Numbered}
 use Rattle.smv_language.specs.declared.model.Variable.{Variable}

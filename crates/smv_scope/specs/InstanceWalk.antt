@@ -4,14 +4,14 @@ use Rattle.std.specs.Prelude.{reverse, Option, Some, None, slice_get}
 use Rattle.std.specs.declared.alloc.Global.{Global}
 use Rattle.base_values.specs.declared.limits.TheConstants.{MOST_INSTANCES, MOST_VARIABLES}
 use Rattle.smv_language.specs.ProgramTree.{Text, Formula, DeclaredTree, instance, ProgramTree, program_tree, decl_tree, declared_tree}
-use Rattle.smv_language.specs.Scope.{Place, Role, find_module}
+use Rattle.smv_language.specs.Scope.{Place, Role, find_module, is_missing}
 use Rattle.smv_language.specs.Texts.{is_among}
 use Rattle.smv_language.specs.Trace.{Each, EachBoth}
 use Rattle.smv_language.specs.ExpressionTree.{tree_of}
 use Rattle.smv_language.specs.Flat.{FlatVariable}
 use Rattle.smv_flat_laws.specs.Items.{Item as ItemOf, a_declaration, NumberedItem, items_named, Visit, visits_of, walk, variable_declared}
 use Rattle.smv_flat_laws.proofs.Pigeons.{IsThere, AreApart}
-use Rattle.smv_flat_laws.specs.Rules.{no_such_module, wrong_count, module_loop, too_many, is_missing, is_missing_instance, is_miscounted}
+use Rattle.smv_flat_laws.specs.Rules.{no_such_module, wrong_count, module_loop, too_many, is_missing_instance, is_miscounted}
 use Rattle.smv_flat_laws.specs.Rules.{is_on_path, is_other_count}
 use Rattle.smv_language.specs.declared.model.Role.{Role as RoleWord}
 use Rattle.smv_language.specs.declared.model.Variable.{Variable}

@@ -29,7 +29,7 @@ use Rattle.smv_type_laws.proofs.AnyResolver.{resolved_by, may_by}
 use Rattle.smv_language.proofs.OneTree.{same_text_equal}
 use Rattle.smv_language.proofs.ListLaws.{get_map}
 use Rattle.smv_language.proofs.ProgramLaws.{after_formals}
-pub use Rattle.smv_flat_laws.proofs.Variables.{RealVariable as IsReal, real_variables as real_all}
+use Rattle.smv_flat_laws.proofs.Variables.{RealVariable, real_variables}
 
 -- A declared variable has a value of its domain.
 declared_value : (v : Valuation) (at : Place) (x : Text) (role r : Role) (what type : DeclaredTree) → kind_declared r what ≡ a_variable role type → Declares v at x what → IsTrue (in_domain type (v at x))
@@ -79,7 +79,7 @@ variable_value p v h at x role type is =
 pub numbers : (m : FlatModel) (v : Valuation) → Numbers m (values_by_number m v) v
 numbers m v i x e = get_map (λ y. v y.place y.name) m.variables i x e
 
-domains_from : (p : ProgramTree) (m : FlatModel) (v : Valuation) → InDomains p v → (ws : List Visit) (xs : List FlatVariable) → EachBoth (IsVariableOf m) ws xs → Each (IsReal p) ws →
+domains_from : (p : ProgramTree) (m : FlatModel) (v : Valuation) → InDomains p v → (ws : List Visit) (xs : List FlatVariable) → EachBoth (IsVariableOf m) ws xs → Each (RealVariable p) ws →
     AreInDomains xs (map (λ x. v x.place x.name) xs)
 domains_from p m v h [] [] b r = tt
 domains_from p m v h [] (x ∷ xs) b r = absurd b
@@ -94,7 +94,7 @@ domains_from p m v h (w ∷ ws) (x ∷ xs) b r =
 pub domains : (p : ProgramTree) (m : FlatModel) → IsAccepted p → IsFlatOf p m → (v : Valuation) → InDomains p v → AreInDomains m.variables (values_by_number m v)
 domains p m accepted is v h =
     let main : (k : ModuleTree) × (find_module p (codes "main") ≡ Some k) = main_is_there p (accepted_walkable p accepted) in
-    domains_from p m v h (variables_of p) m.variables is.variables (real_all p (visits p) (has_main p (accepted_walkable p accepted) main.0 main.1))
+    domains_from p m v h (variables_of p) m.variables is.variables (real_variables p (visits p) (has_main p (accepted_walkable p accepted) main.0 main.1))
 
 -- the law of flat expressions, at the values of valuations
 kept : (p : ProgramTree) (m : FlatModel) → IsAccepted p → (is : IsFlatOf p m) → IsTyped m → (r : Resolver) → IsSound p m is.written r → (now next : Valuation) → InDomains p now → InDomains p next →

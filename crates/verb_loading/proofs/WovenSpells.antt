@@ -14,30 +14,30 @@ use Rattle.smv_language.specs.Trace.{Each, value_of_member}
 use Rattle.smv_language.specs.Text.{program_text}
 use Rattle.smv_language.specs.Bytes.{BytesSpellProgram}
 use Rattle.smv_language.specs.PrintedTokens.{IsName, AreNames, IsSmall, IsEnd, IsWritable, AreWritable, AreWritableBranches}
-use Rattle.smv_language.specs.WritableProgram.{IsWritableMember, IsWritableType, IsWritableDeclared, IsWritableDecl, IsWritableTyped, IsWritableAssignment, IsWritableSection, IsWritableModule, IsWritableProgram}
+use Rattle.smv_language.specs.WritableProgram.{IsWritableMember, IsWritableType, IsWritableDeclared, IsWritableDecl, IsWritableTyped, IsWritableAssignment, IsWritableSection, IsWritableModule, IsWritableProgram, IsPlain}
 use Rattle.smv_language.proofs.Spelled.{program_writable}
 use Rattle.smv_language.proofs.ProgramSpells.{program_spells}
 use Rattle.fault_instructions.specs.declared.instructions.Dynamics.{Dynamics}
 use Rattle.fault_instructions.specs.declared.instructions.Dynamics.TheVariants.{Permanent, Transient}
 use Rattle.fault_instructions.specs.declared.instructions.Start.{Start}
 use Rattle.fault_instructions.specs.declared.instructions.Start.TheVariants.{Nominal, Any}
-use Rattle.fault_instructions.specs.declared.effects.EffectRule.{EffectRule}
-use Rattle.fault_instructions.specs.declared.effects.EffectRule.TheVariants.{NotOwn, AsBefore, AsEntered, Falling}
-use Rattle.fault_instructions.specs.EffectForms.{Branch, the_constant, the_formula, the_opposite, the_sum, any_value}
-use Rattle.fault_instructions.specs.Effects.{branch_of, rule_of}
 use Rattle.fault_instructions.specs.Instructions.{EffectTree, ModeTree, SliceTree, ExtensionTree, InstructionTree, slices_from, slices_of, is_affected}
 use Rattle.fault_instructions.specs.SpellsInstructions.{BytesSpellInstructions}
 use Rattle.fault_instructions.specs.AddedNames.{own_name, mode_variable, mode_symbol}
-use Rattle.fault_instructions.specs.Templates.{named, number_tree, value_tree, member_trees, domain_tree, clipped_tree, branch, branch_tree, stands, stands_next, rules, rule_trees, first_trees}
+use Rattle.fault_instructions.specs.Templates.{named, number_tree, value_tree, member_trees, domain_tree, clipped_tree, branch, stands, stands_next, rules, branch_tree, rule_trees, first_trees}
 use Rattle.fault_weave.specs.WovenProgram.{start_tree, start_rules, mode_rules, mode_branches, set_one, guard_formula, entries_from, entries, stay_branch, moves_tree, read_tree, slice_rules, slice_sections, tree_map_both, trees_map_both, branches_map_both, rename, same_path, woven_assignment, woven_section, added_sections, woven_module, woven}
 use Rattle.fault_instructions.specs.KindTypes.{type_of_kind}
 use Rattle.fault_instructions.proofs.AmongLaws.{each_append, each_map}
 use Rattle.verb_loading.proofs.AddedNames.{own_is_name, mode_variable_is_name, nominal_is_name, symbol_is_name}
-use Rattle.fault_instructions.specs.WritableInstructions.{IsWritableConstant, IsWritableEffect, IsWritableGuard, IsWritableMode, IsWritableSlice, IsWritableExtension, IsWritableInstructions}
-use Rattle.fault_instructions.proofs.EffectRows.{BranchHolds, NumbersHold, row_law}
+use Rattle.fault_instructions.specs.WritableInstructions.{IsWritableEffect, IsWritableGuard, IsWritableMode, IsWritableSlice, IsWritableExtension, IsWritableInstructions}
 use Rattle.fault_instructions.proofs.SpelledInstructions.{instructions_writable}
 use Rattle.sat_encoding_laws.proofs.SetLaws.{each_kept}
 use Rattle.cut_text_laws.proofs.FlatNames.{type_declared}
+use Rattle.fault_instructions.specs.declared.effects.EffectRule.{EffectRule}
+use Rattle.fault_instructions.specs.declared.effects.EffectRule.TheVariants.{NotOwn, AsBefore, AsEntered, Falling}
+use Rattle.fault_instructions.specs.EffectForms.{Branch, the_constant, the_formula, the_opposite, the_sum, any_value}
+use Rattle.fault_instructions.specs.Effects.{branch_of, rule_of}
+use Rattle.fault_instructions.proofs.EffectRows.{BranchHolds, NumbersHold, row_law}
 
 -- a single name can be written
 pub one_name : (x : Text) → IsName x → IsWritable (named x)
@@ -118,7 +118,7 @@ number_writable : (n : ℤ) → IsEnd n → IsWritable (number_tree n)
 number_writable (pos n) h = h
 number_writable (negsuc n) h = number_by (nat_eq n (nat_abs GREATEST_NUMBER)) n h
 
-value_writable : (c : Value) → IsWritableConstant c → IsWritable (value_tree c)
+value_writable : (c : Value) → IsPlain c → IsWritable (value_tree c)
 value_writable (a_truth b) h = tt
 value_writable (number n) h = number_writable n h
 value_writable (symbol x) h = one_name x h
