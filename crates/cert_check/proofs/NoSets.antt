@@ -17,7 +17,6 @@ use Rattle.cert_check.specs.declared.judged.Judged.{Judged}
 use Rattle.cert_check.specs.declared.judged.Judged.TheVariants.{Yes, No}
 use Rattle.cert_check.proofs.Finding.{kept_then, broken_here, judged_of_all}
 use Rattle.cert_check.proofs.SiteLaws.{numbers_kept, numbers_broken}
-use Rattle.std.proofs.lemmas.List.{nil_from_length}
 
 some_lines : (text : List Line) (texts : List (List Line)) → 2 ≤ lines_of_sets (text ∷ texts)
 some_lines text texts = let e = sum_by-cons (λ (t : List Line). length t + 2) text texts in omega (arith, e)

@@ -33,7 +33,7 @@ use Rattle.cut_search.specs.Answer.{IsEnd}
 use Rattle.cut_search.specs.declared.answer.End.TheVariants.{Complete, Bounded}
 use Rattle.cut_search_laws.specs.UncoveredPatterns.{uncovered}
 use Rattle.cut_search_laws.proofs.Clauses.{with_clause}
-use Rattle.cut_search_laws.proofs.Chains.{no_chain, fewer_are_bad, chain_stays, chain_grows}
+use Rattle.cut_search_laws.proofs.Chains.{fewer_are_bad, chain_stays, chain_grows}
 use Rattle.cut_search_laws.proofs.Ends.{search_ends}
 use Rattle.cut_search_laws.proofs.Excluded.{clear_is_right, invariant_is_right, first_states_show}
 use Rattle.cut_search_laws.specs.Problem.{Problem}
@@ -177,17 +177,6 @@ module _ (problem : Problem) where
   -- Between frontiers.
   lists_of : (size : ℕ) (found : List CodeFound) (bad : List (List Literal)) → IsBadFor problem size (sets_of found) bad → IsBadFor problem size (sets_of (all_found m.symbols found)) bad
   lists_of size found bad lists = subst (λ sets. IsBadFor problem size sets bad) (sym (sets_same m.symbols found)) lists
-
-  -- at the first frontier no frame is a chain
-  pub between_first : (size : ℕ) (before now : List CodeFound) (old : List (List (List Literal))) (frames : FramesValue) → length old - 1 ≡ 0 → AreLooking problem size before now old frames.frames →
-      AreClear problem size now frames → IsBetween problem size now frames
-  between_first size before now old frames none looking clear = record {
-    are = looking.are;
-    numbered = looking.kept.numbered;
-    is_bad = clear.is_bad;
-    clear = clear.clear;
-    chain = subst (HasChain system frames.bad) (sym none ∙ ap (λ n. n - 1) (sym looking.kept.same)) (no_chain system frames.bad);
-  }
 
   -- at a further one the frames as they stood after `advance`
   pub between_next : (size : ℕ) (before now : List CodeFound) (old frames : FramesValue) (middle : List (List (List Literal))) → IsSearched problem →

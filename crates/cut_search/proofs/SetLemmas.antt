@@ -4,8 +4,8 @@ use Rattle.std.proofs.Math.Seq.{drop-cons}
 use Rattle.std.proofs.Math.ListN.{drop_of_length-le}
 use Rattle.std.specs.Prelude.{if◌then◌else◌, cond}
 use Rattle.std.specs.List.{insert}
-use Rattle.cut_right_laws.specs.Sets.{is_contained, stands_before}
-use Rattle.cut_search_laws.specs.FoundSets.{Found, without, placed}
+use Rattle.cut_right_laws.specs.Sets.{stands_before}
+use Rattle.cut_search_laws.specs.FoundSets.{Found, placed}
 use Rattle.cut_search.specs.Places.{place_of}
 use Rattle.std.proofs.Math.Numerals.{suc-eq-add-one}
 

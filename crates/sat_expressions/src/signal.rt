@@ -51,9 +51,7 @@ impl Signal {
         ensures narrow { IfOk result (λ w. length w ≤ 34) }
     {
         match self {
-            Signal::Bit(l) => {
-                Items::from_slice(alloc, &[l])
-            }
+            Signal::Bit(l) => { Items::from_slice(alloc, &[l]) }
             Signal::Word(w) => {
                 check_narrow(&w)?;
                 Ok(w)
@@ -67,9 +65,7 @@ impl Signal {
         ensures narrow { IfOk result (λ w. length w ≤ 34) }
     {
         match self {
-            Signal::Bit(l) => {
-                Items::from_slice(alloc, &[*l])
-            }
+            Signal::Bit(l) => { Items::from_slice(alloc, &[*l]) }
             Signal::Word(w) => {
                 check_narrow(w)?;
                 Items::from_slice(alloc, w.as_slice())

@@ -26,7 +26,7 @@ use Rattle.sat_simplify.proofs.ClauseLaws.{AreTrue, true_by, unless_true, turned
 use Rattle.sat_simplify.proofs.CompactMarks.{kept_mark}
 use Rattle.sat_simplify.proofs.CompactLaws.{compact_same, compact_low}
 use Rattle.sat_simplify.proofs.BaseLaws.{entered_next, entered_all, simplified_same, simplified_low}
-use Rattle.base_values.proofs.ListLaws.{all_from, none_contained, contains_here, from_filter, to_filter}
+use Rattle.base_values.proofs.ListLaws.{all_from, none_contained, from_filter, to_filter}
 
 -- each clause true makes the list true
 all_of : (w : TotalAssignment) (cs : List (List Literal)) → AreTrue w cs → Satisfies w cs

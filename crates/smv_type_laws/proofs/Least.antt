@@ -1,7 +1,7 @@
 -- The least of rules.
 use Rattle.std.proofs.Common.{slice_get, ◌≡◌, ℕ, Bool, true, false, cond, nat_lt, List, [], ◌∷◌, ◌++◌, Option, Some, None, refl, sym, ap, ◌∙◌, arith}
 use Rattle.std.proofs.lemmas.Bool.{ltb-true, ltb-false}
-use Rattle.smv_type_laws.specs.ExpressionKinds.{KindRule, mismatch, not_boolean, set_here, may_divide_by_zero, too_wide, empty_range, mixed_enum, case_end, too_large, double_member, number_of}
+use Rattle.smv_type_laws.specs.ExpressionKinds.{KindRule, number_of}
 use Rattle.smv_type_laws.specs.Models.{lesser, least_after, least}
 
 -- the least of two answers

@@ -11,7 +11,6 @@ use Rattle.smv_language.specs.Leaves.{tree_map, trees_map, branches_map}
 use Rattle.smv_language.specs.Laws.{AllLeaves, AllLeavesOfTrees, AllLeavesOfBranches}
 use Rattle.smv_language.specs.ExpressionTree.{tree_of}
 use Rattle.smv_language.specs.Trace.{Each, in_domain}
-use Rattle.smv_language.specs.Values as told
 use Rattle.smv_language.specs.declared.expr.Expr.{Expr}
 use Rattle.base_values.specs.declared.value.Value.{Value}
 use Rattle.base_values.specs.declared.value.Value.TheVariants.{Bool as truth, Num, Sym}

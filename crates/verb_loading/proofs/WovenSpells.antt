@@ -150,7 +150,7 @@ clipped_writable (range lo hi) e h w =
 clipped_writable (members ms) e h w = w
 clipped_writable (instance m actuals) e h w = w
 
-branch_writable : (b : Branch) (t : DeclaredTree) (x : Text) → BranchHolds IsWritableConstant IsWritable IsEnd b → IsWritableType t → IsName x → IsWritable (branch_tree b t x)
+branch_writable : (b : Branch) (t : DeclaredTree) (x : Text) → BranchHolds IsPlain IsWritable IsEnd b → IsWritableType t → IsName x → IsWritable (branch_tree b t x)
 branch_writable (the_constant c) t x h w named_x = value_writable c h
 branch_writable (the_formula e) t x h w named_x = h
 branch_writable the_opposite t x h w named_x = one_name (own_name x) (own_is_name x named_x.1)

@@ -1,7 +1,7 @@
 -- Events that were analysed one after the other: one more, and all of them.
 use Rattle.std.proofs.Common.{arith, ◌≡◌, Bool, true, false, ℕ, zero, suc, ◌+◌, ◌<◌, ◌≤◌, ◌++◌, List, [], ◌∷◌, Option, Some, None, length, map, take, get_or, refl, sym, ap, subst, ◌∙◌}
 use Rattle.std.specs.Prelude.{nat_eq}
-use Rattle.std.proofs.lemmas.List.{take_more, take_all, length-take-le, map-append, nil_from_length}
+use Rattle.std.proofs.lemmas.List.{take_more, take_all, length-take-le, map-append}
 use Rattle.base_files.specs.Desk.{said_more}
 use Rattle.smv_language.specs.Trace.{EachBoth}
 use Rattle.smv_language.specs.ProgramTree.{Text, Formula}

@@ -1,20 +1,13 @@
 -- What a reader of fault trees finds in the tree of a report are its sets.
 use Rattle.std.proofs.Common.{◌≡◌, ℕ, zero, suc, ◌+◌, ◌-◌, ◌<◌, ◌≤◌, ◌^◌, Bool, true, false, List, [], ◌∷◌, ◌++◌, length, refl, sym, ◌∙◌, ap, arith, codes}
-use Rattle.std.specs.Borrow.{Bor}
 use Rattle.std.specs.Prelude.{cond, nat_eq, ◌||◌, ◌&&◌, map, slice_get, All}
 use Rattle.std.specs.Fmt.{decimal}
-use Rattle.std.specs.List.{list_any, AllByRecursion}
-use Rattle.std.specs.Str.{bytes_eq}
-use Rattle.std.proofs.lemmas.Bool.{false_from_ne_true, or_parts}
-use Rattle.std.proofs.lemmas.Fmt.{decimal_injective}
+use Rattle.std.specs.List.{list_any}
+use Rattle.std.proofs.lemmas.Bool.{or_parts}
 use Rattle.std.proofs.lemmas.List.{append_assoc, append-nil}
-use Rattle.std.proofs.lemmas.List.Elements.{recursion_from_All}
-use Rattle.std.proofs.lemmas.Slice.Eq.{bytes_eq-Decides}
 use Rattle.xsap_reports.proofs.CsvLaws.{or_false, apart, decimal_lacks, same}
-use Rattle.xsap_reports.specs.Mef.{Sets, Open, fed, ended, formula, gate_sets, label_in, label_of, sets_in_tree}
 use Rattle.xsap_reports.specs.MefText.{xml_byte, xml_text, event_of, events_of, all_of, set_gate, set_gates, gate_begin, gate_end, gate_of, gates_of, any_of, definition_begin, definition_end, definition, definitions, head, middle, end_of_events, set_numbers, fault_names, tree_text}
-use Rattle.xsap_reports.specs.Reports.{IsListed, HasNames, name_at, name_or_none, names_in, set_names}
-use Rattle.xsap_reports.specs.Xml.{Token, start, end, letters, outside, reference, opening, value, tokens_from, tokens, behind_start}
+use Rattle.xsap_reports.specs.Xml.{Token, start, end, letters, outside, opening, value, tokens_from, tokens}
 use Rattle.xsap_reports.specs.declared.report.Report.{Report}
 
 -- numbers in a value

@@ -10,7 +10,7 @@ use Rattle.std.proofs.lemmas.List.{append_assoc, append-nil, length-map}
 use Rattle.std.proofs.lemmas.List.Elements.{recursion_from_All}
 use Rattle.std.proofs.lemmas.Slice.Eq.{bytes_eq-Decides}
 use Rattle.xsap_reports.proofs.MefLaws.{line, nl, event, gate, named, events_tokens, all_tokens, set_gate_tokens, set_gates_tokens, gates_tokens, any_tokens, definitions_tokens, events_part, document, text_lexed}
-use Rattle.xsap_reports.specs.Mef.{Sets, Open, fed, ended, formula, gate_sets, label_in, label_of, sets_in_tree}
+use Rattle.xsap_reports.specs.Mef.{Sets, Open, formula, gate_sets, label_in, label_of, sets_in_tree}
 use Rattle.xsap_reports.specs.MefText.{set_numbers, fault_names, tree_text}
 use Rattle.xsap_reports.specs.Reports.{IsListed, HasNames, name_at, name_or_none, names_in, set_names}
 use Rattle.xsap_reports.specs.Xml.{Token, start, end, letters, tokens, behind_start}
