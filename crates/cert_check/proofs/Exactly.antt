@@ -4,9 +4,7 @@ use Rattle.std.specs.Bool.{beq}
 use Rattle.std.specs.Prelude.{◌&&◌, map, All, Contains, slice_get}
 use Rattle.std.proofs.lemmas.List.{length-map, drop_more, drop_all}
 use Rattle.std.proofs.lemmas.Option.{slice_get_within, get_or_from_slice_get, same_Some as some_same, none-some as none_some}
-use Rattle.smv_language.specs.Trace.{Each}
-use Rattle.smv_language.specs.Values.{Value}
-use Rattle.smv_language.specs.ModelTree.{model_tree, variable_tree}
+use Rattle.smv_language.specs.Language.{Each, Value, model_tree, variable_tree}
 use Rattle.smv_flat_laws.specs.FaultModes.{mode_of}
 use Rattle.smv_language.specs.declared.model.FlatModel.{FlatModel as Model}
 use Rattle.smv_language.specs.declared.model.Fault.{Fault}

@@ -3,10 +3,9 @@ use Rattle.std.proofs.Common.{Result, ◌≡◌, ℕ, ◌+◌, ◌-◌, ◌≤�
 use Rattle.std.specs.List.{range_with_len}
 use Rattle.std.proofs.lemmas.List.{length-append}
 use Rattle.std.specs.Prelude.{IfOk}
-use Rattle.smv_language.specs.Tree.{Tree}
+use Rattle.smv_language.specs.Language.{Tree, FlatLeaf, FlatModel}
 use Rattle.sat_clauses.specs.Literal.{Literal}
 use Rattle.sat_encoding_laws.specs.Lists.{bad_list}
-use Rattle.smv_language.specs.Flat.{FlatLeaf, FlatModel}
 use Rattle.smv_flat_laws.specs.History.{Mode, with_history, bit_variables}
 use Rattle.sat_encoding_laws.specs.FlatTraces.{history_of}
 use Rattle.sat_encoding.specs.History.{last_numbers}

@@ -4,17 +4,13 @@ use Rattle.std.specs.Prelude.{slice_get, IsTrue}
 use Rattle.std.proofs.lemmas.List.{length-append}
 use Rattle.smv_language.specs.declared.program.Member.{Member}
 use Rattle.smv_language.specs.declared.program.Member.TheVariants as member
-use Rattle.smv_language.specs.ProgramTree.{Text, DeclaredTree, boolean, range, members, instance}
-use Rattle.smv_language.specs.Trace.{Each, in_domain, is_member}
+use Rattle.smv_language.specs.Language.{Text, DeclaredTree, boolean, range, members, instance, Each, in_domain, is_member, IsWritableType, IsWritableMember, FlatVariable, FlatModel, told_value, told_moment, told_trace, text_or_none}
 use Rattle.smv_language.specs.Values as told
-use Rattle.smv_language.specs.WritableProgram.{IsWritableType, IsWritableMember}
 use Rattle.base_values.specs.declared.value.Value.{Value}
 use Rattle.base_values.specs.declared.value.Value.TheVariants.{Bool as ABool, Num, Sym}
-use Rattle.smv_language.specs.Flat.{FlatVariable, FlatModel}
 use Rattle.smv_flat_laws.specs.FlatTrace.{AreInDomains}
 use Rattle.cut_text_laws.specs.Lines.{Line, fed}
 use Rattle.smv_evaluation.specs.EvaluableModels.{IsPlaceOf, IsNumbered, IsLawful, CanBeReplayed}
-use Rattle.smv_language.specs.NumberedValues.{told_value, told_moment, told_trace}
 use Rattle.cut_text_laws.specs.TraceOfText.{IsPrintable, GivesMoments, GivesTrace, BytesGive}
 use Rattle.std.specs.List.{AllByRecursion}
 use Rattle.cut_text_laws.specs.Lines.{IsLine}
@@ -26,7 +22,6 @@ use Rattle.cut_report.specs.declared.fault.TraceFault.{TraceFault}
 use Rattle.cut_report.specs.declared.fault.TraceFault.TheVariants as fault
 use Rattle.cert_check.specs.Fit.{IsShortText}
 use Rattle.cert_check.specs.Moments.{IsTextFault}
-use Rattle.smv_language.specs.Texts.{text_or_none}
 
 -- The empty text is no value of a type that can be written.
 pub no_empty_member : (ms : List Member) → Each IsWritableMember ms → is_member ms (told.symbol []) ≡ true → ⊥

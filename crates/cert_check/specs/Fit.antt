@@ -1,8 +1,7 @@
 -- Which certificates, and which models with faults and a top event, can be judged.
 use Rattle.std.specs.Prelude.{◌≡◌, ℕ, ◌^◌, ◌<◌, false, List, [], length}
 use Rattle.std.specs.List.{AllByRecursion}
-use Rattle.smv_language.specs.Tree.{Tree}
-use Rattle.smv_language.specs.Flat.{FlatLeaf, FlatModel}
+use Rattle.smv_language.specs.Language.{Tree, FlatLeaf, FlatModel}
 use Rattle.smv_flat_laws.specs.History.{Mode, with_history}
 use Rattle.smv_type_laws.specs.Laws.{ReadsOwn}
 use Rattle.smv_type_laws.specs.Models.{judged_in, broken_condition}

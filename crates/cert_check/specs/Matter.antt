@@ -1,15 +1,12 @@
 -- What a certificate is judged about: a model with its faults and a top event, and the clause lists that encode them.
 use Rattle.std.specs.Prelude.{ℕ, List, map}
-use Rattle.smv_language.specs.Tree.{Tree}
-use Rattle.smv_language.specs.Values.{Value}
+use Rattle.smv_language.specs.Language.{Tree, Value, FlatLeaf, FlatModel, model_tree, flat_tree}
 use Rattle.smv_language.specs.declared.expr.Expr.{Expr}
-use Rattle.smv_language.specs.Flat.{FlatLeaf, FlatModel}
 use Rattle.smv_flat_laws.specs.FlatTrace.{IsFlatTrace}
 use Rattle.smv_flat_laws.specs.History.{Mode}
 use Rattle.smv_language.specs.declared.model.Flat.{Flat}
 use Rattle.smv_language.specs.declared.model.FlatModel.{FlatModel as Model}
 use Rattle.smv_language.specs.declared.model.Fault.{Fault}
-use Rattle.smv_language.specs.ModelTree.{model_tree, flat_tree}
 use Rattle.smv_flat_laws.specs.FaultModes.{mode_of}
 use Rattle.sat_encoding_laws.specs.FlatTraces.{ReachesTop, HasFailedNumber}
 use Rattle.cut_text_laws.specs.TraceOfText.{GivesTrace}

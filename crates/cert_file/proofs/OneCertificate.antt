@@ -2,9 +2,7 @@
 use Rattle.std.proofs.Common.{◌≡◌, ℕ, List, sym, ap, subst, ◌∙◌}
 use Rattle.base_values.specs.declared.limits.TheConstants.{MOST_CERT_BYTES}
 use Rattle.base_files.specs.declared.files.NamedFile.{NamedFile}
-use Rattle.smv_language.specs.ProgramTree.{Text, Formula}
-use Rattle.smv_language.specs.Tree.{Tree}
-use Rattle.smv_language.specs.Flat.{FlatLeaf}
+use Rattle.smv_language.specs.Language.{Text, Formula, Tree, FlatLeaf}
 use Rattle.cert_laws.specs.Certificate.{Certificate}
 use Rattle.cert_laws.specs.CertificateText.{SpellsCertificate}
 use Rattle.cert_laws.proofs.FirstWrong.{one_spelled, one_wrong_line, spelled_has_none}

@@ -1,12 +1,8 @@
 -- What is right for flat traces of an extension's model is right for extended traces.
 use Rattle.std.proofs.Common.{◌≡◌, ◌↔◌, ℕ, suc, ◌+◌, ◌-◌, ◌≤◌, true, List, [], ◌∷◌, map, length, Some, refl, sym, ap, ◌∙◌, subst}
 use Rattle.std.specs.Prelude.{slice_get}
-use Rattle.smv_language.specs.Tree.{Tree}
-use Rattle.smv_language.specs.ProgramTree.{Formula, ProgramTree}
-use Rattle.smv_language.specs.Values.{Value, truth}
-use Rattle.smv_language.specs.May.{Valuation, May}
-use Rattle.smv_language.specs.Trace.{IsTrace}
-use Rattle.smv_language.specs.Flat.{FlatLeaf, FlatModel, FlatMay}
+use Rattle.smv_language.specs.Language.{Tree, Formula, ProgramTree, Value, Valuation, May, IsTrace, FlatLeaf, FlatModel, FlatMay}
+use Rattle.smv_language.specs.Values.{truth}
 use Rattle.smv_flat_laws.specs.History.{Mode}
 use Rattle.smv_flat_laws.specs.FlatTrace.{IsFlatTrace}
 use Rattle.smv_flat_laws.specs.NameResolution.{Resolver, IsSound, IsResolved}

@@ -1,8 +1,6 @@
 -- An accepted certificate is right for all extended traces, and lists the minimal cut sets.
 use Rattle.std.proofs.Common.{List, [], ◌∷◌}
-use Rattle.smv_language.specs.ProgramTree.{ProgramTree}
-use Rattle.smv_language.specs.Values.{Value}
-use Rattle.smv_language.specs.Flat.{FlatModel}
+use Rattle.smv_language.specs.Language.{ProgramTree, Value, FlatModel}
 use Rattle.smv_flat_laws.specs.FlatTrace.{IsFlatTrace}
 use Rattle.fault_instructions.specs.Instructions.{InstructionTree}
 use Rattle.fault_weave.specs.ExtensionTraces.{Moment, IsExtended, Reaches}

@@ -1,14 +1,8 @@
 -- A fault's mode stands in the flat model exactly where it stands in the moment that a valuation is cut to.
 use Rattle.std.proofs.Common.{◌≡◌, ◌⊎◌, inl, inr, ◌↔◌, Bool, true, false, ◌||◌, List, [], ◌∷◌, map, flat_map, Option, Some, None, refl, sym, ap, ◌∙◌, subst}
 use Rattle.std.specs.Prelude.{slice_get}
-use Rattle.smv_language.specs.ProgramTree.{ModuleTree, ProgramTree}
-use Rattle.smv_language.specs.Values.{symbol}
-use Rattle.smv_language.specs.Texts.{same_text}
-use Rattle.smv_language.specs.Scope.{Place, module_at}
-use Rattle.smv_language.specs.May.{Valuation}
-use Rattle.smv_language.specs.Trace.{Each, AtSome}
+use Rattle.smv_language.specs.Language.{ModuleTree, ProgramTree, symbol, same_text, Place, module_at, Valuation, Each, AtSome, FlatVariable, FlatModel}
 use Rattle.smv_language.proofs.ValueLaws.{same_text_equal, same_text_refl}
-use Rattle.smv_language.specs.Flat.{FlatVariable, FlatModel}
 use Rattle.smv_flat_laws.specs.History.{Mode}
 use Rattle.smv_flat_laws.specs.FlatTrace.{is_symbol_value, stands, stands_in_some}
 use Rattle.smv_type_laws.specs.Laws.{values_by_number}

@@ -1,8 +1,6 @@
 -- A certificate that is made of an analysis is accepted.
 use Rattle.std.specs.Prelude.{◌≡◌, ℕ, suc, IsTrue, List, Some, All, slice_get}
-use Rattle.smv_language.specs.Tree.{Tree}
-use Rattle.smv_language.specs.Values.{Value}
-use Rattle.smv_language.specs.Flat.{FlatLeaf, FlatModel}
+use Rattle.smv_language.specs.Language.{Tree, Value, FlatLeaf, FlatModel}
 use Rattle.smv_flat_laws.specs.History.{Mode}
 use Rattle.smv_flat_laws.specs.FlatTrace.{IsFlatTrace}
 use Rattle.sat_clauses.specs.Hints.{HasNoOpposites}

@@ -1,10 +1,6 @@
 -- Extended traces and the flat traces of the woven program's model that they correspond to.
 use Rattle.std.specs.Prelude.{◌≡◌, ℕ, ◌-◌, ◌<◌, List, [], Some, map, slice_get}
-use Rattle.smv_language.specs.Tree.{Tree}
-use Rattle.smv_language.specs.ProgramTree.{Formula, ProgramTree}
-use Rattle.smv_language.specs.Values.{Value}
-use Rattle.smv_language.specs.May.{Valuation}
-use Rattle.smv_language.specs.Flat.{FlatLeaf, FlatModel}
+use Rattle.smv_language.specs.Language.{Tree, Formula, ProgramTree, Value, Valuation, FlatLeaf, FlatModel, EachBoth}
 use Rattle.smv_flat_laws.specs.History.{Mode}
 use Rattle.smv_flat_laws.specs.Model.{IsVariableNumber, IsFlatOf}
 use Rattle.smv_flat_laws.specs.ResolvedAt.{IsResolvedAt}
@@ -18,7 +14,6 @@ use Rattle.fault_weave.specs.Faults.{Fault, HasFaults}
 use Rattle.fault_weave.specs.WovenProgram.{woven}
 use Rattle.fault_instructions.specs.Weavable.{IsReadable, IsWeavable}
 use Rattle.cut_right_laws.specs.Right.{IsRight}
-use Rattle.smv_language.specs.Trace.{EachBoth}
 
 -- the fault's mode in a flat model: the variable holds the state of the slice at the instance, and the symbol is that of the mode
 pub record IsModeOfFault (m : FlatModel) (fault : Fault) (mode : Mode) : Type 0 where

@@ -1,7 +1,6 @@
 -- What certificates are judged about: the lists of a model with history, and that of its bad states.
 use Rattle.std.specs.Prelude.{List, length}
-use Rattle.smv_language.specs.Tree.{Tree}
-use Rattle.smv_language.specs.Flat.{FlatLeaf, FlatModel}
+use Rattle.smv_language.specs.Language.{Tree, FlatLeaf, FlatModel}
 use Rattle.smv_flat_laws.specs.History.{Mode, with_history}
 use Rattle.sat_encoding_laws.specs.FlatTraces.{history_of}
 use Rattle.sat_encoding_laws.specs.Lists.{system_of, bad_list}

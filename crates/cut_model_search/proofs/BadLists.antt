@@ -5,10 +5,8 @@ use Rattle.std.proofs.lemmas.List.{length-map}
 use Rattle.std.proofs.lemmas.Bool.{cases_lt}
 use Rattle.std.proofs.Math.Nat.{min-le_right, min-eq_left, min-eq_right}
 use Rattle.base_values.specs.declared.limits.TheConstants.{MOST_BITS}
-use Rattle.smv_language.specs.Tree.{Tree}
+use Rattle.smv_language.specs.Language.{Tree, model_tree, variable_tree, FlatLeaf, FlatModel}
 use Rattle.smv_language.specs.declared.model.FlatModel.{FlatModel as CodeModel}
-use Rattle.smv_language.specs.ModelTree.{model_tree, variable_tree}
-use Rattle.smv_language.specs.Flat.{FlatLeaf, FlatModel}
 use Rattle.smv_flat_laws.specs.History.{Mode, with_history}
 use Rattle.sat_clauses.specs.Literal.{Literal}
 use Rattle.cut_frames.specs.Condition.{IsOverNow}

@@ -1,7 +1,6 @@
 -- The flat model of a case breaks no rule of kinds, and its faults are modes whose variables have symbols.
 use Rattle.std.proofs.Common.{◌≡◌, ℕ, List, [], ◌∷◌, refl, ap, subst, ◌∙◌}
-use Rattle.smv_language.specs.Trace.{Each, EachBoth}
-use Rattle.smv_language.specs.Flat.{FlatModel}
+use Rattle.smv_language.specs.Language.{Each, EachBoth, FlatModel}
 use Rattle.smv_flat_laws.specs.History.{Mode}
 use Rattle.smv_flat_laws.specs.FlatTrace.{IsModeOf}
 use Rattle.smv_flat_laws.proofs.Lists.{each_more}

@@ -1,7 +1,7 @@
 -- From a complete answer of a search to a certificate of it.
 use Rattle.std.proofs.Common.{◌≡◌, ℕ, List, [], ◌∷◌, map, refl, ap, subst, ◌∙◌}
 use Rattle.base_values.specs.declared.value.Value.{Value as Numbered}
-use Rattle.smv_language.specs.ModelTree.{model_tree}
+use Rattle.smv_language.specs.Language.{model_tree, told_trace}
 use Rattle.smv_language.specs.declared.model.FlatModel.{FlatModel as Made}
 use Rattle.cut_text_laws.specs.Lines.{fed}
 use Rattle.cut_text_laws.specs.TraceText.{trace_lines}
@@ -15,7 +15,6 @@ use Rattle.cut_model_search.specs.Certifiable.{IsCertifiable}
 use Rattle.cut_model_search.specs.FaultyModels.{FaultyValue, flat_in, modes_in, event_in, whole_in}
 use Rattle.cert_laws.specs.Subject.{subject_of}
 use Rattle.cut_model_search.specs.Texts.{text_lines}
-use Rattle.smv_language.specs.NumberedValues.{told_trace}
 use Rattle.cut_search.specs.declared.answer.Analysis.{Analysis as Searched}
 use Rattle.cut_model_search.specs.CaseAnalysis.{IsCertificateFor}
 use Rattle.cut_model_search.specs.Searches.{IsSearched}

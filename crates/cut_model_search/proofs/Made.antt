@@ -5,13 +5,9 @@ use Rattle.std.specs.List.{AllByRecursion}
 use Rattle.std.proofs.lemmas.Bool.{cases_lt}
 use Rattle.std.proofs.lemmas.List.{length-map}
 use Rattle.std.proofs.lemmas.List.Elements.{recursion_from_All}
-use Rattle.smv_language.specs.Tree.{Tree}
-use Rattle.smv_language.specs.ProgramTree.{Text}
-use Rattle.smv_language.specs.Values.{Value as Told}
-use Rattle.smv_language.specs.Trace.{Each}
+use Rattle.smv_language.specs.Language.{Tree, Text, Value as Told, Each, FlatLeaf, FlatModel, told_value, told_moment, told_trace}
 use Rattle.base_values.specs.declared.value.Value.{Value}
 use Rattle.base_values.specs.declared.limits.TheConstants.{MOST_BITS, MOST_COST}
-use Rattle.smv_language.specs.Flat.{FlatLeaf, FlatModel}
 use Rattle.smv_flat_laws.specs.FlatTrace.{AreInDomains, IsFlatMoment, IsFlatTrace}
 use Rattle.smv_flat_laws.specs.History.{Mode, with_history}
 use Rattle.smv_type_laws.specs.Costs.{model_cost, state_bits}
@@ -39,7 +35,6 @@ use Rattle.cut_search.proofs.SearchLemmas.{sets_same, sets_numbered}
 use Rattle.cut_text_laws.specs.TraceOfText.{GivesTrace}
 use Rattle.cut_text_laws.specs.TraceText.{trace_lines}
 use Rattle.cut_text_laws.proofs.Printed.{printed_gives_alone}
-use Rattle.smv_language.specs.NumberedValues.{told_value, told_moment, told_trace}
 use Rattle.cert_laws.specs.Certificate.{Certificate, Part, part_first, part_next, part_bad, steps_in}
 use Rattle.cert_laws.specs.Acceptance.{Subject, givens, goals}
 use Rattle.cert_laws.specs.CertificateText.{IsLiteral, IsSmall, IsWritableText, IsWritable}

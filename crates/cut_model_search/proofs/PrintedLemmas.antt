@@ -3,12 +3,11 @@ use Rattle.std.proofs.Common.{◌≡◌, ◌<◌, ◌^◌, ℕ, List, length, sy
 use Rattle.std.specs.List.{AllByRecursion}
 use Rattle.base_values.specs.declared.value.Value.{Value}
 use Rattle.smv_language.specs.declared.model.FlatModel.{FlatModel}
-use Rattle.smv_language.specs.ModelTree.{model_tree}
+use Rattle.smv_language.specs.Language.{model_tree, told_trace}
 use Rattle.cut_text_laws.specs.Lines.{Line, IsLine}
 use Rattle.cut_text_laws.specs.TraceText.{trace_text}
 use Rattle.cut_text_laws.proofs.Printed.{printed_lines}
 use Rattle.cert_laws.specs.CertificateText.{IsWritableText}
-use Rattle.smv_language.specs.NumberedValues.{told_trace}
 use Rattle.cut_model_search.specs.Texts.{AreLinesIn, text_lines, CanBePrinted}
 use Rattle.cut_model_search.proofs.TextLemmas.{lines_are}
 

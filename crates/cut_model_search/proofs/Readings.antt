@@ -1,13 +1,11 @@
 -- A moment that gives the bits of a valuation is read as one.
 use Rattle.std.proofs.Common.{◌≡◌, ℕ, zero, suc, ◌+◌, Bool, true, false, List, [], ◌∷◌, Some, Result, Ok, Err, IfOk, refl, sym, ap, ◌∙◌, subst}
 use Rattle.std.specs.Prelude.{slice_get, slice_index_or}
-use Rattle.smv_language.specs.ProgramTree.{Text}
-use Rattle.smv_language.specs.Tree.{Tree}
-use Rattle.smv_language.specs.Values.{Value as Told, truth, number, symbol}
+use Rattle.smv_language.specs.Language.{Text, Tree, Value as Told, symbol, FlatLeaf, FlatModel}
+use Rattle.smv_language.specs.Values.{truth, number}
 use Rattle.base_values.specs.declared.value.Value.{Value}
 use Rattle.base_values.specs.declared.memory.OutOfMemory.{OutOfMemory}
 use Rattle.base_values.specs.declared.value.Value.TheVariants.{Bool as ABool, Num, Sym}
-use Rattle.smv_language.specs.Flat.{FlatLeaf, FlatModel}
 use Rattle.smv_flat_laws.specs.History.{Mode, with_history}
 use Rattle.smv_flat_laws.specs.FlatTrace.{AreInDomains}
 use Rattle.smv_types.specs.Types.{StandsFor}

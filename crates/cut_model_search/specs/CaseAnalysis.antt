@@ -1,9 +1,6 @@
 -- What an analysis of a case is, and which bytes certify one.
 use Rattle.std.specs.Prelude.{◌≡◌, ℕ, List, Option, Some, None, map, min}
-use Rattle.smv_language.specs.Tree.{Tree}
-use Rattle.smv_language.specs.ProgramTree.{Formula}
-use Rattle.smv_language.specs.Values.{Value}
-use Rattle.smv_language.specs.Flat.{FlatLeaf, FlatModel}
+use Rattle.smv_language.specs.Language.{Tree, Formula, Value, FlatLeaf, FlatModel}
 use Rattle.smv_flat_laws.specs.History.{Mode, with_history}
 use Rattle.cut_search_laws.specs.Problem.{problem_of}
 use Rattle.cut_search.specs.Progress.{HasChainFor}

@@ -1,12 +1,10 @@
 -- A model with faults and a top event, as contracts see it, and what makes it one that can be searched.
 use Rattle.std.specs.Prelude.{◌≡◌, ℕ, List, map}
-use Rattle.smv_language.specs.Tree.{Tree}
+use Rattle.smv_language.specs.Language.{Tree, model_tree, flat_tree, FlatLeaf, FlatModel as ModelTree}
 use Rattle.smv_language.specs.declared.expr.Expr.{Expr}
 use Rattle.smv_language.specs.declared.model.Flat.{Flat}
 use Rattle.smv_language.specs.declared.model.FlatModel.{FlatModel}
 use Rattle.smv_language.specs.declared.model.Fault.{Fault}
-use Rattle.smv_language.specs.ModelTree.{model_tree, flat_tree}
-use Rattle.smv_language.specs.Flat.{FlatLeaf, FlatModel as ModelTree}
 use Rattle.smv_flat_laws.specs.FaultModes.{mode_of}
 use Rattle.smv_flat_laws.specs.History.{Mode, with_history}
 use Rattle.sat_clauses.specs.Literal.{Literal}

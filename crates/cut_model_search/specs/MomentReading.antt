@@ -1,8 +1,7 @@
 -- What a moment of a path is read as.
 use Rattle.std.specs.Prelude.{Bool, true, false, List}
-use Rattle.smv_language.specs.Values.{Value as Told}
+use Rattle.smv_language.specs.Language.{Value as Told, FlatModel}
 use Rattle.base_values.specs.declared.value.Value.{Value}
-use Rattle.smv_language.specs.Flat.{FlatModel}
 use Rattle.sat_clauses.specs.Assignment.{Assignment}
 use Rattle.sat_encoding.specs.Values.{StandFor, HasState, HasMoment}
 use Rattle.cut_search_laws.specs.Searchable.{with_least}

@@ -1,7 +1,6 @@
 -- What is made of an analysis of a model with faults: its report, and its certificate.
 use Rattle.std.specs.Prelude.{◌≡◌, ℕ, List, Option, length, map}
-use Rattle.smv_language.specs.ProgramTree.{Text}
-use Rattle.smv_language.specs.ModelTree.{name_of_fault}
+use Rattle.smv_language.specs.Language.{Text, name_of_fault}
 use Rattle.smv_type_laws.specs.Costs.{state_bits}
 use Rattle.cut_text_laws.specs.AnalysisText.{analysis_text}
 use Rattle.cut_report.specs.FaultText.{faults_text}

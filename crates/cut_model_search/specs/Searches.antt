@@ -1,13 +1,10 @@
 -- What a search answered of a model with faults and a top event, and the certificate of a complete answer.
 use Rattle.std.specs.Prelude.{ℕ, ◌≤◌, List, Option, Some, None, map, length}
-use Rattle.smv_language.specs.Tree.{Tree}
-use Rattle.smv_language.specs.ProgramTree.{Text}
-use Rattle.smv_language.specs.Flat.{FlatLeaf, FlatModel}
+use Rattle.smv_language.specs.Language.{Tree, Text, FlatLeaf, FlatModel, told_trace}
 use Rattle.smv_flat_laws.specs.History.{Mode, with_history}
 use Rattle.sat_encoding_laws.specs.EncodedLaws.{AreOwn}
 use Rattle.sat_encoding_laws.specs.Encodable.{IsEncodable, IsFitTop}
 use Rattle.cut_text_laws.specs.TraceOfText.{IsPrintable}
-use Rattle.smv_language.specs.NumberedValues.{told_trace}
 use Rattle.cut_search_laws.specs.Problem.{problem_of}
 use Rattle.cut_search.specs.Answer.{IsAnswer}
 use Rattle.cut_search.specs.declared.answer.Analysis.{Analysis as Searched}

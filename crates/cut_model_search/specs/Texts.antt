@@ -1,15 +1,13 @@
 -- The texts of traces, as lines.
 use Rattle.std.specs.Prelude.{◌≡◌, ℕ, List, ◌++◌}
 use Rattle.std.specs.List.{AllByRecursion}
-use Rattle.smv_language.specs.Trace.{Each}
+use Rattle.smv_language.specs.Language.{Each, model_tree, told_trace}
 use Rattle.smv_flat_laws.specs.FlatTrace.{AreInDomains}
 use Rattle.base_values.specs.declared.value.Value.{Value}
 use Rattle.smv_language.specs.declared.model.FlatModel.{FlatModel}
-use Rattle.smv_language.specs.ModelTree.{model_tree}
 use Rattle.cut_text_laws.specs.Lines.{Line, fed, IsLine}
 use Rattle.cut_text_laws.specs.TraceOfText.{IsPrintable}
 use Rattle.cut_text_laws.specs.TraceText.{trace_lines}
-use Rattle.smv_language.specs.NumberedValues.{told_trace}
 
 -- the bytes are these lines, each with its line feed, and then some without
 pub record AreLinesIn (bytes : List ℕ) (lines : List Line) : Type 0 where

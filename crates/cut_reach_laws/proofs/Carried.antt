@@ -6,14 +6,8 @@ use Rattle.std.proofs.lemmas.List.Sums.{sum_by-append, sum_by-cons}
 use Rattle.smv_language.specs.declared.program.Member.{Member}
 use Rattle.smv_language.specs.declared.program.Member.TheVariants as member
 use Rattle.smv_language.specs.declared.expr.Op.TheVariants as op
-use Rattle.smv_language.specs.ProgramTree.{Text, DeclaredTree, boolean, range, members, instance}
-use Rattle.smv_language.specs.Tree.{Tree, binary}
-use Rattle.smv_language.specs.Texts.{same_text}
-use Rattle.smv_language.specs.Laws.{AllLeaves}
-use Rattle.smv_language.specs.Scope.{Role, state, input, frozen_role}
-use Rattle.smv_language.specs.Trace.{Each}
+use Rattle.smv_language.specs.Language.{Text, DeclaredTree, boolean, range, members, instance, Tree, binary, same_text, AllLeaves, Role, state, input, frozen_role, Each, FlatLeaf, FlatVariable, FlatModel}
 use Rattle.smv_language.proofs.ValueLaws.{same_text_refl}
-use Rattle.smv_language.specs.Flat.{FlatLeaf, FlatVariable, FlatModel}
 use Rattle.smv_flat_laws.specs.History.{Mode, stands_now}
 use Rattle.smv_flat_laws.proofs.Lists.{get_end, length_end, each_more}
 use Rattle.fault_cause_laws.specs.Additions.{Addition, with_addition}

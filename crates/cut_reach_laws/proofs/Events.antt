@@ -3,13 +3,9 @@ use Rattle.std.proofs.Common.{◌≡◌, ℕ, suc, ◌^◌, ◌≤◌, Bool, tru
 use Rattle.std.specs.Prelude.{slice_get}
 use Rattle.smv_language.specs.declared.program.Member.{Member}
 use Rattle.smv_language.specs.declared.program.Member.TheVariants as member
-use Rattle.smv_language.specs.ProgramTree.{Text, DeclaredTree, boolean, range, members, instance}
-use Rattle.smv_language.specs.Tree.{Tree}
-use Rattle.smv_language.specs.Texts.{same_text}
-use Rattle.smv_language.specs.Values.{Value, truth, number, symbol}
-use Rattle.smv_language.specs.Trace.{Each, is_member, in_domain}
+use Rattle.smv_language.specs.Language.{Text, DeclaredTree, boolean, range, members, instance, Tree, same_text, Value, symbol, Each, is_member, in_domain, FlatLeaf, FlatVariable, FlatModel}
+use Rattle.smv_language.specs.Values.{truth, number}
 use Rattle.smv_language.proofs.ValueLaws.{same_text_equal}
-use Rattle.smv_language.specs.Flat.{FlatLeaf, FlatVariable, FlatModel}
 use Rattle.smv_flat_laws.specs.History.{Mode, bit_variables, with_history}
 use Rattle.smv_flat_laws.specs.FlatTrace.{IsModeOf}
 use Rattle.smv_flat_laws.proofs.Lists.{each_more}

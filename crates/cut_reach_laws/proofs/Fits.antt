@@ -2,8 +2,7 @@
 use Rattle.std.proofs.Common.{◌≡◌, ℕ, zero, suc, ◌+◌, ◌*◌, ◌<◌, ◌≤◌, Bool, true, false, not, ◌||◌, List, [], ◌∷◌, ◌++◌, Option, Some, None, length, refl, ◌∙◌, ap, if◌then◌else◌, arith}
 use Rattle.std.specs.List.{list_any}
 use Rattle.smv_language.specs.declared.expr.Op.TheVariants as op
-use Rattle.smv_language.specs.Tree.{Tree, not_of, binary}
-use Rattle.smv_language.specs.Flat.{FlatLeaf, flat_variable, FlatVariable, FlatFormula, FlatModel}
+use Rattle.smv_language.specs.Language.{Tree, not_of, binary, FlatLeaf, flat_variable, FlatVariable, FlatFormula, FlatModel}
 use Rattle.smv_flat_laws.specs.NameResolution.{leaves_in}
 use Rattle.smv_type_laws.specs.Costs.{cost_of}
 use Rattle.smv_type_laws.specs.ExpressionKinds.{Class, truth_class, KindRule, not_boolean, same_class, rule_if, Judged, judged_not, judged_connective}

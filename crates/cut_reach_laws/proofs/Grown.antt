@@ -1,10 +1,7 @@
 -- A model with one more boolean of the state, a formula of the first moment and one of each step: what the model read and was,
 -- it reads and is.
 use Rattle.std.proofs.Common.{◌≡◌, suc, ◌≤◌, false, List, [], ◌∷◌, ◌++◌, length, sym, ◌∙◌, ap, subst, arith}
-use Rattle.smv_language.specs.Tree.{Tree}
-use Rattle.smv_language.specs.ProgramTree.{boolean}
-use Rattle.smv_language.specs.Trace.{Each}
-use Rattle.smv_language.specs.Flat.{FlatLeaf, FlatVariable, FlatFormula, FlatModel}
+use Rattle.smv_language.specs.Language.{Tree, boolean, Each, FlatLeaf, FlatVariable, FlatFormula, FlatModel}
 use Rattle.smv_flat_laws.specs.NameResolution.{leaves_in}
 use Rattle.smv_flat_laws.specs.Rules.{leaves_under}
 use Rattle.smv_flat_laws.proofs.Lists.{each_more, length_end}

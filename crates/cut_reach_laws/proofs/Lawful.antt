@@ -7,12 +7,8 @@ use Rattle.std.proofs.lemmas.List.{append-nil, append_assoc}
 use Rattle.std.proofs.lemmas.Map.Steps.{length-le_from_distinct_below}
 use Rattle.smv_language.specs.declared.program.Member.{Member}
 use Rattle.smv_language.specs.declared.program.Member.TheVariants as member
-use Rattle.smv_language.specs.ProgramTree.{Text, Path, DeclaredTree, boolean, range, members, instance, DeclTree, SectionTree, var, ivar, frozen as frozen_section, define, constants, assign, init, invar, trans, ModuleTree, ProgramTree}
-use Rattle.smv_language.specs.Scope.{Role, state, input, frozen_role, is_symbol_of_type, is_symbol_of_members}
-use Rattle.smv_language.specs.Texts.{same_text, is_among}
-use Rattle.smv_language.specs.Trace.{Each, IsVariable, EachBoth}
+use Rattle.smv_language.specs.Language.{Text, Path, DeclaredTree, boolean, range, members, instance, DeclTree, SectionTree, var, ivar, frozen as frozen_section, define, constants, assign, init, invar, trans, ModuleTree, ProgramTree, Role, state, input, frozen_role, is_symbol_of_type, is_symbol_of_members, same_text, is_among, Each, IsVariable, EachBoth, FlatVariable, FlatModel, IsName}
 use Rattle.smv_language.proofs.ValueLaws.{same_text_refl}
-use Rattle.smv_language.specs.Flat.{FlatVariable, FlatModel}
 use Rattle.smv_flat_laws.specs.History.{Mode}
 use Rattle.smv_flat_laws.specs.Items.{Item, a_declaration, a_definition, an_assignment, some_constants, an_init, an_invar, a_trans, items_of_section, items_of}
 use Rattle.smv_flat_laws.specs.Model.{symbols_of_members, symbols_of_type, symbols_of_item, first_appearances, symbols_of, IsFlatOf}
@@ -30,7 +26,6 @@ use Rattle.fault_cause_laws.specs.StagedModel.{age_name, event_name, quiet_name,
 use Rattle.fault_cause_laws.specs.CauseRules.{fault_path, same_path, is_path_among, has_double, hit_names, names_of_cause, own_names, is_any_taken, no_such_fault, double_cause, double_strike, empty_window, too_wide, too_many, name_taken, first_of, broken_at, AllKept, are_owns_taken, AreLawful, IsStrikeOf, IsReadAs, AreReadAs}
 use Rattle.cut_reach_laws.specs.Names.{AreDistinct, IsNewName, hit_names_of, names_added_by, names_of_each, own_names_from, names_added, AreNewNames}
 use Rattle.smv_lexer.specs.Tokens.{IsWord}
-use Rattle.smv_language.specs.PrintedTokens.{IsName}
 use Rattle.cut_reach_laws.proofs.Naming.{each_of}
 use Rattle.cut_reach_laws.proofs.Words.{cause_words, cause_distinct, own_words, owns_distinct}
 use Rattle.std.proofs.lemmas.Bool.{or_parts as neither}

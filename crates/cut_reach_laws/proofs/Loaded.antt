@@ -1,8 +1,7 @@
 -- What is known of a model with history is known of the model: its modes are of the state, and its inputs as many.
 use Rattle.std.proofs.Common.{◌≡◌, ℕ, suc, ◌≤◌, Bool, true, false, ◌||◌, List, [], ◌∷◌, ◌++◌, length, Some, refl, sym, ◌∙◌, ap, arith}
 use Rattle.std.specs.Prelude.{slice_get}
-use Rattle.smv_language.specs.Trace.{Each}
-use Rattle.smv_language.specs.Flat.{flat_variable, FlatModel}
+use Rattle.smv_language.specs.Language.{Each, flat_variable, FlatModel}
 use Rattle.smv_flat_laws.specs.FlatTrace.{IsModeOf}
 use Rattle.smv_flat_laws.specs.History.{Mode, bit_variables, bits_at_first, with_history}
 use Rattle.sat_encoding_laws.specs.Inputs.{is_input_variable, reads_input}

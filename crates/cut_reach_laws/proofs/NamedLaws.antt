@@ -1,8 +1,7 @@
 -- Causes that break no rule leave names apart, and causes that are spelled have words as names.
 use Rattle.std.proofs.Common.{List, [], subst}
 use Rattle.smv_lexer.specs.Tokens.{IsWord}
-use Rattle.smv_language.specs.Lexemes.{Lexeme}
-use Rattle.smv_language.specs.Trace.{Each}
+use Rattle.smv_language.specs.Language.{Lexeme, Each}
 use Rattle.smv_language.proofs.Spelled.{AllFit, many_writable, tokens_fit}
 use Rattle.fault_cause_laws.specs.Causes.{IsCauseOf}
 use Rattle.fault_cause_laws.specs.CausesText.{WrittenCause, SpellsCause, a_cause}

@@ -2,11 +2,7 @@
 use Rattle.std.proofs.Common.{◌≡◌, ◌≢◌, ◌⊎◌, inl, inr, ℕ, zero, suc, ◌+◌, ◌≤◌, List, [], ◌∷◌, ◌++◌, length, Some, reverse, refl, sym, ◌∙◌, ap, subst, arith}
 use Rattle.std.specs.Prelude.{slice_get, pos}
 use Rattle.smv_language.specs.declared.program.Member.TheVariants as member
-use Rattle.smv_language.specs.ProgramTree.{Text, DeclaredTree, boolean, range, members}
-use Rattle.smv_language.specs.PrintedTokens.{IsName, AreNames}
-use Rattle.smv_language.specs.Trace.{Each}
-use Rattle.smv_language.specs.WritableProgram.{IsWritableType}
-use Rattle.smv_language.specs.Flat.{FlatVariable, FlatFormula, FlatModel}
+use Rattle.smv_language.specs.Language.{Text, DeclaredTree, boolean, range, members, IsName, AreNames, Each, IsWritableType, FlatVariable, FlatFormula, FlatModel, AreApart}
 use Rattle.smv_flat_laws.specs.History.{Mode}
 use Rattle.smv_flat_laws.proofs.Conditions.{each_at}
 use Rattle.fault_cause_laws.specs.Additions.{with_addition}
@@ -16,7 +12,6 @@ use Rattle.fault_cause_laws.specs.Causes.{CommonCause}
 use Rattle.fault_cause_laws.specs.StagedModel.{age_name, event_name, quiet_name, now_name, hit_name, own_name, none_name, self_name, added_variable, stands_of, age_at_first, age_at_step, with_age, event_at_each, with_event, hit_at_first, landed_at_each, hit_at_step, with_hit, with_hits, with_cause, with_each_cause, age_numbers, windows_on, joined, own_at_first, own_at_step, with_own, with_owns, with_causes}
 use Rattle.cut_reach_laws.specs.Names.{AreDistinct, IsNewName, hit_names_of, names_added_by, names_of_each, own_names_from, names_added, AreNewNames}
 use Rattle.base_values.proofs.ListLaws.{push_get}
-use Rattle.smv_language.specs.Texts.{AreApart}
 
 -- ---- places of lists
 

@@ -3,14 +3,11 @@ use Rattle.std.proofs.Common.{◌≡◌, ℕ, ◌+◌, ◌<◌, false, ◌||◌,
 use Rattle.std.specs.Prelude.{sum_by}
 use Rattle.std.proofs.lemmas.List.{append-nil}
 use Rattle.std.proofs.lemmas.List.Sums.{sum_by-append, sum_by-cons}
-use Rattle.smv_language.specs.ProgramTree.{Text}
-use Rattle.smv_language.specs.Flat.{flat_variable, FlatFormula, FlatModel}
+use Rattle.smv_language.specs.Language.{Text, flat_variable, FlatFormula, FlatModel, Tree, FlatLeaf}
 use Rattle.smv_flat_laws.proofs.Lists.{get_end as got_end}
 use Rattle.smv_type_laws.specs.Laws.{IsClosed}
 use Rattle.sat_encoding_laws.specs.Layout.{input_width, input_bits}
 use Rattle.sat_encoding_laws.specs.Encodable.{is_input_name, IsStateBoolean, IsFitTop}
-use Rattle.smv_language.specs.Tree.{Tree}
-use Rattle.smv_language.specs.Flat.{FlatLeaf}
 use Rattle.fault_orders.specs.Stage.{order_variable, order_at_first, order_at_step, with_order}
 use Rattle.cut_reach_laws.proofs.Grown.{HasClauses, grown, AreOwnFormulas, clauses_grown}
 use Rattle.cut_reach_laws.proofs.Fits.{bit_quiet, bit_within, fit_grown}

@@ -1,8 +1,7 @@
 -- A lawful top event gives one truth value at each moment, and so does a condition that breaks no rule.
 use Rattle.std.proofs.Common.{◌≡◌, Bool, false, List, [], ◌∷◌, ◌++◌, Some, refl, ap, ◌∙◌, sym, subst}
-use Rattle.smv_language.specs.Values.{Value, truth, number, symbol, one}
-use Rattle.smv_language.specs.Tree.{Tree}
-use Rattle.smv_language.specs.Flat.{FlatLeaf, FlatFormula, FlatModel, FlatGives}
+use Rattle.smv_language.specs.Language.{Value, symbol, one, Tree, FlatLeaf, FlatFormula, FlatModel, FlatGives}
+use Rattle.smv_language.specs.Values.{truth, number}
 use Rattle.smv_flat_laws.proofs.Conditions.{MayBe, may_one}
 use Rattle.smv_type_laws.specs.ExpressionKinds.{truth_class, KindRule}
 use Rattle.smv_type_laws.specs.Laws.{KeepsKind, IsClosed, ReadsOwn}

@@ -4,9 +4,7 @@ use Rattle.std.specs.Fmt.{decimal}
 use Rattle.std.proofs.lemmas.Fmt.{decimal_injective}
 use Rattle.smv_lexer.specs.Runs.{Runs, takes_word}
 use Rattle.smv_lexer.specs.Tokens.{IsWord}
-use Rattle.smv_language.specs.ProgramTree.{Text}
-use Rattle.smv_language.specs.PrintedTokens.{IsName}
-use Rattle.smv_language.specs.Trace.{Each}
+use Rattle.smv_language.specs.Language.{Text, IsName, Each}
 use Rattle.smv_language.proofs.TokenTexts.{decimal_digits}
 use Rattle.smv_flat_laws.specs.History.{Mode}
 use Rattle.fault_cause_laws.specs.Causes.{CommonCause}

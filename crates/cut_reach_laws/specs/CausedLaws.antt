@@ -1,10 +1,7 @@
 -- When the model with causes can be searched, and that its names differ.
 use Rattle.std.specs.Prelude.{◌≡◌, ℕ, ◌<◌, ◌≤◌, ◌^◌, List, [], length}
-use Rattle.smv_language.specs.Tree.{Tree}
-use Rattle.smv_language.specs.Trace.{Each}
-use Rattle.smv_language.specs.ProgramTree.{ProgramTree}
+use Rattle.smv_language.specs.Language.{Tree, Each, ProgramTree, FlatLeaf, FlatModel, AreApart}
 use Rattle.smv_lexer.specs.Tokens.{IsWord}
-use Rattle.smv_language.specs.Flat.{FlatLeaf, FlatModel}
 use Rattle.smv_flat_laws.specs.History.{Mode, with_history}
 use Rattle.smv_flat_laws.specs.Model.{IsFlatOf}
 use Rattle.smv_flat_laws.specs.Rules.{IsAccepted}
@@ -22,7 +19,6 @@ use Rattle.fault_cause_laws.specs.Causes.{CommonCause, IsCauseOf}
 use Rattle.fault_cause_laws.specs.CausesText.{WrittenCause, BytesSpellCauses}
 use Rattle.fault_cause_laws.specs.CauseRules.{AreLawful, AreReadAs}
 use Rattle.fault_cause_laws.specs.StagedModel.{with_causes, events_of}
-use Rattle.smv_language.specs.Texts.{AreApart}
 use Rattle.sat_encoding_laws.specs.Variables.{most_asked_cost}
 
 -- The model is encodable, its faults are modes of its state, the causes strike them, and the top event fits; inputs and event are small.

@@ -1,9 +1,7 @@
 -- What a search of a model without faults says, and a certificate that lists no set.
 use Rattle.std.specs.Prelude.{◌≡◌, ℕ, ◌+◌, nat_le, Bool, true, IsTrue, List, [], Some, length, slice_get}
-use Rattle.smv_language.specs.Tree.{Tree}
-use Rattle.smv_language.specs.Values.{Value}
+use Rattle.smv_language.specs.Language.{Tree, Value, FlatLeaf, FlatModel}
 use Rattle.base_values.specs.declared.value.Value.{Value as Numbered}
-use Rattle.smv_language.specs.Flat.{FlatLeaf, FlatModel}
 use Rattle.smv_flat_laws.specs.FlatTrace.{IsFlatTrace}
 use Rattle.sat_encoding_laws.specs.FlatTraces.{ReachesTop}
 use Rattle.sat_encoding_laws.specs.EncodedLaws.{AreOwn}

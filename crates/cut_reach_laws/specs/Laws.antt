@@ -1,8 +1,7 @@
 -- When a staged model can be searched.
 use Rattle.std.specs.Prelude.{ℕ, ◌≤◌, List, [], Option, length}
 use Rattle.base_values.specs.declared.limits.TheConstants.{MOST_FAULTS, MOST_TOP_COST}
-use Rattle.smv_language.specs.Tree.{Tree}
-use Rattle.smv_language.specs.Flat.{FlatLeaf, FlatModel}
+use Rattle.smv_language.specs.Language.{Tree, FlatLeaf, FlatModel}
 use Rattle.smv_flat_laws.specs.History.{Mode}
 use Rattle.smv_type_laws.specs.Costs.{cost_of}
 use Rattle.smv_type_laws.specs.Models.{IsTyped}

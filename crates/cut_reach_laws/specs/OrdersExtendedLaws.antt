@@ -1,9 +1,7 @@
 -- What a search against a claim says of extended traces.
 use Rattle.std.specs.Prelude.{◌≡◌, ℕ, ◌-◌, Bool, IsTrue, List, Option, Some, None, length, slice_get, false, [], ◌∷◌, ◌++◌}
-use Rattle.smv_language.specs.Tree.{Tree}
-use Rattle.smv_language.specs.ProgramTree.{Formula, ProgramTree}
-use Rattle.smv_language.specs.Values.{Value, truth}
-use Rattle.smv_language.specs.Flat.{FlatLeaf, FlatModel}
+use Rattle.smv_language.specs.Language.{Tree, Formula, ProgramTree, Value, FlatLeaf, FlatModel}
+use Rattle.smv_language.specs.Values.{truth}
 use Rattle.smv_flat_laws.specs.History.{Mode}
 use Rattle.smv_flat_laws.specs.FlatTrace.{IsFlatTrace}
 use Rattle.smv_type_laws.specs.ExpressionKinds.{truth_class}

@@ -1,9 +1,7 @@
 -- What is wrong with a line.
 use Rattle.std.proofs.Common.{◌≡◌, ◌≢◌, inl, inr, ℕ, ◌<◌, ◌≤◌, List, [], ◌∷◌, ◌++◌, length, Some, sym, ◌∙◌, ap, subst, arith}
 use Rattle.std.specs.Prelude.{slice_get, IsTrue}
-use Rattle.smv_language.specs.Values.{Value, value_text}
-use Rattle.smv_language.specs.Trace.{in_domain}
-use Rattle.smv_language.specs.Flat.{FlatVariable, FlatModel}
+use Rattle.smv_language.specs.Language.{Value, value_text, in_domain, FlatVariable, FlatModel, told_value}
 use Rattle.std.proofs.lemmas.Option.{slice_get_within, same_Some as some_same}
 use Rattle.cut_text_laws.specs.Lines.{Line}
 use Rattle.cut_text_laws.specs.TraceText.{moment_line, equation}
@@ -18,7 +16,6 @@ use Rattle.cut_report.specs.Cuts.{IsNoEquation}
 use Rattle.cut_report.specs.Faults.{IsCauseOf}
 use Rattle.cut_report.specs.Lookups.{IsNamedAt, HasNoValue}
 use Rattle.cut_report.specs.TraceReading.{IsGiven, IsAfter, IsTaken, IsRefusal, IsRefusedLine}
-use Rattle.smv_language.specs.NumberedValues.{told_value}
 use Rattle.cut_text_laws.proofs.LineJudged.{number_least}
 use Rattle.base_values.proofs.ListLaws.{get_within}
 

@@ -1,8 +1,7 @@
 -- The trace of the lines of a text, from the valuations whose values are said in its moments.
 use Rattle.std.proofs.Common.{◌≡◌, ◌⊎◌, inl, inr, ℕ, zero, suc, ◌+◌, ◌≤◌, List, [], ◌∷◌, ◌++◌, length, refl, sym, ◌∙◌, ap, subst, arith, append_assoc, length-append, Some}
 use Rattle.std.specs.Prelude.{slice_get}
-use Rattle.smv_language.specs.Values.{Value, value_text}
-use Rattle.smv_language.specs.Flat.{FlatVariable, FlatModel}
+use Rattle.smv_language.specs.Language.{Value, value_text, FlatVariable, FlatModel}
 use Rattle.smv_flat_laws.specs.FlatTrace.{AreInDomains}
 use Rattle.cut_text_laws.specs.Lines.{Line}
 use Rattle.cut_text_laws.specs.TraceText.{variable_text, moment_line, equation, value_line}

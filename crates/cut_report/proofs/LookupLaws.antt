@@ -2,17 +2,12 @@
 use Rattle.std.proofs.Common.{◌≡◌, ◌≢◌, ◌↔◌, ℕ, zero, suc, ◌<◌, Bool, true, false, List, [], ◌∷◌, length, Option, Some, None, refl, sym, ◌∙◌, ap, subst, arith}
 use Rattle.std.specs.Prelude.{slice_get, IsTrue, map}
 use Rattle.std.proofs.lemmas.Option.{same_Some as some_same, none-some as never}
-use Rattle.smv_language.specs.ProgramTree.{Text, DeclaredTree, boolean, range, members, instance, declared_tree, IsType}
-use Rattle.smv_language.specs.Texts.{same_text}
-use Rattle.smv_language.specs.Values.{Value, truth, number, symbol, value_text}
-use Rattle.smv_language.specs.Trace.{in_domain}
-use Rattle.smv_language.specs.WritableProgram.{IsWritableType}
+use Rattle.smv_language.specs.Language.{Text, DeclaredTree, boolean, range, members, instance, declared_tree, IsType, same_text, Value, symbol, value_text, in_domain, IsWritableType, FlatVariable, model_tree, variable_tree, told_value}
+use Rattle.smv_language.specs.Values.{truth, number}
 use Rattle.smv_language.proofs.ValueLaws.{same_text_equal, same_text_refl}
-use Rattle.smv_language.specs.Flat.{FlatVariable}
 use Rattle.smv_type_laws.specs.Costs.{symbol_number}
 use Rattle.smv_language.specs.declared.model.FlatModel.{FlatModel}
 use Rattle.smv_language.specs.declared.model.Variable.{Variable}
-use Rattle.smv_language.specs.ModelTree.{model_tree, variable_tree}
 use Rattle.cut_text_laws.specs.TraceText.{variable_text}
 use Rattle.cut_text_laws.specs.TraceOfText.{IsPrintable}
 use Rattle.cut_text_laws.specs.TraceFaults.{IsNameIn}
@@ -23,7 +18,6 @@ use Rattle.base_values.specs.declared.value.Value.TheVariants.{Bool as ABool, Nu
 use Rattle.base_values.specs.Domains.{Has}
 use Rattle.smv_types.specs.SymbolNumbering.{number_from}
 use Rattle.smv_types.specs.Types.{StandsFor, AreValuesOf}
-use Rattle.smv_language.specs.NumberedValues.{told_value}
 use Rattle.cut_report.specs.Names.{printed_name}
 use Rattle.cut_text_laws.specs.TraceOfText.{HasItsSymbols}
 use Rattle.cut_report.specs.ValueReading.{HasText, IsShort, IsReadIn}

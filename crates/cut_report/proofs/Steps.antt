@@ -5,10 +5,7 @@ use Rattle.std.specs.List.{list_all}
 use Rattle.std.proofs.lemmas.Bool.Decides.{nat_tests}
 use Rattle.std.proofs.lemmas.Option.{slice_get_within, same_Some as some_same, none-some as never}
 use Rattle.std.proofs.lemmas.List.{length-set}
-use Rattle.smv_language.specs.ProgramTree.{Text}
-use Rattle.smv_language.specs.Values.{Value, value_text}
-use Rattle.smv_language.specs.Trace.{in_domain}
-use Rattle.smv_language.specs.Flat.{FlatVariable, FlatModel}
+use Rattle.smv_language.specs.Language.{Text, Value, value_text, in_domain, FlatVariable, FlatModel, told_value}
 use Rattle.smv_flat_laws.proofs.OneOfTwo.{set_get, set_own}
 use Rattle.cut_text_laws.specs.Lines.{Line}
 use Rattle.cut_text_laws.proofs.Separators.{same_front}
@@ -22,7 +19,6 @@ use Rattle.cut_text_laws.proofs.LineJudged.{LineIs, says, line_sound}
 use Rattle.base_values.specs.declared.value.Value.{Value as Numbered}
 use Rattle.cut_report.specs.declared.reading.Slot.{Slot}
 use Rattle.cut_report.specs.declared.reading.TraceReading.{TraceReading}
-use Rattle.smv_language.specs.NumberedValues.{told_value}
 use Rattle.cut_report.specs.TraceReading.{IsGiven, IsSilent, IsLast, IsSaid, AreSaid, IsAfter, values_of, with_last, Gives}
 use Rattle.cut_report.proofs.Positions.{last_or_in, sound_more, still, one_begins, front_begun, lacks_more, lacks_at_moment}
 use Rattle.std.proofs.lemmas.Bool.{and_parts as first_true}

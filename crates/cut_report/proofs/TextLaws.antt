@@ -2,16 +2,12 @@
 use Rattle.std.proofs.Common.{◌≡◌, ℕ, suc, ◌+◌, ◌<◌, ◌≤◌, List, [], ◌∷◌, ◌++◌, length, drop, Some, refl, sym, ◌∙◌, ap, arith, add-one, reverse}
 use Rattle.std.specs.Prelude.{slice_get, map}
 use Rattle.std.proofs.lemmas.List.{append_assoc, append-nil, length-map, length-reverse, reverse-reverse}
-use Rattle.smv_language.specs.ProgramTree.{Text}
-use Rattle.smv_language.specs.Text.{dotted_text}
-use Rattle.smv_language.specs.Flat.{FlatVariable, FlatModel}
+use Rattle.smv_language.specs.Language.{Text, dotted_text, FlatVariable, FlatModel, name_in, place_in, variable_tree, told_value, told_moment, told_trace}
 use Rattle.cut_text_laws.specs.Lines.{fed}
 use Rattle.smv_language.specs.declared.model.Variable.{Variable}
-use Rattle.smv_language.specs.ModelTree.{name_in, place_in, variable_tree}
 use Rattle.base_values.specs.declared.value.Value.{Value as Numbered}
 use Rattle.cut_text_laws.specs.TraceText.{value_line, value_lines, trace_lines}
 use Rattle.cut_report.specs.Names.{printed_name}
-use Rattle.smv_language.specs.NumberedValues.{told_value, told_moment, told_trace}
 use Rattle.smv_language.proofs.ListLaws.{drop_past, drop_item}
 
 pub ruleset text_rules = (append_assoc, append-nil, length-map)

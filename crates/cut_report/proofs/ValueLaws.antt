@@ -2,8 +2,7 @@
 use Rattle.std.proofs.Common.{◌≡◌, inl, inr, ℕ, zero, suc, ◌+◌, ◌<◌, Bool, true, false, List, [], ◌∷◌, length, Option, Some, None, refl, sym, ◌∙◌, ap, subst, arith, ℤ}
 use Rattle.std.specs.Prelude.{slice_get, if◌then◌else◌}
 use Rattle.std.proofs.lemmas.Fmt.{signed_decimal_injective}
-use Rattle.smv_language.specs.ProgramTree.{Text}
-use Rattle.smv_language.specs.Texts.{same_text, text_or_none}
+use Rattle.smv_language.specs.Language.{Text, same_text, text_or_none}
 use Rattle.smv_language.proofs.ValueLaws.{same_text_equal, same_text_refl}
 use Rattle.smv_type_laws.specs.Costs.{symbol_number}
 use Rattle.base_values.specs.declared.domain.Domain.{Domain}

@@ -4,11 +4,7 @@ use Rattle.std.specs.Prelude.{slice_get, IsTrue, if◌then◌else◌}
 use Rattle.std.specs.List.{AllByRecursion}
 use Rattle.std.proofs.lemmas.Option.{slice_get_within, none-some as never, same_Some as some_same}
 use Rattle.std.proofs.lemmas.List.{length-replicate, append-nil as append_none}
-use Rattle.smv_language.specs.ProgramTree.{Text}
-use Rattle.smv_language.specs.Texts.{same_text}
-use Rattle.smv_language.specs.Values.{Value, value_text}
-use Rattle.smv_language.specs.Trace.{in_domain}
-use Rattle.smv_language.specs.Flat.{FlatVariable, FlatModel}
+use Rattle.smv_language.specs.Language.{Text, same_text, Value, value_text, in_domain, FlatVariable, FlatModel, told_value, told_moment, told_trace}
 use Rattle.smv_flat_laws.specs.FlatTrace.{AreInDomains}
 use Rattle.cut_text_laws.specs.Lines.{Line, fed, IsLine}
 use Rattle.cut_text_laws.proofs.Cuts.{line_lies, length_more, fed_long, rest_shorter}
@@ -27,7 +23,6 @@ use Rattle.cut_report.specs.declared.reading.TraceReading.{TraceReading}
 use Rattle.base_values.specs.Separators.{IsLineThen}
 use Rattle.cut_report.specs.Faults.{IsFaultOf}
 use Rattle.cut_report.specs.TraceReading.{IsGiven, IsSaid, IsAfter, with_last, ended, IsUnfinished, IsFinished}
-use Rattle.smv_language.specs.NumberedValues.{told_value, told_moment, told_trace}
 use Rattle.cut_report.proofs.Positions.{sound_are}
 use Rattle.cut_report.proofs.LookupLaws.{IsImage, image}
 use Rattle.cut_report.proofs.Steps.{IsEnded, moment_ended}

@@ -1,11 +1,9 @@
 -- What an analysis found, by number, as definitions see it.
 use Rattle.std.specs.Prelude.{ℕ, Bool, List, map}
-use Rattle.smv_language.specs.ProgramTree.{Text}
-use Rattle.smv_language.specs.Values.{Value}
+use Rattle.smv_language.specs.Language.{Text, Value, told_trace}
 use Rattle.base_values.specs.declared.value.Value.{Value as Numbered}
 use Rattle.cut_text_laws.specs.Analysis.{Analysis, told_ending}
 use Rattle.base_values.specs.declared.ending.Ending.{Ending as CodeEnding}
-use Rattle.smv_language.specs.NumberedValues.{told_trace}
 
 -- the values of its traces
 abbrev pub told_traces : List Text → List (List (List Numbered)) → List (List (List Value))

@@ -1,8 +1,7 @@
 -- The lines of faults in a report.
 use Rattle.std.specs.Prelude.{ℕ, ◌+◌, List, [], ◌∷◌, ◌++◌, length, codes}
 use Rattle.std.specs.Fmt.{decimal}
-use Rattle.smv_language.specs.ProgramTree.{Text, Path}
-use Rattle.smv_language.specs.Text.{dotted_text}
+use Rattle.smv_language.specs.Language.{Text, Path, dotted_text}
 
 -- a fault's line: its number and its name
 abbrev pub fault_line : ℕ → Path → Text

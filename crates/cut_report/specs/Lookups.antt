@@ -1,13 +1,9 @@
 -- Variables by their printed names, and values by their texts.
 use Rattle.std.specs.Prelude.{◌≡◌, ◌≢◌, ℕ, IsTrue, Option, Some, None, slice_get}
-use Rattle.smv_language.specs.ProgramTree.{Text}
-use Rattle.smv_language.specs.Values.{Value, value_text}
-use Rattle.smv_language.specs.Trace.{in_domain}
-use Rattle.smv_language.specs.Flat.{FlatVariable, FlatModel}
+use Rattle.smv_language.specs.Language.{Text, Value, value_text, in_domain, FlatVariable, FlatModel, told_value}
 use Rattle.cut_text_laws.specs.TraceText.{variable_text}
 use Rattle.cut_text_laws.specs.TraceFaults.{IsNameIn}
 use Rattle.base_values.specs.declared.value.Value.{Value as Numbered}
-use Rattle.smv_language.specs.NumberedValues.{told_value}
 
 -- the variable of this number is printed so
 pub record IsNamedAt (m : FlatModel) (name : Text) (i : ℕ) : Type 0 where

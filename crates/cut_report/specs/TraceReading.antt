@@ -2,10 +2,7 @@
 use Rattle.std.specs.Prelude.{◌≡◌, ◌≢◌, ◌⊎◌, ℕ, suc, ◌+◌, ◌-◌, ◌<◌, ◌≤◌, nat_eq, nat_lt, Bool, ◌&&◌, IsTrue, List, [], ◌∷◌, ◌++◌, length}
 use Rattle.std.specs.Prelude.{map, Some, slice_get, slice_set, if◌then◌else◌}
 use Rattle.std.specs.List.{list_all}
-use Rattle.smv_language.specs.ProgramTree.{Text}
-use Rattle.smv_language.specs.Values.{Value}
-use Rattle.smv_language.specs.Trace.{in_domain}
-use Rattle.smv_language.specs.Flat.{FlatVariable, FlatModel}
+use Rattle.smv_language.specs.Language.{Text, Value, in_domain, FlatVariable, FlatModel, told_value}
 use Rattle.cut_text_laws.specs.Lines.{Line}
 use Rattle.cut_text_laws.specs.TraceText.{variable_text, equation, value_line}
 use Rattle.cut_text_laws.specs.TraceFaults.{moments_after, IsEquation, IsNameIn, AreSound, Lacks}
@@ -16,7 +13,6 @@ use Rattle.cut_report.specs.declared.fault.LineCause.{LineCause}
 use Rattle.cut_report.specs.declared.fault.LineCause.TheVariants as cause
 use Rattle.cut_report.specs.declared.fault.TraceFault.{TraceFault}
 use Rattle.cut_report.specs.declared.fault.TraceFault.TheVariants as fault
-use Rattle.smv_language.specs.NumberedValues.{told_value}
 use Rattle.cut_report.specs.Cuts.{IsNoEquation}
 use Rattle.cut_report.specs.Lookups.{IsNamedAt, IsValueAt, HasNoValue}
 

@@ -1,15 +1,13 @@
 -- What a text is read as, by a domain.
 use lib.Signed.{mag}
 use Rattle.std.specs.Prelude.{◌≡◌, ◌⊎◌, ◌<◌, ◌^◌, List, Option, Some, None}
-use Rattle.smv_language.specs.ProgramTree.{Text}
+use Rattle.smv_language.specs.Language.{Text, told_value, value_text}
 use Rattle.base_values.specs.declared.domain.Domain.{Domain}
 use Rattle.base_values.specs.declared.domain.Domain.TheVariants as domain
 use Rattle.base_values.specs.declared.value.Value.{Value as Numbered}
 use Rattle.base_values.specs.declared.value.Value.TheVariants.{Bool as ABool, Num, Sym}
 use Rattle.base_values.specs.Domains.{Has}
 use Rattle.smv_types.specs.Types.{StandsFor}
-use Rattle.smv_language.specs.NumberedValues.{told_value}
-use Rattle.smv_language.specs.Values.{value_text}
 
 -- the value has this text; a symbol has the number of its first place
 pub record HasText (symbols : List Text) (text : Text) (v : Numbered) : Type 0 where

@@ -1,9 +1,7 @@
 -- An accepted program has few variables, and so few bits of inputs.
 use Rattle.std.proofs.Common.{◌≡◌, ℕ, ◌+◌, ◌^◌, ◌≤◌, List, [], ◌∷◌, ◌++◌, length, refl, sym, ap, ◌∙◌, subst, arith, ⊎_elim}
 use Rattle.std.proofs.lemmas.List.{length-append, append_assoc, append-nil}
-use Rattle.smv_language.specs.ProgramTree.{DeclaredTree, boolean, range, members, instance, ProgramTree}
-use Rattle.smv_language.specs.Trace.{Each}
-use Rattle.smv_language.specs.Flat.{FlatModel}
+use Rattle.smv_language.specs.Language.{DeclaredTree, boolean, range, members, instance, ProgramTree, Each, FlatModel}
 use Rattle.smv_flat_laws.specs.History.{Mode, with_history, bit_variables}
 use Rattle.smv_flat_laws.specs.Items.{Visit, visits, variables_of, variable_declared}
 use Rattle.smv_flat_laws.specs.Model.{IsVariableOf, IsFlatOf}

@@ -1,15 +1,12 @@
 -- A report of an answer prints the analysis that it tells.
 use Rattle.std.proofs.Common.{◌≡◌, ℕ, zero, suc, List, [], ◌∷◌, map, refl, ap}
 use Rattle.std.specs.Prelude.{slice_get, slice_index_or}
-use Rattle.smv_language.specs.ProgramTree.{Text}
-use Rattle.smv_language.specs.Values.{symbol}
+use Rattle.smv_language.specs.Language.{Text, symbol, told_value, told_moment, told_trace, text_or_none}
 use Rattle.base_values.specs.declared.value.Value.{Value}
 use Rattle.base_values.specs.declared.value.Value.TheVariants.{Bool as ABool, Num, Sym}
-use Rattle.smv_language.specs.NumberedValues.{told_value, told_moment, told_trace}
 use Rattle.cut_report.specs.AnalysisView.{told_traces}
 use Rattle.cut_search.specs.Values.{value_of, values_of, trace_of}
 use Rattle.cut_report_laws.specs.Laws.{AnswersArePrinted}
-use Rattle.smv_language.specs.Texts.{text_or_none}
 
 pub same_text_at : (xs : List Text) (i : ℕ) → text_or_none (slice_get xs i) ≡ slice_index_or xs i []
 same_text_at [] i = refl

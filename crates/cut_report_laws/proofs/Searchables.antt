@@ -1,12 +1,7 @@
 -- The flat model of an extension, with its faults and a top event that fits it, can be searched.
 use Rattle.std.proofs.Common.{◌≡◌, ℕ, suc, List, [], ◌∷◌, Some, refl, sym, ap, ◌∙◌, subst}
 use Rattle.std.specs.Prelude.{slice_get}
-use Rattle.smv_language.specs.Tree.{Tree}
-use Rattle.smv_language.specs.ProgramTree.{Text, Formula, DeclaredTree, boolean, range, members, instance, ProgramTree}
-use Rattle.smv_language.specs.Scope.{Place, Role, state, a_variable, kind_in}
-use Rattle.smv_language.specs.Trace.{Each, IsVariable, EachBoth}
-use Rattle.smv_language.specs.WritableProgram.{IsWritableType}
-use Rattle.smv_language.specs.Flat.{FlatLeaf, FlatVariable, FlatModel}
+use Rattle.smv_language.specs.Language.{Tree, Text, Formula, DeclaredTree, boolean, range, members, instance, ProgramTree, Place, Role, state, a_variable, kind_in, Each, IsVariable, EachBoth, IsWritableType, FlatLeaf, FlatVariable, FlatModel}
 use Rattle.smv_flat_laws.specs.History.{Mode}
 use Rattle.fault_instructions.specs.Instructions.{InstructionTree, slices_of}
 use Rattle.fault_instructions.specs.AddedNames.{mode_variable}

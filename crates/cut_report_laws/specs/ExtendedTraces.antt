@@ -1,9 +1,6 @@
 -- When what an analysis of an extension finds is right.
 use Rattle.std.specs.Prelude.{◌≡◌, ◌↔◌, ℕ, ◌+◌, ◌≤◌, true, List, Some, length, slice_get}
-use Rattle.smv_language.specs.ProgramTree.{Formula, ProgramTree}
-use Rattle.smv_language.specs.Values.{Value}
-use Rattle.smv_language.specs.Trace.{Each}
-use Rattle.smv_language.specs.Flat.{FlatModel}
+use Rattle.smv_language.specs.Language.{Formula, ProgramTree, Value, Each, FlatModel}
 use Rattle.fault_instructions.specs.Instructions.{InstructionTree}
 use Rattle.fault_weave.specs.Faults.{Fault}
 use Rattle.fault_weave.specs.ExtensionTraces.{Moment, IsExtended}

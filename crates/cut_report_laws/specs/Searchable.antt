@@ -1,9 +1,6 @@
 -- When the flat model of an extension, with its faults and a top event, can be searched.
 use Rattle.std.specs.Prelude.{◌≤◌, ◌<◌, ◌^◌, List, length}
-use Rattle.smv_language.specs.Tree.{Tree}
-use Rattle.smv_language.specs.ProgramTree.{Formula, ProgramTree}
-use Rattle.smv_language.specs.WritableProgram.{IsWritableProgram}
-use Rattle.smv_language.specs.Flat.{FlatLeaf, FlatModel}
+use Rattle.smv_language.specs.Language.{Tree, Formula, ProgramTree, IsWritableProgram, FlatLeaf, FlatModel}
 use Rattle.smv_flat_laws.specs.History.{Mode, with_history}
 use Rattle.fault_instructions.specs.Instructions.{InstructionTree}
 use Rattle.fault_weave.specs.Faults.{Fault}

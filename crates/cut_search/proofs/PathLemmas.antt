@@ -3,8 +3,7 @@ use Rattle.std.proofs.Common.{◌≡◌, ℕ, zero, suc, ◌+◌, ◌-◌, ◌<�
 use Rattle.std.proofs.lemmas.List.{length-map, length-append}
 use Rattle.std.proofs.lemmas.Bool.{cases_lt, false_from_ne_true as refuted}
 use Rattle.std.specs.Prelude.{slice_index_or, slice_get, if◌then◌else◌}
-use Rattle.smv_language.specs.ProgramTree.{Text}
-use Rattle.smv_language.specs.Values.{Value}
+use Rattle.smv_language.specs.Language.{Text, Value}
 use Rattle.base_values.specs.declared.value.Value.{Value as AValue}
 use Rattle.smv_flat_laws.specs.History.{with_history, bit_variables}
 use Rattle.smv_flat_laws.specs.FlatTrace.{AreInDomains}

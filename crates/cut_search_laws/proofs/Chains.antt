@@ -2,8 +2,7 @@
 use Rattle.std.proofs.Common.{◌≡◌, ℕ, zero, suc, ◌+◌, ◌-◌, ◌<◌, ◌≤◌, true, false, List, [], ◌∷◌, length, drop, Some, sym, subst, arith, inl, inr}
 use Rattle.std.proofs.lemmas.List.{length-drop}
 use Rattle.std.specs.Prelude.{slice_get, slice_index_or}
-use Rattle.smv_language.specs.Values.{Value}
-use Rattle.smv_language.specs.Trace.{Each, AtSome}
+use Rattle.smv_language.specs.Language.{Value, Each, AtSome}
 use Rattle.smv_flat_laws.specs.History.{with_history}
 use Rattle.smv_flat_laws.specs.FlatTrace.{IsFlatTrace}
 use Rattle.smv_flat_laws.proofs.Lists.{each_map, each_of_map}

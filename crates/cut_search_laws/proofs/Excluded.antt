@@ -2,10 +2,8 @@
 use Rattle.std.proofs.Common.{◌≡◌, ℕ, zero, suc, ◌+◌, ◌-◌, ◌<◌, ◌≤◌, Bool, true, false, List, [], ◌∷◌, ◌++◌, length, refl, sym, ap, ◌∙◌, subst, arith, ◌⊎◌, inl, inr}
 use Rattle.std.specs.Prelude.{Contains}
 use Rattle.std.proofs.lemmas.List.FromFn.{length-range_with_len}
-use Rattle.smv_language.specs.Values.{Value, truth}
-use Rattle.smv_language.specs.Evaluate.{evaluate}
-use Rattle.smv_language.specs.Trace.{Each, EachPair, AtSome}
-use Rattle.smv_language.specs.Flat.{FlatModel, FlatMay, leaves_at}
+use Rattle.smv_language.specs.Language.{Value, evaluate, Each, EachPair, AtSome, FlatModel, FlatMay, leaves_at}
+use Rattle.smv_language.specs.Values.{truth}
 use Rattle.smv_flat_laws.specs.History.{with_history}
 use Rattle.smv_flat_laws.specs.FlatTrace.{AreInDomains, IsFlatMoment, IsFlatStep, IsFlatTrace, bits_after, told_from, IsOwnFormula}
 use Rattle.smv_flat_laws.proofs.Lists.{each_map}

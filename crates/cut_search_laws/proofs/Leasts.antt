@@ -1,9 +1,6 @@
 -- The least values of an encodable model, and its valuations with the least inputs.
 use Rattle.std.proofs.Common.{◌≡◌, ◌≤ℤ◌, List, [], ◌∷◌, Some, refl, sym, ap, subst, arith}
-use Rattle.smv_language.specs.ProgramTree.{Text, DeclaredTree, boolean, range, members, instance}
-use Rattle.smv_language.specs.Trace.{Each}
-use Rattle.smv_language.specs.Values.{opposite}
-use Rattle.smv_language.specs.Flat.{FlatVariable}
+use Rattle.smv_language.specs.Language.{Text, DeclaredTree, boolean, range, members, instance, Each, opposite, FlatVariable}
 use Rattle.smv_type_laws.specs.DeclaredKinds.{judged_declared}
 use Rattle.smv_type_laws.specs.Intervals.{Interval}
 use Rattle.smv_type_laws.specs.LeastValues.{HasValues, least_values}

@@ -3,9 +3,8 @@ use Rattle.std.proofs.Common.{◌≡◌, ℕ, zero, suc, ◌+◌, ◌-◌, ◌*�
 use Rattle.std.proofs.lemmas.Bool.{cases_lt}
 use Rattle.std.specs.Prelude.{slice_index_or}
 use Rattle.std.proofs.lemmas.List.FromFn.{length-range_with_len}
-use Rattle.smv_language.specs.Values.{Value, truth}
-use Rattle.smv_language.specs.Trace.{Each, EachPair, AtSome, AtFirst}
-use Rattle.smv_language.specs.Flat.{FlatModel, FlatMay}
+use Rattle.smv_language.specs.Language.{Value, Each, EachPair, AtSome, AtFirst, FlatModel, FlatMay}
+use Rattle.smv_language.specs.Values.{truth}
 use Rattle.smv_flat_laws.specs.History.{Mode, with_history}
 use Rattle.smv_flat_laws.specs.FlatTrace.{AreInDomains, IsFlatMoment, IsFlatStep, IsFlatTrace, bits_after, told_from}
 use Rattle.smv_flat_laws.proofs.Lists.{each_of_map}

@@ -1,7 +1,6 @@
 -- The lists of an encodable model with history are those that a search for cut sets and a certificate stand on.
 use Rattle.std.specs.Prelude.{ℕ, List}
-use Rattle.smv_language.specs.Tree.{Tree}
-use Rattle.smv_language.specs.Flat.{FlatLeaf, FlatModel}
+use Rattle.smv_language.specs.Language.{Tree, FlatLeaf, FlatModel}
 use Rattle.smv_flat_laws.specs.History.{Mode, with_history}
 use Rattle.sat_clauses.specs.Literal.{Literal}
 use Rattle.sat_clauses.specs.States.{IsInvariant}

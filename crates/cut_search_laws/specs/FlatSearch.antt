@@ -1,8 +1,7 @@
 -- What a search for cut sets stands on, and its laws.
 use Rattle.std.specs.Prelude.{◌≡◌, ◌↔◌, ℕ, ◌+◌, ◌-◌, ◌<◌, false, List, [], ◌∷◌, ◌++◌, Some, length, map, drop, slice_get, slice_index_or}
 use Rattle.std.specs.Prelude.{take, All}
-use Rattle.smv_language.specs.Values.{Value}
-use Rattle.smv_language.specs.Trace.{Each, AtSome}
+use Rattle.smv_language.specs.Language.{Value, Each, AtSome}
 use Rattle.smv_flat_laws.specs.History.{with_history}
 use Rattle.smv_flat_laws.specs.FlatTrace.{AreInDomains, IsFlatTrace, NamesOwn, IsModeOf}
 use Rattle.sat_clauses.specs.Literal.{Literal}

@@ -1,8 +1,6 @@
 -- What a search for cut sets is about.
 use Rattle.std.specs.Prelude.{Bool, List}
-use Rattle.smv_language.specs.Tree.{Tree}
-use Rattle.smv_language.specs.Values.{Value}
-use Rattle.smv_language.specs.Flat.{FlatLeaf, FlatModel}
+use Rattle.smv_language.specs.Language.{Tree, Value, FlatLeaf, FlatModel}
 use Rattle.smv_flat_laws.specs.History.{Mode, with_history}
 use Rattle.sat_clauses.specs.declared.system.System.{System}
 use Rattle.sat_encoding_laws.specs.Bits as bits

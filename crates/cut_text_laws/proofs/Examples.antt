@@ -3,12 +3,9 @@ use Rattle.std.proofs.Common.{◌≡◌, refl, sym, ◌∙◌, ap, subst, arith,
 use Rattle.std.specs.Prelude.{slice_get}
 use Rattle.std.specs.Fmt.{digits}
 use Rattle.smv_language.specs.declared.program.Member.TheVariants as member
-use Rattle.smv_language.specs.ProgramTree.{boolean, members}
-use Rattle.smv_language.specs.Scope.{state}
-use Rattle.smv_language.specs.Values.{truth, number, symbol}
-use Rattle.smv_language.specs.Flat.{FlatVariable, FlatModel}
+use Rattle.smv_language.specs.Language.{boolean, members, state, symbol, FlatVariable, FlatModel, IsWritableType}
+use Rattle.smv_language.specs.Values.{truth, number}
 use Rattle.cut_text_laws.specs.TraceText.{variable_text, trace_text}
-use Rattle.smv_language.specs.WritableProgram.{IsWritableType}
 use Rattle.cut_text_laws.proofs.Words.{free_by_test}
 use Rattle.cut_text_laws.specs.TraceOfText.{IsLineWord, IsPrintable}
 use Rattle.cut_text_laws.proofs.OneTrace.{no_items}

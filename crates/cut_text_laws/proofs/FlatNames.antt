@@ -3,14 +3,8 @@
 use Rattle.std.proofs.Common.{◌≡◌, ℕ, zero, suc, ◌+◌, pos, List, [], ◌∷◌, length, Some, refl, sym, ◌∙◌, ap, subst, arith, reverse}
 use Rattle.std.specs.Prelude.{slice_get, flat_map, map}
 use mathlib.Core.List.{reverse_aux}
-use Rattle.smv_language.specs.ProgramTree.{Text, Path, DeclaredTree, boolean, range, members, instance, DeclTree, SectionTree, var, ivar, frozen, define, constants, assign, init, invar, trans, ModuleTree, ProgramTree}
-use Rattle.smv_language.specs.PrintedTokens.{IsName, AreNames}
-use Rattle.smv_language.specs.Scope.{Place, Role, state, input, frozen_role}
-use Rattle.smv_language.specs.Trace.{Each, IsInstance, IsVariable}
-use Rattle.smv_language.specs.Values.{Value, number}
-use Rattle.smv_language.specs.May.{Valuation}
-use Rattle.smv_language.specs.WritableProgram.{IsWritableType, IsWritableDeclared, IsWritableDecl, IsWritableTyped, IsWritableSection, IsWritableModule, IsWritableProgram}
-use Rattle.smv_language.specs.Flat.{FlatVariable, FlatModel, Numbers}
+use Rattle.smv_language.specs.Language.{Text, Path, DeclaredTree, boolean, range, members, instance, DeclTree, SectionTree, var, ivar, frozen, define, constants, assign, init, invar, trans, ModuleTree, ProgramTree, IsName, AreNames, Place, Role, state, input, frozen_role, Each, IsInstance, IsVariable, Value, Valuation, IsWritableType, IsWritableDeclared, IsWritableDecl, IsWritableTyped, IsWritableSection, IsWritableModule, IsWritableProgram, FlatVariable, FlatModel, Numbers}
+use Rattle.smv_language.specs.Values.{number}
 use Rattle.smv_flat_laws.specs.Items.{Item, a_declaration, a_definition, an_assignment, items_of_section, items_of, Visit, variable_declared}
 use Rattle.smv_flat_laws.specs.Model.{IsFlatOf}
 use Rattle.smv_flat_laws.specs.Rules.{IsAccepted}

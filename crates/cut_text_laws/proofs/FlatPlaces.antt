@@ -1,10 +1,8 @@
 -- The declarations of a flat model's variables.
 use Rattle.std.proofs.Common.{◌≡◌, ℕ, List, [], ◌∷◌, Option, Some, None, refl, sym, ◌∙◌, subst}
 use Rattle.std.specs.Prelude.{slice_get, codes}
-use Rattle.smv_language.specs.ProgramTree.{Text, Formula, DeclaredTree, ModuleTree, ProgramTree}
-use Rattle.smv_language.specs.Scope.{Place, Role, Kind, a_formal, a_variable, a_define, an_instance, undeclared, kind_in, kind_in_sections, formal_from, kind_after_formals, kind_at, module_of_kind, module_at}
-use Rattle.smv_language.specs.Trace.{IsInstance, IsVariable}
-use Rattle.smv_language.specs.Flat.{FlatVariable, FlatModel}
+use Rattle.smv_language.specs.Language.{Text, Formula, DeclaredTree, ModuleTree, ProgramTree, Place, Role, Kind, a_formal, a_variable, an_instance, undeclared, kind_in, kind_in_sections, formal_from, kind_after_formals, kind_at, module_of_kind, module_at, IsInstance, IsVariable, FlatVariable, FlatModel}
+use Rattle.smv_language.specs.Scope.{a_define}
 use Rattle.smv_flat_laws.specs.Items.{items_of, variables_of, visits}
 use Rattle.smv_flat_laws.specs.Model.{IsVariableOf, IsFlatOf}
 use Rattle.smv_flat_laws.specs.Rules.{IsAccepted, IsWalkable}

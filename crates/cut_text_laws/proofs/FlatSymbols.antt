@@ -3,10 +3,7 @@ use Rattle.std.proofs.Common.{◌≡◌, inr, suc, Bool, true, false, ◌||◌, 
 use Rattle.std.specs.Prelude.{flat_map, IsTrue}
 use Rattle.smv_language.specs.declared.program.Member.{Member}
 use Rattle.smv_language.specs.declared.program.Member.TheVariants as member
-use Rattle.smv_language.specs.ProgramTree.{Text, DeclaredTree, boolean, range, members, instance, ModuleTree}
-use Rattle.smv_language.specs.Texts.{same_text}
-use Rattle.smv_language.specs.Trace.{IsVariable, in_domain, is_member}
-use Rattle.smv_language.specs.Values.{symbol}
+use Rattle.smv_language.specs.Language.{Text, DeclaredTree, boolean, range, members, instance, ModuleTree, same_text, IsVariable, in_domain, is_member, symbol}
 use Rattle.smv_language.proofs.ValueLaws.{same_text_equal}
 use Rattle.smv_flat_laws.specs.Items.{a_declaration, items_of}
 use Rattle.smv_flat_laws.specs.Model.{symbols_of_members, symbols_of_type, symbols_of_item}

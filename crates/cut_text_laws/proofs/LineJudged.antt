@@ -6,13 +6,8 @@ use Rattle.std.specs.Fmt.{decimal, signed_decimal}
 use Rattle.std.specs.Str.Parse.{digits_value}
 use Rattle.std.proofs.lemmas.Fmt.{decimal_is_IsNumeral}
 use Rattle.std.proofs.lemmas.Bool.Decides.{nat_tests}
-use Rattle.smv_language.specs.Texts.{same_text}
-use Rattle.smv_language.specs.ProgramTree.{DeclaredTree}
-use Rattle.smv_language.specs.PrintedTokens.{IsEnd}
-use Rattle.smv_language.specs.Values.{Value, truth, number, symbol, value_text}
-use Rattle.smv_language.specs.Trace.{in_domain}
-use Rattle.smv_language.specs.WritableProgram.{IsWritableType, IsPlain}
-use Rattle.smv_language.specs.Flat.{FlatVariable, FlatModel}
+use Rattle.smv_language.specs.Language.{same_text, DeclaredTree, IsEnd, Value, symbol, value_text, in_domain, IsWritableType, IsPlain, FlatVariable, FlatModel}
+use Rattle.smv_language.specs.Values.{truth, number}
 use Rattle.cut_text_laws.specs.Lines.{Line, IsLine}
 use Rattle.cut_text_laws.proofs.Separators.{IsFree, same_front, no_separator, head_of, tail_of, both_of}
 use Rattle.cut_text_laws.specs.TraceText.{variable_text, moment_line, equation, value_line}

@@ -5,10 +5,7 @@ use Rattle.std.proofs.lemmas.List.{reverse-reverse, append-nil}
 use Rattle.smv_lexer.specs.Bytes.{is_word_byte}
 use Rattle.smv_lexer.specs.Runs.{Runs, takes_word, ends_word}
 use Rattle.smv_lexer.specs.Tokens.{IsWord}
-use Rattle.smv_language.specs.ProgramTree.{Text, Path}
-use Rattle.smv_language.specs.PrintedTokens.{IsName, AreNames}
-use Rattle.smv_language.specs.Text.{each_after, dotted_text}
-use Rattle.smv_language.specs.Flat.{FlatVariable}
+use Rattle.smv_language.specs.Language.{Text, Path, IsName, AreNames, each_after, dotted_text, FlatVariable}
 use Rattle.cut_text_laws.proofs.Separators.{IsFree, same_front, no_separator, head_of, tail_of, both_of}
 use Rattle.cut_text_laws.proofs.Words.{free_joined}
 use Rattle.cut_text_laws.specs.TraceOfText.{IsLineWord}

@@ -3,9 +3,7 @@ use Rattle.std.proofs.Common.{◌≡◌, ◌≢◌, ◌⊎◌, inl, inr, ℕ, ze
 use Rattle.std.specs.Prelude.{slice_get, IsTrue}
 use Rattle.std.specs.List.{AllByRecursion}
 use Rattle.std.specs.Fmt.{decimal}
-use Rattle.smv_language.specs.Values.{Value, value_text}
-use Rattle.smv_language.specs.Trace.{in_domain}
-use Rattle.smv_language.specs.Flat.{FlatVariable, FlatModel}
+use Rattle.smv_language.specs.Language.{Value, value_text, in_domain, FlatVariable, FlatModel, IsPlain}
 use Rattle.smv_flat_laws.specs.FlatTrace.{AreInDomains}
 use Rattle.cut_text_laws.specs.Lines.{Line}
 pub use Rattle.cut_text_laws.proofs.Separators.{head_of, tail_of, both_of}
@@ -17,7 +15,6 @@ use Rattle.cut_text_laws.specs.TraceOfText.{IsLineWord, IsPrintable, SaysOf, Sta
 use Rattle.cut_text_laws.specs.Laws.{OneTrace}
 use Rattle.cut_text_laws.proofs.Plain.{same_value_text, domain_plain, decimal_free}
 use Rattle.std.proofs.lemmas.Option.{same_Some as some_same, none-some as never}
-use Rattle.smv_language.specs.WritableProgram.{IsPlain}
 
 -- Lines.
 pub no_items : {A : Type 0} (x : A) (xs ys : List A) → ys ≡ [] → ys ≡ x ∷ xs → ⊥

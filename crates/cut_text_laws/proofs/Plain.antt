@@ -12,13 +12,8 @@ use Rattle.smv_lexer.specs.Runs.{Runs, takes_word, ends_word}
 use Rattle.smv_lexer.specs.Tokens.{IsWord}
 use Rattle.smv_language.specs.declared.program.Member.{Member}
 use Rattle.smv_language.specs.declared.program.Member.TheVariants as member
-use Rattle.smv_language.specs.ProgramTree.{Text, DeclaredTree, boolean, range, members, instance}
-use Rattle.smv_language.specs.Values.{Value, truth, number, symbol, at_most, same_int, is_between, value_text}
-use Rattle.smv_language.specs.PrintedTokens.{IsName, IsEnd}
-use Rattle.smv_language.specs.Trace.{Each, in_domain, is_member}
-use Rattle.smv_language.specs.WritableProgram.{IsWritableType, IsWritableMember, IsPlain}
-use Rattle.smv_language.specs.Lexemes.{is_reserved}
-use Rattle.smv_language.specs.Texts.{same_text}
+use Rattle.smv_language.specs.Language.{Text, DeclaredTree, boolean, range, members, instance, Value, symbol, at_most, same_int, is_between, value_text, IsName, IsEnd, Each, in_domain, is_member, IsWritableType, IsWritableMember, IsPlain, is_reserved, same_text}
+use Rattle.smv_language.specs.Values.{truth, number}
 use Rattle.cut_text_laws.proofs.Separators.{IsFree}
 use Rattle.cut_text_laws.proofs.Words.{free_by_test}
 use Rattle.cut_text_laws.specs.TraceOfText.{IsLineWord}

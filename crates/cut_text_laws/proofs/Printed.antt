@@ -3,9 +3,7 @@ use Rattle.std.proofs.Common.{◌≡◌, ◌≢◌, ◌⊎◌, inl, inr, ℕ, ze
 use Rattle.std.specs.Prelude.{slice_get}
 use Rattle.std.specs.List.{AllByRecursion}
 use Rattle.std.specs.Fmt.{decimal}
-use Rattle.smv_language.specs.Values.{Value, value_text}
-use Rattle.smv_language.specs.Trace.{Each}
-use Rattle.smv_language.specs.Flat.{FlatVariable, FlatModel}
+use Rattle.smv_language.specs.Language.{Value, value_text, Each, FlatVariable, FlatModel}
 use Rattle.smv_flat_laws.specs.FlatTrace.{AreInDomains}
 use Rattle.cut_text_laws.specs.Lines.{Line, IsLine}
 use Rattle.cut_text_laws.proofs.Words.{free_by_test, spaced_line}

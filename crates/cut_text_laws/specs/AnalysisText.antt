@@ -1,9 +1,7 @@
 -- The report of an analysis.
 use Rattle.std.specs.Prelude.{ℕ, suc, nat_lt, Bool, true, false, List, [], ◌∷◌, ◌++◌, codes, length, if◌then◌else◌}
 use Rattle.std.specs.Fmt.{decimal}
-use Rattle.smv_language.specs.ProgramTree.{Text}
-use Rattle.smv_language.specs.Values.{Value}
-use Rattle.smv_language.specs.Flat.{FlatModel}
+use Rattle.smv_language.specs.Language.{Text, Value, FlatModel}
 use Rattle.cut_text_laws.specs.Analysis.{Ending, complete, bounded, Analysis}
 use Rattle.cut_text_laws.specs.TraceText.{trace_text}
 

@@ -1,11 +1,6 @@
 -- The laws of trace texts.
 use Rattle.std.specs.Prelude.{◌≡◌, ◌≢◌, ◌⊎◌, ℕ, List, [], ◌∷◌, reverse, Some, slice_get}
-use Rattle.smv_language.specs.Values.{Value}
-use Rattle.smv_language.specs.Trace.{Each}
-use Rattle.smv_language.specs.PrintedTokens.{AreNames}
-use Rattle.smv_language.specs.ProgramTree.{ProgramTree}
-use Rattle.smv_language.specs.WritableProgram.{IsWritableType, IsWritableProgram}
-use Rattle.smv_language.specs.Flat.{FlatVariable, FlatModel}
+use Rattle.smv_language.specs.Language.{Value, Each, AreNames, ProgramTree, IsWritableType, IsWritableProgram, FlatVariable, FlatModel}
 use Rattle.smv_flat_laws.specs.FlatTrace.{AreInDomains}
 use Rattle.smv_flat_laws.specs.Model.{IsFlatOf}
 use Rattle.smv_flat_laws.specs.Rules.{IsAccepted}

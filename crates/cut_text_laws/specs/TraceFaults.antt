@@ -1,10 +1,7 @@
 -- What is wrong first with a text that gives no trace.
 use Rattle.std.specs.Prelude.{◌≡◌, ◌≢◌, ◌⊎◌, ℕ, suc, ◌<◌, ◌≤◌, if◌then◌else◌, IsTrue, List, [], ◌∷◌, ◌++◌, length, Some, slice_get}
 use Rattle.std.specs.List.{AllByRecursion}
-use Rattle.smv_language.specs.Texts.{same_text}
-use Rattle.smv_language.specs.Values.{Value, value_text}
-use Rattle.smv_language.specs.Trace.{in_domain}
-use Rattle.smv_language.specs.Flat.{FlatVariable, FlatModel}
+use Rattle.smv_language.specs.Language.{same_text, Value, value_text, in_domain, FlatVariable, FlatModel}
 use Rattle.cut_text_laws.specs.Lines.{Line, fed, IsLine}
 use Rattle.cut_text_laws.specs.TraceText.{variable_text, moment_line, equation}
 use Rattle.cut_text_laws.specs.TraceOfText.{IsLineWord}

@@ -1,11 +1,7 @@
 -- Which trace a text gives: moments in order, in each one line for each variable, in any order, and empty lines anywhere.
 use Rattle.std.specs.Prelude.{◌≡◌, ◌≢◌, ◌⊎◌, ℕ, suc, List, [], ◌∷◌, ◌++◌, Some, slice_get, IsTrue}
 use Rattle.std.specs.List.{AllByRecursion}
-use Rattle.smv_language.specs.ProgramTree.{Text}
-use Rattle.smv_language.specs.Values.{Value, symbol}
-use Rattle.smv_language.specs.Trace.{in_domain}
-use Rattle.smv_language.specs.WritableProgram.{IsWritableType}
-use Rattle.smv_language.specs.Flat.{FlatVariable, FlatModel}
+use Rattle.smv_language.specs.Language.{Text, Value, symbol, in_domain, IsWritableType, FlatVariable, FlatModel}
 use Rattle.smv_flat_laws.specs.FlatTrace.{AreInDomains}
 use Rattle.cut_text_laws.specs.Lines.{Line, fed, IsLine}
 use Rattle.cut_text_laws.specs.TraceText.{variable_text, moment_line, value_line}

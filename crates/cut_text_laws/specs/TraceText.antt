@@ -1,9 +1,6 @@
 -- The text of a trace of a flat model: for each moment its number, and each variable's value in flat order.
 use Rattle.std.specs.Prelude.{ℕ, suc, List, [], ◌∷◌, ◌++◌, codes, reverse}
-use Rattle.smv_language.specs.ProgramTree.{Text}
-use Rattle.smv_language.specs.Text.{dotted_text}
-use Rattle.smv_language.specs.Values.{Value, value_text}
-use Rattle.smv_language.specs.Flat.{FlatVariable, FlatModel}
+use Rattle.smv_language.specs.Language.{Text, dotted_text, Value, value_text, FlatVariable, FlatModel}
 use Rattle.cut_text_laws.specs.Lines.{Line, spaced, counted, fed}
 
 -- a variable's name from `main`, with dots between; a place has the innermost name first

@@ -1,9 +1,7 @@
 -- The two lamps break no rule, and their instructions none.
 use Rattle.std.proofs.Common.{ℕ, ◌≤◌, arith, [], ◌∷◌, ◌++◌, List, refl}
 use Rattle.std.specs.Prelude.{codes}
-use Rattle.smv_language.specs.ProgramTree.{Text, boolean, instance, DeclTree}
-use Rattle.smv_language.specs.Scope.{Place, state}
-use Rattle.smv_language.specs.Trace.{Each}
+use Rattle.smv_language.specs.Language.{Text, boolean, instance, DeclTree, Place, state, Each}
 use Rattle.smv_flat_laws.specs.Items.{Item, a_declaration, NumberedModule, Visit, visits}
 use Rattle.smv_flat_laws.specs.Rules.{no_main, main_has_parameters, double_module, double_name, no_such_module, wrong_count, module_loop, define_loop, next_here, too_many, the_program, a_header, an_item, a_visit, a_use, visit_sites, use_sites, instances_before, variables_before, SomeActualLoops, IsKept, IsAccepted}
 use Rattle.fault_rules.specs.Sites.{item_sites}

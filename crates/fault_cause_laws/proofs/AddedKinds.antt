@@ -2,9 +2,7 @@
 use Rattle.std.proofs.Common.{◌≡◌, ℕ, suc, ◌+◌, ◌≤◌, false, List, [], ◌∷◌, ◌++◌, length, Some, refl, sym, ◌∙◌, ap, subst, arith}
 use Rattle.std.specs.Prelude.{slice_get}
 use Rattle.std.proofs.lemmas.List.{length-append}
-use Rattle.smv_language.specs.Tree.{Tree}
-use Rattle.smv_language.specs.Trace.{Each}
-use Rattle.smv_language.specs.Flat.{FlatLeaf, flat_variable, flat_symbol, flat_definition, FlatVariable, FlatFormula, FlatModel}
+use Rattle.smv_language.specs.Language.{Tree, Each, FlatLeaf, flat_variable, flat_symbol, flat_definition, FlatVariable, FlatFormula, FlatModel}
 use Rattle.smv_flat_laws.proofs.Lists.{each_more}
 use Rattle.smv_flat_laws.proofs.Conditions.{each_join}
 use Rattle.smv_type_laws.specs.DeclaredKinds.{judged_declared}

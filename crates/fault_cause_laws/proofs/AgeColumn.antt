@@ -2,12 +2,9 @@
 use Rattle.std.proofs.Common.{◌≡◌, ◌≢◌, ℕ, suc, ◌+◌, ◌<◌, ◌≤◌, Bool, true, false, cond, ◌||◌, List, [], ◌∷◌, ◌++◌, length, Option, Some, None, refl, ap, ◌∙◌, sym, subst, arith, ◌⊎◌, inl, inr}
 use Rattle.std.specs.Prelude.{pos, negsuc, nat_eq, slice_get, IsTrue}
 use Rattle.std.proofs.lemmas.Bool.Decides.{eqb_tells, leb_tells}
-use Rattle.smv_language.specs.Values.{Value, truth, number, symbol, Values, one, either, no_value, has}
-use Rattle.smv_language.specs.Evaluate.{gives_choice, gives_applied, gives_either}
+use Rattle.smv_language.specs.Language.{Value, symbol, Values, one, either, no_value, has, gives_choice, gives_applied, gives_either, Each, EachPair, in_domain, range, FlatModel, one_of, Holds}
+use Rattle.smv_language.specs.Values.{truth, number}
 use Rattle.smv_language.specs.declared.expr.Op.TheVariants as op
-use Rattle.smv_language.specs.Trace.{Each, EachPair, in_domain}
-use Rattle.smv_language.specs.ProgramTree.{range}
-use Rattle.smv_language.specs.Flat.{FlatModel, one_of, Holds}
 use Rattle.smv_flat_laws.specs.FlatTrace.{AreInDomains}
 use Rattle.smv_flat_laws.proofs.Conditions.{MayBe}
 use Rattle.fault_cause_laws.specs.Additions.{Addition, with_addition, beside, AreAdded}

@@ -1,6 +1,6 @@
 -- Causes that are written with names of faults are read in one way.
 use Rattle.std.proofs.Common.{◌≡◌, ℕ, List, [], ◌∷◌, refl, sym, ◌∙◌}
-use Rattle.smv_language.specs.ProgramTree.{Path, ProgramTree}
+use Rattle.smv_language.specs.Language.{Path, ProgramTree, EachBoth}
 use Rattle.fault_instructions.specs.Instructions.{InstructionTree}
 use Rattle.fault_weave.specs.Faults.{Fault}
 use Rattle.fault_cause_laws.specs.Causes.{CommonCause}
@@ -8,7 +8,6 @@ use Rattle.fault_cause_laws.specs.CausesText.{WrittenCause}
 use Rattle.fault_cause_laws.specs.CauseRules.{IsStrikeOf, IsReadAs, AreReadAs}
 use Rattle.fault_cause_laws.specs.FaultNamesLaws.{AreFaultsOf, CausesReadAsOne}
 use Rattle.fault_cause_laws.proofs.Names.{names_mean_one}
-use Rattle.smv_language.specs.Trace.{EachBoth}
 
 module _ (p : ProgramTree) (i : InstructionTree) (faults : List Fault) (are : AreFaultsOf p i faults) (w : ProgramTree) where
   one_strikes : (names : List Path) (is js : List ℕ) → EachBoth (IsStrikeOf faults w) names is → EachBoth (IsStrikeOf faults w) names js → is ≡ js

@@ -1,10 +1,7 @@
 -- One added variable whose values the added formulas determine.
 use Rattle.std.proofs.Common.{◌≡◌, ℕ, suc, List, [], ◌∷◌, ◌++◌, length, refl, ap, ◌∙◌, sym, subst}
 use Rattle.std.specs.Prelude.{IsTrue}
-use Rattle.smv_language.specs.ProgramTree.{Text}
-use Rattle.smv_language.specs.Values.{Value}
-use Rattle.smv_language.specs.Trace.{Each, EachPair, AtFirst, in_domain}
-use Rattle.smv_language.specs.Flat.{FlatVariable, FlatFormula, FlatModel, Holds}
+use Rattle.smv_language.specs.Language.{Text, Value, Each, EachPair, AtFirst, in_domain, FlatVariable, FlatFormula, FlatModel, Holds}
 use Rattle.smv_flat_laws.specs.FlatTrace.{AreInDomains, IsFlatTrace}
 use Rattle.fault_cause_laws.specs.Additions.{Addition, with_addition, KnowsNames, beside, AreAdded}
 use Rattle.fault_cause_laws.specs.Columns.{with_values, with_value}

@@ -1,10 +1,7 @@
 -- Causes, one after another.
 use Rattle.std.proofs.Common.{◌≡◌, ℕ, ◌+◌, ◌≤◌, Bool, List, [], ◌∷◌, length, Option, refl, ap, ◌∙◌, sym, subst}
 use Rattle.std.specs.Prelude.{IsTrue}
-use Rattle.smv_language.specs.ProgramTree.{Text}
-use Rattle.smv_language.specs.Values.{Value}
-use Rattle.smv_language.specs.Trace.{Each}
-use Rattle.smv_language.specs.Flat.{FlatModel}
+use Rattle.smv_language.specs.Language.{Text, Value, Each, FlatModel}
 use Rattle.smv_flat_laws.specs.FlatTrace.{IsFlatTrace}
 use Rattle.smv_flat_laws.specs.History.{Mode}
 use Rattle.fault_cause_laws.proofs.Columns.{EachFrom, each_from_more}

@@ -3,12 +3,8 @@ use Rattle.std.proofs.Common.{◌≡◌, ℕ, suc, Bool, true, false, cond, ◌|
 use Rattle.std.specs.Prelude.{pos, nat_eq, slice_get, IsTrue}
 use Rattle.smv_language.specs.declared.expr.Op.TheVariants as op
 use Rattle.smv_language.specs.declared.program.Member.TheVariants as member
-use Rattle.smv_language.specs.ProgramTree.{Text, members}
-use Rattle.smv_language.specs.Values.{Value, truth, number, symbol, Values, one, either, no_value}
-use Rattle.smv_language.specs.Texts.{same_text}
-use Rattle.smv_language.specs.Evaluate.{gives_choice, gives_applied, gives_either}
-use Rattle.smv_language.specs.Trace.{in_domain}
-use Rattle.smv_language.specs.Flat.{FlatModel, FlatVariable, one_of, symbol_of, Holds}
+use Rattle.smv_language.specs.Language.{Text, members, Value, symbol, Values, one, either, no_value, same_text, gives_choice, gives_applied, gives_either, in_domain, FlatModel, FlatVariable, one_of, symbol_of, Holds}
+use Rattle.smv_language.specs.Values.{truth, number}
 use Rattle.smv_flat_laws.proofs.Conditions.{MayBe, same_text_same}
 use Rattle.fault_cause_laws.specs.Additions.{Addition, with_addition}
 use Rattle.fault_cause_laws.proofs.AddedReadings.{within_any, get_last}

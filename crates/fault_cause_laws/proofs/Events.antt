@@ -1,10 +1,7 @@
 -- The events of a staged trace are those of its caused trace.
 use Rattle.std.proofs.Common.{◌≡◌, ℕ, zero, suc, ◌+◌, ◌-◌, ◌<◌, ◌≤◌, Bool, true, false, cond, ◌&&◌, ◌||◌, List, [], ◌∷◌, ◌++◌, length, Option, Some, None, refl, ap, ◌∙◌, sym, subst, arith, ◌⊎◌, inl, inr, eq-eqb}
 use Rattle.std.specs.Prelude.{slice_get, nat_eq, IsTrue, ◌↔◌, codes}
-use Rattle.smv_language.specs.ProgramTree.{Text}
-use Rattle.smv_language.specs.Values.{Value, symbol, opposite}
-use Rattle.smv_language.specs.Texts.{same_text}
-use Rattle.smv_language.specs.Flat.{FlatModel}
+use Rattle.smv_language.specs.Language.{Text, Value, symbol, opposite, same_text, FlatModel}
 use Rattle.smv_flat_laws.specs.FlatTrace.{is_symbol_value, stands, stands_in_some}
 use Rattle.smv_flat_laws.specs.History.{Mode}
 use Rattle.sat_encoding_laws.specs.FlatTraces.{HasFailedNumber}

@@ -4,9 +4,7 @@ use Rattle.std.proofs.lemmas.Int.{ints}
 use Rattle.std.specs.Prelude.{not}
 use Rattle.base_values.specs.declared.limits.TheConstants.{LONGEST_WINDOW}
 use Rattle.smv_language.specs.declared.expr.Op.TheVariants as op
-use Rattle.smv_language.specs.Tree.{Tree, leaf, not_of, next_of, binary, choice}
-use Rattle.smv_language.specs.ProgramTree.{range}
-use Rattle.smv_language.specs.Flat.{FlatLeaf, flat_symbol, FlatModel}
+use Rattle.smv_language.specs.Language.{Tree, leaf, not_of, next_of, binary, choice, range, FlatLeaf, flat_symbol, FlatModel}
 use Rattle.cut_right_laws.specs.Sets.{has_number}
 use Rattle.smv_type_laws.specs.Intervals.{Interval, just, sum_of, fits_number}
 use Rattle.smv_type_laws.specs.ExpressionKinds.{truth_class, number_class, symbol_class, Kind, empty_range, too_wide, rule_if, wide, one_value, Judged, judged_number}

@@ -2,12 +2,8 @@
 use Rattle.std.proofs.Common.{◌≡◌, ℕ, suc, ◌+◌, ◌≤◌, Bool, true, false, cond, ◌&&◌, ◌||◌, List, [], ◌∷◌, ◌++◌, length, Option, Some, refl, ap, ◌∙◌, sym, subst}
 use Rattle.std.specs.Prelude.{pos, slice_get, IsTrue}
 use Rattle.smv_language.specs.declared.expr.Op.TheVariants as op
-use Rattle.smv_language.specs.Tree.{Tree, binary}
-use Rattle.smv_language.specs.ProgramTree.{Text}
-use Rattle.smv_language.specs.Values.{Value, truth, number, symbol, Values, one, either, no_value, at_most, has}
-use Rattle.smv_language.specs.Texts.{same_text}
-use Rattle.smv_language.specs.Evaluate.{Leaves, evaluate, gives_applied}
-use Rattle.smv_language.specs.Flat.{FlatLeaf, flat_variable, flat_symbol}
+use Rattle.smv_language.specs.Language.{Tree, binary, Text, Value, symbol, Values, one, either, no_value, at_most, has, same_text, Leaves, evaluate, gives_applied, FlatLeaf, flat_variable, flat_symbol}
+use Rattle.smv_language.specs.Values.{truth, number}
 use Rattle.smv_flat_laws.specs.History.{Mode}
 use Rattle.cut_right_laws.specs.Sets.{has_number}
 use Rattle.smv_flat_laws.proofs.Conditions.{MayBe, may_one}

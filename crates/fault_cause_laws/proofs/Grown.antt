@@ -2,12 +2,8 @@
 use Rattle.std.proofs.Common.{◌≡◌, ℕ, suc, true, List, [], ◌∷◌, ◌++◌, length, refl, ap, ◌∙◌, sym, subst}
 use Rattle.std.proofs.lemmas.List.{append_assoc, append-nil}
 use Rattle.std.specs.Prelude.{◌↔◌}
-use Rattle.smv_language.specs.Tree.{Tree}
-use Rattle.smv_language.specs.ProgramTree.{Text}
-use Rattle.smv_language.specs.Values.{Value, truth}
-use Rattle.smv_language.specs.Evaluate.{evaluate}
-use Rattle.smv_language.specs.Trace.{Each, AtLast}
-use Rattle.smv_language.specs.Flat.{FlatLeaf, FlatFormula, FlatModel, FlatMay, flat_leaves, table_after, leaves_at}
+use Rattle.smv_language.specs.Language.{Tree, Text, Value, evaluate, Each, AtLast, FlatLeaf, FlatFormula, FlatModel, FlatMay, flat_leaves, table_after, leaves_at}
+use Rattle.smv_language.specs.Values.{truth}
 use Rattle.smv_flat_laws.specs.History.{Mode, added, with_history}
 use Rattle.smv_flat_laws.specs.FlatTrace.{IsFlatMoment, bits_after, told_from}
 use Rattle.smv_flat_laws.specs.NameResolution.{leaves_in}

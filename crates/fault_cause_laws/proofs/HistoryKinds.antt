@@ -3,10 +3,7 @@ use Rattle.std.proofs.Common.{◌≡◌, ℕ, suc, ◌+◌, ◌<◌, ◌≤◌, 
 use Rattle.std.proofs.lemmas.List.{append-nil}
 use Rattle.std.proofs.lemmas.Option.{slice_get_within as within_of}
 use Rattle.smv_language.specs.declared.expr.Op.TheVariants as op
-use Rattle.smv_language.specs.Tree.{leaf, next_of, binary}
-use Rattle.smv_language.specs.ProgramTree.{boolean}
-use Rattle.smv_language.specs.Trace.{Each}
-use Rattle.smv_language.specs.Flat.{flat_symbol, FlatVariable, FlatModel}
+use Rattle.smv_language.specs.Language.{leaf, next_of, binary, boolean, Each, flat_symbol, FlatVariable, FlatModel}
 use Rattle.smv_flat_laws.specs.History.{Mode, stands_now, stands_next, bit_variables, bits_at_first, bits_at_step, with_history}
 use Rattle.smv_flat_laws.specs.FlatTrace.{IsModeOf}
 use Rattle.smv_flat_laws.proofs.Lists.{each_more}

@@ -2,12 +2,8 @@
 use Rattle.std.proofs.Common.{◌≡◌, ℕ, suc, ◌+◌, ◌≤◌, Bool, true, ◌||◌, List, [], ◌∷◌, ◌++◌, length, Option, Some, refl, ap, ◌∙◌, sym, subst}
 use Rattle.std.specs.Prelude.{pos, nat_eq, slice_get}
 use Rattle.smv_language.specs.declared.expr.Op.TheVariants as op
-use Rattle.smv_language.specs.ProgramTree.{Text, boolean}
-use Rattle.smv_language.specs.Values.{Value, truth, number, symbol, one, opposite}
-use Rattle.smv_language.specs.Texts.{same_text}
-use Rattle.smv_language.specs.Evaluate.{evaluate, gives_applied}
-use Rattle.smv_language.specs.Trace.{Each}
-use Rattle.smv_language.specs.Flat.{FlatModel, FlatVariable, one_of, symbol_of, leaves_at, Holds}
+use Rattle.smv_language.specs.Language.{Text, boolean, Value, symbol, one, opposite, same_text, evaluate, gives_applied, Each, FlatModel, FlatVariable, one_of, symbol_of, leaves_at, Holds}
+use Rattle.smv_language.specs.Values.{truth, number}
 use Rattle.smv_flat_laws.specs.History.{Mode}
 use Rattle.smv_flat_laws.proofs.Conditions.{MayBe, may_one}
 use Rattle.fault_cause_laws.specs.Additions.{Addition, with_addition}

@@ -2,10 +2,7 @@
 use Rattle.std.proofs.Common.{◌≡◌, ℕ, suc, ◌+◌, ◌<◌, ◌≤◌, Bool, true, ◌||◌, List, [], ◌∷◌, length, Option, Some, refl, ap, ◌∙◌, sym, subst, arith}
 use Rattle.std.proofs.lemmas.List.{length-append}
 use Rattle.std.specs.Prelude.{slice_get, nat_eq}
-use Rattle.smv_language.specs.ProgramTree.{Text}
-use Rattle.smv_language.specs.Values.{Value, opposite}
-use Rattle.smv_language.specs.Trace.{Each}
-use Rattle.smv_language.specs.Flat.{FlatModel, Holds}
+use Rattle.smv_language.specs.Language.{Text, Value, opposite, Each, FlatModel, Holds, boolean}
 use Rattle.smv_flat_laws.specs.FlatTrace.{IsFlatTrace}
 use Rattle.smv_flat_laws.specs.History.{Mode}
 use Rattle.fault_cause_laws.specs.Additions.{Addition, beside, AreAdded}
@@ -17,7 +14,6 @@ use Rattle.fault_cause_laws.specs.StagedModel.{hit_name, added_variable, hit_at_
 use Rattle.fault_cause_laws.specs.StagedValues.{age_at, is_hit, age_value, hit_value, hits_told}
 use Rattle.fault_cause_laws.proofs.Known.{IsReady, ready_added, Lasting, Knows, known_value, at_number}
 use Rattle.fault_cause_laws.proofs.HitColumn.{is_landed, hit_forced, hit_fits, landed_all}
-use Rattle.smv_language.specs.ProgramTree.{boolean}
 use Rattle.std.proofs.lemmas.Option.{slice_get_within as within_of}
 
 -- the numbers are those of faults

@@ -2,9 +2,7 @@
 use Rattle.std.proofs.Common.{◌≡◌, ◌≢◌, ℕ, zero, suc, ◌-◌, ◌<◌, List, [], ◌∷◌, map, reverse, Option, Some, None, refl, sym, ◌∙◌, ap, subst, arith}
 use Rattle.std.specs.Prelude.{flat_map, slice_get}
 use Rattle.std.proofs.lemmas.List.{reverse-append, reverse-reverse}
-use Rattle.smv_language.specs.ProgramTree.{Path, ModuleTree, ProgramTree}
-use Rattle.smv_language.specs.Scope.{Place, module_at}
-use Rattle.smv_language.specs.Trace.{Each}
+use Rattle.smv_language.specs.Language.{Path, ModuleTree, ProgramTree, Place, module_at, Each}
 use Rattle.smv_flat_laws.specs.Rules.{IsAccepted}
 use Rattle.smv_flat_laws.proofs.Lists.{each_more, each_map}
 use Rattle.smv_flat_laws.proofs.Walkable.{accepted_walkable}

@@ -1,9 +1,7 @@
 -- Lists in which each has a name that none before it has: no two have one name.
 use Rattle.std.proofs.Common.{◌≡◌, ◌≢◌, inl, false, List, [], ◌∷◌, ◌++◌, refl}
 use Rattle.std.specs.List.{list_any}
-use Rattle.smv_language.specs.ProgramTree.{Text}
-use Rattle.smv_language.specs.Texts.{same_text}
-use Rattle.smv_language.specs.Trace.{Each}
+use Rattle.smv_language.specs.Language.{Text, same_text, Each}
 use Rattle.smv_flat_laws.proofs.Lists.{each_more}
 use Rattle.fault_instructions.specs.Weavable.{Among}
 use Rattle.fault_rules.proofs.ProgramNames.{any_false}

@@ -2,8 +2,7 @@
 use Rattle.std.proofs.Common.{◌≡◌, ◌≢◌, ℕ, ◌+◌, ◌<◌, ◌≤◌, Bool, true, false, ◌&&◌, ◌||◌, List, [], ◌∷◌, Option, Some, None, refl, arith, eq-eqb, ◌⊎◌, inl, inr}
 use Rattle.std.specs.Prelude.{nat_eq, IsTrue}
 use Rattle.std.proofs.lemmas.Bool.Decides.{eqb_tells}
-use Rattle.smv_language.specs.Values.{opposite}
-use Rattle.smv_language.specs.Trace.{Each}
+use Rattle.smv_language.specs.Language.{opposite, Each}
 use Rattle.fault_cause_laws.specs.Causes.{CommonCause}
 use Rattle.fault_cause_laws.specs.CausedEvents.{IsStruck, Occurs}
 use Rattle.fault_cause_laws.specs.StagedValues.{age_at, is_in_window, some_up_to, is_hit}

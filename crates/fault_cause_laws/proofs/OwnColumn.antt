@@ -3,13 +3,8 @@ use Rattle.std.proofs.Common.{◌≡◌, ℕ, suc, ◌≤◌, Bool, true, false,
 use Rattle.std.specs.Prelude.{slice_get, IsTrue}
 use Rattle.smv_language.specs.declared.expr.Op.TheVariants as op
 use Rattle.smv_language.specs.declared.program.Member.TheVariants as member
-use Rattle.smv_language.specs.Tree.{Tree}
-use Rattle.smv_language.specs.ProgramTree.{Text, members}
-use Rattle.smv_language.specs.Values.{Value, truth, symbol, Values, one, either, no_value, opposite}
-use Rattle.smv_language.specs.Texts.{same_text}
-use Rattle.smv_language.specs.Evaluate.{evaluate, gives_choice, gives_applied, gives_either, gives_not}
-use Rattle.smv_language.specs.Trace.{in_domain}
-use Rattle.smv_language.specs.Flat.{FlatLeaf, FlatModel, FlatVariable, one_of, symbol_of, leaves_at, Holds}
+use Rattle.smv_language.specs.Language.{Tree, Text, members, Value, symbol, Values, one, either, no_value, opposite, same_text, evaluate, gives_choice, gives_applied, gives_either, gives_not, in_domain, FlatLeaf, FlatModel, FlatVariable, one_of, symbol_of, leaves_at, Holds}
+use Rattle.smv_language.specs.Values.{truth}
 use Rattle.smv_flat_laws.specs.History.{Mode}
 use Rattle.smv_flat_laws.proofs.Conditions.{MayBe, same_text_same}
 use Rattle.fault_cause_laws.specs.Additions.{Addition, with_addition}

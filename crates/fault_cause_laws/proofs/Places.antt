@@ -1,8 +1,6 @@
 -- No instance of a program stands twice in the list of its instances.
 use Rattle.std.proofs.Common.{◌≡◌, ◌≢◌, ℕ, zero, suc, List, [], ◌∷◌, ◌++◌, Option, Some, None, refl, sym, ◌∙◌, ap, subst}
-use Rattle.smv_language.specs.ProgramTree.{Text, ModuleTree, ProgramTree}
-use Rattle.smv_language.specs.Scope.{Place, module_at}
-use Rattle.smv_language.specs.Trace.{Each}
+use Rattle.smv_language.specs.Language.{Text, ModuleTree, ProgramTree, Place, module_at, Each}
 use Rattle.smv_flat_laws.specs.Rules.{IsWalkable}
 use Rattle.smv_flat_laws.proofs.Lists.{each_more}
 use Rattle.smv_flat_laws.proofs.Conditions.{each_join}

@@ -4,10 +4,7 @@ use Rattle.std.specs.Prelude.{slice_get, flat_map, not, ◌||◌}
 use Rattle.std.proofs.lemmas.Option.{slice_get_within as within_of}
 use Rattle.smv_language.specs.declared.expr.Op.TheVariants as op
 use Rattle.smv_language.specs.declared.program.Member.TheVariants as member
-use Rattle.smv_language.specs.Tree.{Tree, leaf, not_of, next_of, binary, choice}
-use Rattle.smv_language.specs.ProgramTree.{Text, DeclaredTree, members}
-use Rattle.smv_language.specs.Texts.{same_text}
-use Rattle.smv_language.specs.Flat.{FlatLeaf, flat_variable, flat_symbol, FlatVariable, FlatModel}
+use Rattle.smv_language.specs.Language.{Tree, leaf, not_of, next_of, binary, choice, Text, DeclaredTree, members, same_text, FlatLeaf, flat_variable, flat_symbol, FlatVariable, FlatModel}
 use Rattle.smv_flat_laws.specs.History.{Mode, added, stands_now}
 use Rattle.smv_type_laws.specs.Intervals.{just, fits_number}
 use Rattle.smv_type_laws.specs.ExpressionKinds.{Class, truth_class, number_class, symbol_class, Kind, too_wide, mixed_enum, double_member, rule_if, wide, one_value, unlike_first, hull_of, Judged}

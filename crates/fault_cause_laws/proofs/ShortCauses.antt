@@ -3,8 +3,7 @@ use Rattle.std.proofs.Common.{◌≡◌, ℕ, ◌≤◌, Bool, true, false, List
 use Rattle.std.specs.Prelude.{if◌then◌else◌}
 use Rattle.std.proofs.lemmas.Bool.{ltb-false}
 use Rattle.base_values.specs.declared.limits.TheConstants.{LONGEST_WINDOW}
-use Rattle.smv_language.specs.ProgramTree.{ProgramTree}
-use Rattle.smv_language.specs.Trace.{Each}
+use Rattle.smv_language.specs.Language.{ProgramTree, Each}
 use Rattle.fault_weave.specs.Faults.{Fault}
 use Rattle.fault_cause_laws.specs.Causes.{CommonCause, IsCauseOf}
 use Rattle.fault_cause_laws.specs.CausesText.{WrittenCause}

@@ -1,9 +1,6 @@
 -- An extension's model meets what the staged model asks.
 use Rattle.std.proofs.Common.{ℕ, suc, List, [], ◌∷◌, length}
-use Rattle.smv_language.specs.Tree.{Tree}
-use Rattle.smv_language.specs.Laws.{AllLeaves}
-use Rattle.smv_language.specs.Trace.{Each}
-use Rattle.smv_language.specs.Flat.{FlatLeaf, flat_variable, flat_symbol, flat_definition, FlatFormula, FlatModel}
+use Rattle.smv_language.specs.Language.{Tree, AllLeaves, Each, FlatLeaf, flat_variable, flat_symbol, flat_definition, FlatFormula, FlatModel}
 use Rattle.smv_flat_laws.specs.NameResolution.{leaves_in, Resolver, IsSound, IsResolved}
 use Rattle.smv_flat_laws.proofs.Lists.{each_more}
 use Rattle.smv_type_laws.specs.Laws.{IsKnown, AreInOrder, IsClosed}

@@ -4,10 +4,7 @@ use Rattle.std.specs.Prelude.{slice_get}
 use Rattle.std.proofs.lemmas.List.{length-append}
 use Rattle.smv_language.specs.declared.expr.Op.TheVariants as op
 use Rattle.smv_language.specs.declared.program.Member.TheVariants as member
-use Rattle.smv_language.specs.Tree.{next_of, binary}
-use Rattle.smv_language.specs.ProgramTree.{Text, DeclaredTree, boolean, range, members}
-use Rattle.smv_language.specs.Trace.{Each}
-use Rattle.smv_language.specs.Flat.{FlatVariable, FlatModel}
+use Rattle.smv_language.specs.Language.{next_of, binary, Text, DeclaredTree, boolean, range, members, Each, FlatVariable, FlatModel}
 use Rattle.smv_flat_laws.specs.History.{Mode, with_history}
 use Rattle.smv_flat_laws.proofs.Lists.{get_end, length_end, each_more}
 use Rattle.smv_flat_laws.proofs.Conditions.{each_join, each_at}

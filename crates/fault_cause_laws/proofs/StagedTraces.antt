@@ -1,11 +1,7 @@
 -- The traces of the staged model are exactly the caused traces.
 use Rattle.std.proofs.Common.{◌≡◌, ℕ, zero, suc, ◌+◌, ◌-◌, ◌<◌, ◌≤◌, List, [], ◌∷◌, length, Option, Some, refl, ap, ◌∙◌, sym, subst, arith}
 use Rattle.std.specs.Prelude.{slice_get, slice_index_or, IsTrue, ◌↔◌}
-use Rattle.smv_language.specs.ProgramTree.{Text}
-use Rattle.smv_language.specs.Values.{Value, symbol}
-use Rattle.smv_language.specs.Texts.{same_text, text_or_none}
-use Rattle.smv_language.specs.Trace.{Each, in_domain}
-use Rattle.smv_language.specs.Flat.{FlatModel}
+use Rattle.smv_language.specs.Language.{Text, Value, symbol, same_text, text_or_none, Each, in_domain, FlatModel}
 use Rattle.smv_flat_laws.specs.FlatTrace.{AreInDomains, IsFlatMoment, IsFlatTrace, IsModeOf, is_symbol_value}
 use Rattle.smv_flat_laws.specs.History.{Mode}
 use Rattle.smv_flat_laws.proofs.Conditions.{each_at}

@@ -1,9 +1,7 @@
 -- The traces of a model with an addition.
 use Rattle.std.proofs.Common.{◌≡◌, ℕ, suc, List, [], ◌∷◌, ◌++◌, length, refl, ap, sym, subst}
 use Rattle.std.specs.Prelude.{◌↔◌}
-use Rattle.smv_language.specs.Values.{Value}
-use Rattle.smv_language.specs.Trace.{Each, EachPair, AtFirst}
-use Rattle.smv_language.specs.Flat.{FlatModel, Holds}
+use Rattle.smv_language.specs.Language.{Value, Each, EachPair, AtFirst, FlatModel, Holds}
 use Rattle.smv_flat_laws.specs.FlatTrace.{AreInDomains, IsFlatMoment, IsFlatStep, IsFlatTrace}
 use Rattle.smv_flat_laws.proofs.Reaches.{each_left, each_right}
 use Rattle.smv_flat_laws.proofs.Conditions.{each_join}

@@ -2,8 +2,7 @@
 use Rattle.std.proofs.Common.{◌≡◌, ◌⊎◌, inl, inr, ℕ, zero, suc, ◌-◌, ◌<◌, ◌≤◌, Bool, true, false, List, [], ◌∷◌, length, map, Some, None, refl, sym, ◌∙◌, ap, subst, arith}
 use Rattle.std.specs.Prelude.{slice_get}
 use Rattle.std.proofs.lemmas.Option.{same_Some as same_some, slice_get_within as within_of}
-use Rattle.smv_language.specs.ProgramTree.{Text}
-use Rattle.smv_language.specs.Trace.{AtSome}
+use Rattle.smv_language.specs.Language.{Text, AtSome}
 use Rattle.smv_language.proofs.ValueLaws.{same_text_equal}
 use Rattle.smv_flat_laws.proofs.Conditions.{same_text_same}
 use Rattle.fault_instructions.specs.AddedNames.{ModeState}

@@ -1,9 +1,7 @@
 -- A flat model with further variables, symbols and formulas after its own, and its traces.
 use Rattle.std.specs.Prelude.{◌≡◌, ℕ, ◌<◌, List, [], ◌∷◌, ◌++◌, length}
-use Rattle.smv_language.specs.ProgramTree.{Text}
-use Rattle.smv_language.specs.Values.{Value}
-use Rattle.smv_language.specs.Trace.{Each, EachPair, AtFirst}
-use Rattle.smv_language.specs.Flat.{FlatLeaf, flat_variable, flat_symbol, flat_definition, FlatVariable, FlatFormula, FlatModel, Holds}
+use Rattle.smv_language.specs.Language.{Text, Value, Each, EachPair, AtFirst, FlatLeaf, flat_variable, flat_symbol, flat_definition}
+use Rattle.smv_language.specs.Language.{FlatVariable, FlatFormula, FlatModel, Holds}
 use Rattle.smv_flat_laws.specs.FlatTrace.{AreInDomains}
 use Rattle.smv_flat_laws.specs.NameResolution.{leaves_in}
 

@@ -3,14 +3,12 @@ use Rattle.std.specs.Prelude.{◌≡◌, ℕ, zero, suc, ◌+◌, ◌-◌, ◌<�
 use Rattle.std.specs.Prelude.{Some, None, length, map, flat_map, reverse, slice_get, if◌then◌else◌}
 use Rattle.std.specs.List.{list_any}
 use Rattle.base_values.specs.declared.limits.TheConstants.{MOST_EVENTS, LONGEST_WINDOW}
-use Rattle.smv_language.specs.ProgramTree.{Text, Path, ProgramTree}
-use Rattle.smv_language.specs.Texts.{same_text, is_among}
+use Rattle.smv_language.specs.Language.{Text, Path, ProgramTree, same_text, is_among, EachBoth}
 use Rattle.fault_weave.specs.Faults.{Fault}
 use Rattle.fault_rules.specs.Rules.{is_program_name}
 use Rattle.fault_cause_laws.specs.Causes.{CommonCause}
 use Rattle.fault_cause_laws.specs.CausesText.{WrittenCause}
 use Rattle.fault_cause_laws.specs.StagedModel.{age_name, event_name, quiet_name, now_name, hit_name, own_name, none_name, self_name}
-use Rattle.smv_language.specs.Trace.{EachBoth}
 
 -- the name of a fault: the instances from `main` on, the slice, and the mode
 abbrev pub fault_path : Fault → Path

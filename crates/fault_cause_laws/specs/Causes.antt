@@ -1,7 +1,6 @@
 -- Common causes: events that bring several faults about within a window of steps.
 use Rattle.std.specs.Prelude.{ℕ, ◌<◌, ◌≤◌, List}
-use Rattle.smv_language.specs.ProgramTree.{Text}
-use Rattle.smv_language.specs.Trace.{Each}
+use Rattle.smv_language.specs.Language.{Text, Each}
 
 -- a cause, from how many steps after its moment to how many its window goes, and the faults that it strikes, by their numbers from one on
 pub record CommonCause : Type 0 where

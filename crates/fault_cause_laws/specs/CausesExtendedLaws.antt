@@ -1,9 +1,6 @@
 -- The laws of caused traces over extended traces.
 use Rattle.std.specs.Prelude.{◌≡◌, ◌↔◌, ℕ, List, None, length, map}
-use Rattle.smv_language.specs.Tree.{Tree}
-use Rattle.smv_language.specs.ProgramTree.{Formula, ProgramTree}
-use Rattle.smv_language.specs.Trace.{Each}
-use Rattle.smv_language.specs.Flat.{FlatLeaf, FlatModel}
+use Rattle.smv_language.specs.Language.{Tree, Formula, ProgramTree, Each, FlatLeaf, FlatModel}
 use Rattle.smv_flat_laws.specs.History.{Mode}
 use Rattle.smv_flat_laws.specs.NameResolution.{leaves_in}
 use Rattle.fault_instructions.specs.Instructions.{InstructionTree}

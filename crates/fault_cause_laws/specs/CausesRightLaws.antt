@@ -1,9 +1,6 @@
 -- What is right for staged traces is right for caused traces.
 use Rattle.std.specs.Prelude.{◌≡◌, ℕ, ◌+◌, ◌≤◌, List, Option, length}
-use Rattle.smv_language.specs.Tree.{Tree}
-use Rattle.smv_language.specs.Values.{Value}
-use Rattle.smv_language.specs.Trace.{Each}
-use Rattle.smv_language.specs.Flat.{FlatLeaf, FlatModel}
+use Rattle.smv_language.specs.Language.{Tree, Value, Each, FlatLeaf, FlatModel}
 use Rattle.smv_flat_laws.specs.History.{Mode}
 use Rattle.smv_flat_laws.specs.FlatTrace.{IsFlatTrace}
 use Rattle.smv_flat_laws.specs.NameResolution.{leaves_in}

@@ -3,10 +3,8 @@ use Rattle.std.specs.Prelude.{◌≡◌, ℕ, false, List, [], ◌∷◌, ◌++�
 use Rattle.smv_lexer.specs.declared.token.TokenKind.TheVariants as k
 use Rattle.smv_lexer.specs.declared.token.Token.{Token}
 use Rattle.smv_lexer.specs.Tokens.{HasTokens}
-use Rattle.smv_language.specs.ProgramTree.{Text, Path}
-use Rattle.smv_language.specs.Lexemes.{Lexeme, word, num, sign, is_reserved, lexemes_of}
-use Rattle.smv_language.specs.Spells.{SpellsDotted}
-use Rattle.smv_language.specs.SpellsProgram.{SpellsMany, SpellsCommas}
+use Rattle.smv_language.specs.Language.{Text, Path, Lexeme, word, num, sign, is_reserved, lexemes_of, SpellsDotted, SpellsMany}
+use Rattle.smv_language.specs.Language.{SpellsCommas}
 
 -- a cause as it is written, with the names of the faults that it strikes
 pub record WrittenCause : Type 0 where

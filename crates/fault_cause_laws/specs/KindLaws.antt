@@ -1,8 +1,7 @@
 -- The laws of kinds of the staged model of causes.
 use Rattle.std.specs.Prelude.{◌≡◌, ℕ, ◌≤◌, List, [], length}
 use Rattle.base_values.specs.declared.limits.TheConstants.{LONGEST_WINDOW}
-use Rattle.smv_language.specs.Trace.{Each}
-use Rattle.smv_language.specs.Flat.{FlatModel}
+use Rattle.smv_language.specs.Language.{Each, FlatModel}
 use Rattle.smv_flat_laws.specs.FlatTrace.{IsModeOf}
 use Rattle.smv_flat_laws.specs.History.{Mode, with_history}
 use Rattle.smv_type_laws.specs.ExpressionKinds.{KindRule, too_large}

@@ -3,10 +3,7 @@ use Rattle.std.proofs.Common.{◌≡◌, ℕ, false, List, [], ◌∷◌, ◌++�
 use Rattle.std.specs.Prelude.{codes}
 use Rattle.std.proofs.lemmas.List.{append-nil, append_assoc}
 use Rattle.smv_lexer.specs.declared.token.TokenKind.TheVariants as k
-use Rattle.smv_language.specs.ProgramTree.{Text, Path}
-use Rattle.smv_language.specs.Lexemes.{Lexeme, word, num, sign, is_reserved}
-use Rattle.smv_language.specs.Spells.{SpellsDotted, one_name, more_names}
-use Rattle.smv_language.specs.SpellsProgram.{SpellsCommas, last_one, one_comma, no_more, one_more}
+use Rattle.smv_language.specs.Language.{Text, Path, Lexeme, word, num, sign, is_reserved, SpellsDotted, one_name, more_names, SpellsCommas, last_one, one_comma, no_more, one_more}
 use Rattle.smv_expression_reader.proofs.Marks.{mark_of_name}
 use Rattle.fault_cause_laws.specs.CausesText.{WrittenCause, SpellsCause, a_cause, SpellsCauses}
 use Rattle.fault_causes_reader.specs.CauseStages.{start, named, within, part, after, ReadSoFar, so_far, name_read, part_read, cause_read, read_more, run}

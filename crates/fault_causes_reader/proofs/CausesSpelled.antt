@@ -3,18 +3,17 @@ use Rattle.std.proofs.Common.{◌≡◌, ℕ, Bool, true, false, List, [], ◌�
 use Rattle.std.specs.Prelude.{codes}
 use Rattle.std.proofs.lemmas.List.{append-nil, append_assoc}
 use Rattle.smv_lexer.specs.declared.token.TokenKind.TheVariants as k
-use Rattle.smv_language.specs.ProgramTree.{Text, Path}
-use Rattle.smv_language.specs.Lexemes.{Lexeme, word, num, sign, is_reserved}
-use Rattle.smv_language.specs.Spells.{SpellsDotted, one_name, more_names}
-use Rattle.smv_language.specs.SpellsProgram.{SpellsCommas, last_one, one_comma, no_more, one_more}
+use Rattle.smv_language.specs.Language.{Text, Path, Lexeme, word, num, sign, is_reserved, SpellsDotted, one_name, more_names, SpellsCommas, last_one, one_comma, no_more, one_more}
 use Rattle.smv_expression_reader.specs.TreeBuilder.{name_in, number_in}
 use Rattle.smv_expression_reader.specs.Places.{is_word}
-use Rattle.smv_expression_reader.specs.Marks.{Mark, a_name, a_number, s_dots, s_dot, s_comma, s_semicolon, mark_of}
+use Rattle.smv_expression_reader.specs.Marks.{mark_of}
 use Rattle.smv_expression_reader.proofs.Marks.{Marked, marked, word_there}
 use Rattle.fault_cause_laws.specs.CausesText.{WrittenCause, SpellsCause, a_cause, SpellsCauses}
 use Rattle.fault_causes_reader.specs.CauseStages.{Stage, start, named, within, first, dots, last, strikes, part, after, ReadSoFar, so_far, where_so, name_read, first_read, is_dots, last_read, part_read, cause_read, after_read, stepped, run}
 use Rattle.fault_causes_reader.proofs.CausesReads.{run_none}
 use Rattle.std.proofs.lemmas.Option.{same_Some as some_same}
+use Rattle.smv_expression_reader.specs.declared.mark.Mark.{Mark}
+use Rattle.smv_expression_reader.specs.declared.mark.Mark.TheVariants as mark
 
 -- the rest of a fault's name, with the names behind it
 data PartLeft : List Lexeme → Path → List Path → Type 0 where
@@ -124,31 +123,31 @@ module _ (all : List WrittenCause) where
   name_left : (c : Mark) (t : Lexeme) (bs : List WrittenCause) (ts : List Lexeme) → Marked c t → Ends (name_read c t bs) ts →
       (x : Text) × (t ≡ word x) × (is_reserved x ≡ false) × Ends (Some (so_far (within x) bs)) ts
   unfolding Marked
-  name_left a_name t bs ts m e = (m.0, m.1, m.2, subst (λ z. Ends (Some (so_far (within z) bs)) ts) (ap name_in m.1) e)
+  name_left mark.Name t bs ts m e = (m.0, m.1, m.2, subst (λ z. Ends (Some (so_far (within z) bs)) ts) (ap name_in m.1) e)
   name_left c t bs ts m e = absurd (never ts e)
 
   first_left : (c : Mark) (x : Text) (t : Lexeme) (bs : List WrittenCause) (ts : List Lexeme) → Marked c t → Ends (first_read c x t bs) ts →
       (n : ℕ) × (d : List ℕ) × (t ≡ num n d) × Ends (Some (so_far (dots x n) bs)) ts
   unfolding Marked
-  first_left a_number x t bs ts m e = (m.0, m.1, m.2, subst (λ z. Ends (Some (so_far (dots x z) bs)) ts) (ap number_in m.2) e)
+  first_left mark.Number x t bs ts m e = (m.0, m.1, m.2, subst (λ z. Ends (Some (so_far (dots x z) bs)) ts) (ap number_in m.2) e)
   first_left c x t bs ts m e = absurd (never ts e)
 
   last_left : (c : Mark) (x : Text) (a : ℕ) (t : Lexeme) (bs : List WrittenCause) (ts : List Lexeme) → Marked c t → Ends (last_read c x a t bs) ts →
       (n : ℕ) × (d : List ℕ) × (t ≡ num n d) × Ends (Some (so_far (strikes x a n) bs)) ts
   unfolding Marked
-  last_left a_number x a t bs ts m e = (m.0, m.1, m.2, subst (λ z. Ends (Some (so_far (strikes x a z) bs)) ts) (ap number_in m.2) e)
+  last_left mark.Number x a t bs ts m e = (m.0, m.1, m.2, subst (λ z. Ends (Some (so_far (strikes x a z) bs)) ts) (ap number_in m.2) e)
   last_left c x a t bs ts m e = absurd (never ts e)
 
   dots_there : (c : Mark) (t : Lexeme) → Marked c t → is_dots c ≡ true → t ≡ sign k.Dots
   unfolding Marked
-  dots_there s_dots t m h = m
+  dots_there mark.Dots t m h = m
   dots_there c t m h = cc
 
   module _ (x : Text) (a b : ℕ) (done : List Path) (path : Path) (bs : List WrittenCause) (ts : List Lexeme) where
     part_left : (c : Mark) (t : Lexeme) → Marked c t → Ends (part_read c x a b done path t bs) ts →
         (y : Text) × (t ≡ word y) × (is_reserved y ≡ false) × Ends (Some (so_far (after x a b done (path ++ y ∷ [])) bs)) ts
     unfolding Marked
-    part_left a_name t m e = (m.0, m.1, m.2, subst (λ z. Ends (Some (so_far (after x a b done (path ++ z ∷ [])) bs)) ts) (ap name_in m.1) e)
+    part_left mark.Name t m e = (m.0, m.1, m.2, subst (λ z. Ends (Some (so_far (after x a b done (path ++ z ∷ [])) bs)) ts) (ap name_in m.1) e)
     part_left c t m e = absurd (never ts e)
 
     -- behind a part of a name
@@ -159,9 +158,9 @@ module _ (all : List WrittenCause) where
 
     after_left : (c : Mark) (t : Lexeme) → Marked c t → Ends (after_read c x a b done path bs) ts → AfterStep t
     unfolding Marked
-    after_left s_dot t m e = at_dot m e
-    after_left s_comma t m e = at_comma m e
-    after_left s_semicolon t m e = at_end m e
+    after_left mark.Dot t m e = at_dot m e
+    after_left mark.Comma t m e = at_comma m e
+    after_left mark.Semicolon t m e = at_end m e
     after_left c t m e = absurd (never ts e)
 
     -- the list of strikes when the part's name is done

@@ -4,9 +4,7 @@ use Rattle.std.specs.Prelude.{slice_get}
 use Rattle.std.proofs.lemmas.Bool.{cases_lt, and_from as both_true, or_left as or_first, or_right as or_second}
 use Rattle.smv_lexer.specs.declared.token.Token.{Token}
 use Rattle.smv_lexer.proofs.SplitLemmas.{one_answer}
-use Rattle.smv_language.specs.ProgramTree.{Path, ProgramTree}
-use Rattle.smv_language.specs.Texts.{same_text}
-use Rattle.smv_language.specs.Lexemes.{lexemes_of}
+use Rattle.smv_language.specs.Language.{Path, ProgramTree, same_text, lexemes_of, EachBoth}
 use Rattle.smv_language.proofs.ValueLaws.{same_text_refl}
 use Rattle.fault_weave.specs.Faults.{Fault}
 use Rattle.fault_cause_laws.specs.Causes.{CommonCause}
@@ -16,7 +14,6 @@ use Rattle.fault_causes_reader.specs.CauseStages.{start, so_far}
 use Rattle.fault_causes_reader.specs.CausesFile.{IsNumberOf, AreStrikes, AreRead, BreakRule}
 use Rattle.fault_causes_reader.proofs.CausesReads.{causes_are_read}
 use Rattle.std.proofs.lemmas.Option.{same_Some as some_same}
-use Rattle.smv_language.specs.Trace.{EachBoth}
 
 -- the bytes spell one list of causes
 pub one_written : (bytes : List ℕ) (cs ds : List WrittenCause) → BytesSpellCauses bytes cs → BytesSpellCauses bytes ds → cs ≡ ds

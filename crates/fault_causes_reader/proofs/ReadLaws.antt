@@ -2,7 +2,7 @@
 use Rattle.std.proofs.Common.{◌≡◌, inl, inr, ℕ, List, [], ◌∷◌, None, length, map, sym, ap, ◌∙◌, subst, false}
 use Rattle.std.specs.Prelude.{flat_map}
 use Rattle.std.proofs.lemmas.List.{length-map}
-use Rattle.smv_language.specs.ProgramTree.{Text, Path, ProgramTree}
+use Rattle.smv_language.specs.Language.{Text, Path, ProgramTree, EachBoth, name_of_fault}
 use Rattle.fault_weave.specs.Faults.{Fault as WovenFault}
 use Rattle.fault_rules.specs.KeyedLists.{with_texts}
 use Rattle.smv_language.specs.declared.model.Fault.{Fault}
@@ -15,8 +15,6 @@ use Rattle.fault_causes_reader.specs.FaultPaths.{paths_of}
 use Rattle.fault_causes_reader.specs.BrokenRules.{rule_of, first_broken, are_owns_among, TellsFirst, taken_in}
 use Rattle.fault_causes_reader.specs.CausesFile.{AreNamed, AreStrikes, FaultSays, IsReadIn, IsReading, IsRefusal}
 use Rattle.fault_causes_reader.proofs.RuleLaws.{all_kept, is_broken, owns_same, owns_taken, read_as}
-use Rattle.smv_language.specs.Trace.{EachBoth}
-use Rattle.smv_language.specs.ModelTree.{name_of_fault}
 
 -- what is taken once all causes were read
 abbrev all_taken : ProgramTree → List WrittenCause → List Text

@@ -6,8 +6,7 @@ use Rattle.std.proofs.lemmas.Grind.{flat_map-append}
 use Rattle.std.proofs.lemmas.List.{length-map, append-nil, append_assoc}
 use Rattle.std.proofs.lemmas.Option.{slice_get-map, same_Some as some_same}
 use Rattle.base_values.specs.declared.limits.TheConstants.{MOST_EVENTS, LONGEST_WINDOW}
-use Rattle.smv_language.specs.ProgramTree.{Text, Path, ProgramTree}
-use Rattle.smv_language.specs.Texts.{same_text, is_among}
+use Rattle.smv_language.specs.Language.{Text, Path, ProgramTree, same_text, is_among, EachBoth}
 use Rattle.fault_weave.specs.Faults.{Fault}
 use Rattle.fault_rules.specs.KeyedLists.{with_texts}
 use Rattle.fault_rules.specs.Rules.{is_program_name}
@@ -19,7 +18,6 @@ use Rattle.fault_causes_reader.specs.CausesFile.{IsNumberOf, IsReadIn}
 use Rattle.fault_rules.proofs.KeyedLaws.{among_texts}
 use Rattle.fault_rules.proofs.LocalLaws.{program_has}
 use Rattle.smv_language.proofs.BoolLaws.{or_assoc}
-use Rattle.smv_language.specs.Trace.{EachBoth}
 use Rattle.smv_language.proofs.AmongLaws.{among_joined}
 
 any_same : {A : Type 0} (t u : A → Bool) → ((a : A) → t a ≡ u a) → (xs : List A) → list_any t xs ≡ list_any u xs

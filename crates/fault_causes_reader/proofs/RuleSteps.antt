@@ -3,8 +3,7 @@ use Rattle.std.proofs.Common.{◌≡◌, ℕ, zero, suc, ◌+◌, ◌-◌, ◌<�
 use Rattle.std.specs.Prelude.{flat_map, slice_get}
 use Rattle.std.proofs.lemmas.Grind.{flat_map-append}
 use Rattle.std.proofs.lemmas.List.{drop_more, take_more, append-nil, append_assoc, length-map, length-take-le}
-use Rattle.smv_language.specs.ProgramTree.{Text, Path}
-use Rattle.smv_language.specs.Texts.{same_text, is_among}
+use Rattle.smv_language.specs.Language.{Text, Path, same_text, is_among, EachBoth}
 use Rattle.smv_language.proofs.ValueLaws.{same_text_equal}
 use Rattle.fault_rules.specs.KeyedLists.{with_texts}
 use Rattle.fault_cause_laws.specs.CausesText.{WrittenCause}
@@ -15,7 +14,6 @@ use Rattle.fault_causes_reader.specs.BrokenRules.{is_any_among, broken_by, told_
 use Rattle.std.proofs.lemmas.Bool.{and_parts as both, or_parts as neither}
 use Rattle.fault_rules.proofs.KeyedLaws.{map_push as map_end, texts_more}
 use Rattle.smv_flat_laws.proofs.BothLaws.{both_push}
-use Rattle.smv_language.specs.Trace.{EachBoth}
 
 -- ---- lists of members that are related
 

@@ -2,8 +2,7 @@
 use Rattle.std.specs.Prelude.{◌≡◌, ◌⊎◌, ℕ, suc, ◌+◌, nat_lt, Bool, true, false, not, List, [], ◌∷◌, ◌++◌, Option, Some, None, length}
 use Rattle.std.specs.List.{list_any}
 use Rattle.base_values.specs.declared.limits.TheConstants.{MOST_EVENTS, LONGEST_WINDOW}
-use Rattle.smv_language.specs.ProgramTree.{Text, Path, ProgramTree}
-use Rattle.smv_language.specs.Texts.{same_text, is_among}
+use Rattle.smv_language.specs.Language.{Text, Path, ProgramTree, same_text, is_among}
 use Rattle.fault_rules.specs.KeyedLists.{with_texts}
 use Rattle.fault_rules.specs.Names.{program_names}
 use Rattle.fault_cause_laws.specs.CausesText.{WrittenCause}

@@ -1,11 +1,12 @@
 -- What is read of causes so far, and what one more lexeme makes of it.
 use Rattle.std.specs.Prelude.{ℕ, Bool, true, false, List, [], ◌∷◌, ◌++◌, Option, Some, None, codes}
-use Rattle.smv_language.specs.ProgramTree.{Text, Path}
-use Rattle.smv_language.specs.Lexemes.{Lexeme}
+use Rattle.smv_language.specs.Language.{Text, Path, Lexeme}
 use Rattle.smv_expression_reader.specs.TreeBuilder.{name_in, number_in}
 use Rattle.smv_expression_reader.specs.Places.{is_word}
-use Rattle.smv_expression_reader.specs.Marks.{Mark, a_name, a_number, s_dots, s_dot, s_comma, s_semicolon, mark_of}
+use Rattle.smv_expression_reader.specs.Marks.{mark_of}
 use Rattle.fault_cause_laws.specs.CausesText.{WrittenCause, SpellsCauses}
+use Rattle.smv_expression_reader.specs.declared.mark.Mark.{Mark}
+use Rattle.smv_expression_reader.specs.declared.mark.Mark.TheVariants as mark
 
 -- what comes next, with what is read of a cause so far: its name, its window, the faults named, and the parts of a name
 pub data Stage : Type 0 where
@@ -40,27 +41,27 @@ stage_where false s = None
 
 -- the stage after a cause's name
 abbrev pub name_stage : Mark → Lexeme → Option Stage
-name_stage a_name t = Some (within (name_in t))
+name_stage mark.Name t = Some (within (name_in t))
 name_stage c t = None
 
 -- the stage after the window's first number
 abbrev pub first_stage : Mark → Text → Lexeme → Option Stage
-first_stage a_number x t = Some (dots x (number_in t))
+first_stage mark.Number x t = Some (dots x (number_in t))
 first_stage c x t = None
 
 -- whether a lexeme is the two dots
 abbrev pub is_dots : Mark → Bool
-is_dots s_dots = true
+is_dots mark.Dots = true
 is_dots _ = false
 
 -- the stage after the window's last number
 abbrev pub last_stage : Mark → Text → ℕ → Lexeme → Option Stage
-last_stage a_number x a t = Some (strikes x a (number_in t))
+last_stage mark.Number x a t = Some (strikes x a (number_in t))
 last_stage c x a t = None
 
 -- the stage after a part of a fault's name
 abbrev pub part_stage : Mark → Text → ℕ → ℕ → List Path → Path → Lexeme → Option Stage
-part_stage a_name x a b done path t = Some (after x a b done (path ++ name_in t ∷ []))
+part_stage mark.Name x a b done path t = Some (after x a b done (path ++ name_in t ∷ []))
 part_stage c x a b done path t = None
 
 -- what is read after a token that must be a certain one
@@ -89,9 +90,9 @@ cause_read x a b done = record { name = x; from = a; to = b; strikes = done }
 
 -- what is read after the dot, the comma or the semicolon behind a part
 abbrev pub after_read : Mark → Text → ℕ → ℕ → List Path → Path → List WrittenCause → Option ReadSoFar
-after_read s_dot x a b done path cs = Some (so_far (part x a b done path) cs)
-after_read s_comma x a b done path cs = Some (so_far (part x a b (done ++ path ∷ []) []) cs)
-after_read s_semicolon x a b done path cs = Some (so_far start (cs ++ cause_read x a b (done ++ path ∷ []) ∷ []))
+after_read mark.Dot x a b done path cs = Some (so_far (part x a b done path) cs)
+after_read mark.Comma x a b done path cs = Some (so_far (part x a b (done ++ path ∷ []) []) cs)
+after_read mark.Semicolon x a b done path cs = Some (so_far start (cs ++ cause_read x a b (done ++ path ∷ []) ∷ []))
 after_read c x a b done path cs = None
 
 -- what one more lexeme makes of it, and nothing where no causes go on with it

@@ -1,6 +1,6 @@
 -- What the reading of a causes file says: the causes that the bytes spell, or why they are none.
 use Rattle.std.specs.Prelude.{◌≡◌, ◌⊎◌, ℕ, ◌-◌, ◌<◌, false, List, Some, map, take, slice_get}
-use Rattle.smv_language.specs.ProgramTree.{Path, ProgramTree}
+use Rattle.smv_language.specs.Language.{Path, ProgramTree, EachBoth}
 use Rattle.fault_weave.specs.Faults.{Fault as WovenFault}
 use Rattle.smv_language.specs.declared.model.Fault.{Fault}
 use Rattle.smv_expression_reader.specs.Stops.{FaultMeans}
@@ -12,7 +12,6 @@ use Rattle.fault_causes_reader.specs.declared.fault.CauseFault.TheVariants as f
 use Rattle.fault_causes_reader.specs.CauseStages.{IsCauses}
 use Rattle.fault_causes_reader.specs.FaultPaths.{paths_of}
 use Rattle.fault_causes_reader.specs.BrokenRules.{rule_of}
-use Rattle.smv_language.specs.Trace.{EachBoth}
 
 -- the list has the names of these faults of a woven program
 abbrev pub AreNamed : List Fault → List WovenFault → Type 0

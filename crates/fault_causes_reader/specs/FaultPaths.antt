@@ -1,8 +1,7 @@
 -- The names of faults.
 use Rattle.std.specs.Prelude.{List, map}
-use Rattle.smv_language.specs.ProgramTree.{Path}
+use Rattle.smv_language.specs.Language.{Path, name_of_fault}
 use Rattle.smv_language.specs.declared.model.Fault.{Fault}
-use Rattle.smv_language.specs.ModelTree.{name_of_fault}
 
 -- the names of faults
 abbrev pub paths_of : List Fault → List Path

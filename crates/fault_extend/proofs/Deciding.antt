@@ -1,16 +1,11 @@
 -- Loops over modes: what is left decides what all come to.
 use Rattle.std.proofs.Common.{◌≡◌, ℕ, suc, ◌+◌, ◌<◌, true, List, [], ◌∷◌, ◌++◌, map, length, drop, get_or, refl, sym, ◌∙◌, ap, subst, append_assoc, arith}
 use Rattle.std.specs.Prelude.{flat_map, if◌then◌else◌}
-use Rattle.smv_language.specs.ProgramTree.{DeclaredTree, ProgramTree, declared_tree}
-use Rattle.smv_language.specs.Scope.{Place}
-use Rattle.smv_language.specs.Texts.{same_text}
+use Rattle.smv_language.specs.Language.{DeclaredTree, ProgramTree, declared_tree, Place, same_text, Each, FlatInstance, FlatModel, instance_tree}
 use Rattle.smv_language.proofs.ValueLaws.{same_text_refl, same_text_equal}
 use Rattle.fault_instructions.specs.declared.instructions.ModeRule.{ModeRule}
 use Rattle.fault_instructions.specs.Instructions.{mode_tree}
-use Rattle.smv_language.specs.Trace.{Each}
-use Rattle.smv_language.specs.Flat.{FlatInstance, FlatModel}
 use Rattle.smv_language.specs.declared.model.Instance.{Instance}
-use Rattle.smv_language.specs.ModelTree.{instance_tree}
 use Rattle.fault_rules.specs.declared.placed.Placed.{Placed}
 use Rattle.fault_rules.specs.PlacedSlices.{PlacedSlice, seen_placed}
 use Rattle.fault_extend_laws.specs.SliceUses.{modes_from, uses_of_slice, uses_of_slices}

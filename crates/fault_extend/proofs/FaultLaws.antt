@@ -3,8 +3,7 @@ use Rattle.std.proofs.Common.{◌≡◌, ℕ, ◌+◌, ◌<◌, List, [], ◌∷
 use Rattle.std.specs.Prelude.{flat_map}
 use Rattle.std.proofs.lemmas.List.{drop_more}
 use Rattle.std.proofs.lemmas.Grind.{flat_map-append}
-use Rattle.smv_language.specs.ProgramTree.{Text, ProgramTree}
-use Rattle.smv_language.specs.Trace.{Each}
+use Rattle.smv_language.specs.Language.{Text, ProgramTree, Each, place_of}
 use Rattle.smv_language.specs.declared.model.Instance.{Instance}
 use Rattle.fault_weave.specs.Faults.{Fault, slice_faults, module_slices, slices_at, place_faults, HasFaults}
 use Rattle.fault_extend.specs.WovenFaults.{faults_at, IsOfModule, places_of, AreInstancesOf}
@@ -12,7 +11,6 @@ use Rattle.fault_instructions.specs.declared.instructions.Extension.{Extension}
 use Rattle.fault_instructions.specs.Instructions.{SliceTree, InstructionTree, extension_tree, slices_from, slices_of}
 use Rattle.fault_weave.specs.WovenProgram.{own_slices}
 use Rattle.fault_weave.proofs.SliceLaws.{own_first}
-use Rattle.smv_language.specs.ModelTree.{place_of}
 
 pub extensions_more : {A : Type 0} (f : SliceTree → List A) (m : Text) (xs : List Extension) (i : ℕ) (d : Extension) → i < length xs →
     flat_map f (slices_from (map extension_tree (drop i xs)) m)

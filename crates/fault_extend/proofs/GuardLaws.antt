@@ -1,13 +1,8 @@
 -- Modes that break no rule at any instance are good.
 use Rattle.std.proofs.Common.{◌≡◌, ◌⊎◌, inl, inr, ℕ, suc, Bool, true, false, List, [], ◌∷◌, ◌++◌, map, Option, Some, None, refl, sym, ◌∙◌, ap, subst}
 use Rattle.std.specs.Prelude.{codes, slice_get, Result, Ok, Err, IfOk, OnOk}
-use Rattle.smv_language.specs.Tree.{Tree}
-use Rattle.smv_language.specs.ProgramTree.{Text, Formula, DeclaredTree, ModuleTree, ProgramTree, program_tree}
-use Rattle.smv_language.specs.Texts.{same_text}
-use Rattle.smv_language.specs.Trace.{Each, IsInstance}
-use Rattle.smv_language.specs.Scope.{Place, find_module}
+use Rattle.smv_language.specs.Language.{Tree, Text, Formula, DeclaredTree, ModuleTree, ProgramTree, program_tree, same_text, Each, IsInstance, Place, find_module, FlatLeaf, FlatInstance, FlatModel}
 use Rattle.fault_instructions.specs.Instructions.{EffectTree, plain, of_constant, of_expression, of_number, of_numbers, ModeTree, SliceTree, ExtensionTree, InstructionTree, slices_from}
-use Rattle.smv_language.specs.Flat.{FlatLeaf, FlatInstance, FlatModel}
 use Rattle.smv_flat_laws.specs.Items.{instances_of}
 use Rattle.smv_flat_laws.specs.Looks.{ActualsMean}
 use Rattle.smv_flat_laws.specs.NameResolution.{has_next}

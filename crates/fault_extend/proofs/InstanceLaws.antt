@@ -2,14 +2,10 @@
 use Rattle.std.proofs.Common.{◌≡◌, ℕ, zero, suc, ◌+◌, ◌≤◌, Bool, true, false, List, [], ◌∷◌, ◌++◌, length, map, Option, Some, refl, sym, ◌∙◌, ap, subst, append_assoc, codes, arith}
 use Rattle.std.specs.Prelude.{flat_map, slice_get, if◌then◌else◌}
 use Rattle.std.proofs.lemmas.Grind.{flat_map-append}
-use Rattle.smv_language.specs.ProgramTree.{Text, DeclaredTree, boolean, range, members, instance, DeclTree, DefineTree, AssignmentTree, SectionTree, var, ivar, frozen, define, constants, assign, init, invar, trans, ModuleTree, ProgramTree}
-use Rattle.smv_language.specs.Texts.{same_text, is_among}
-use Rattle.smv_language.specs.Scope.{Place, Role, state, kind_declared, kind_in, kind_at, find_module, module_at, module_of_kind}
-use Rattle.smv_language.specs.Trace.{Each, IsInstance}
+use Rattle.smv_language.specs.Language.{Text, DeclaredTree, boolean, range, members, instance, DeclTree, DefineTree, AssignmentTree, SectionTree, var, ivar, frozen, define, constants, assign, init, invar, trans, ModuleTree, ProgramTree, same_text, is_among, Place, Role, state, kind_declared, kind_in, kind_at, find_module, module_at, module_of_kind, Each, IsInstance, FlatInstance, place_of}
 use Rattle.smv_language.proofs.ValueLaws.{same_text_equal}
 use Rattle.fault_weave.specs.Faults.{instance_names_in, instance_names, joined, each_joined, below, instances_in, HasInstances}
 use Rattle.smv_language.specs.declared.model.Instance.{Instance}
-use Rattle.smv_language.specs.Flat.{FlatInstance}
 use Rattle.smv_flat_laws.specs.Items.{Item, a_declaration, a_definition, an_assignment, some_constants, an_init, an_invar, a_trans, items_of_section, items_of, NumberedItem, numbered_from, modules_from, items_found, items_named, Visit, visits_inside, visits_of, walk_items, walk, instance_declared, instances_of_visit, instances_of}
 use Rattle.smv_flat_laws.specs.Rules.{IsAccepted, is_missing_instance, is_on_path}
 use Rattle.smv_flat_laws.proofs.Lists.{map_joined}
@@ -23,7 +19,6 @@ use Rattle.smv_flat_laws.proofs.Walkable.{accepted_walkable, main_is_there}
 use Rattle.fault_extend.specs.WovenFaults.{places_of, IsOfModule}
 use Rattle.fault_extend.specs.InstanceLaws.{instance_tree, IsNoInstance, AreNoInstances, DeclaresInVar, HasInstancesInVar, InstancesAreListed}
 use Rattle.smv_language.proofs.ListLaws.{get_map}
-use Rattle.smv_language.specs.ModelTree.{place_of}
 
 -- the places of the instances that visits declare
 abbrev list_places : List Visit → List Place

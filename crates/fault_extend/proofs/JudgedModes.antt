@@ -3,14 +3,11 @@ use Rattle.std.proofs.Common.{◌≡◌, ◌⊎◌, inl, inr, ℕ, false, List, 
 use Rattle.std.specs.Prelude.{◌||◌, slice_get, codes}
 use Rattle.smv_language.specs.declared.program.Member.{Member}
 use Rattle.smv_language.specs.declared.program.Member.TheVariants as member
-use Rattle.smv_language.specs.Tree.{Tree, Trees, Branches, truth as is_truth, number as is_number, leaf, not_of, negate, next_of, binary, choice, case_of, set_of, span, no_tree, tree_then, no_branch, branch_then}
-use Rattle.smv_language.specs.ProgramTree.{Formula, DeclaredTree, boolean, range, members, instance, ModuleTree, ProgramTree}
-use Rattle.smv_language.specs.Scope.{Place, find_module}
-use Rattle.smv_language.specs.Trace.{Each, IsVariable, EachBoth}
+use Rattle.smv_language.specs.Language.{Tree, Trees, Branches, leaf, not_of, negate, next_of, binary, choice, case_of, set_of, span, no_tree, tree_then, no_branch, branch_then, Formula, DeclaredTree, boolean, range, members, instance, ModuleTree, ProgramTree, Place, find_module, Each, IsVariable, EachBoth, FlatLeaf, FlatVariable, FlatModel}
+use Rattle.smv_language.specs.Tree.{truth as is_truth, number as is_number}
 use Rattle.fault_instructions.specs.Instructions.{EffectTree, plain, of_constant, of_expression, of_number, of_numbers}
 use Rattle.fault_instructions.specs.Types.{IsUniform, IsNumberMember, IsSymbolMember}
 use Rattle.fault_instructions.specs.Weavable.{NoNext, NoNextInTrees, NoNextInBranches, HasMeaning, IsReadable, IsReadableEffect, IsLawfulGuard}
-use Rattle.smv_language.specs.Flat.{FlatLeaf, FlatVariable, FlatModel}
 use Rattle.smv_flat_laws.specs.Items.{Visit, visits, variables_of}
 use Rattle.smv_flat_laws.specs.NameResolution.{Definition, Resolver, IsSound, IsResolved, leaves_in, has_next, trees_have_next, branches_have_next}
 use Rattle.smv_flat_laws.specs.Rules.{IsAccepted}

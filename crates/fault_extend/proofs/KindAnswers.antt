@@ -1,9 +1,7 @@
 -- The first rule of kinds of a mode, from what is told of its expressions.
 use Rattle.std.proofs.Common.{◌≡◌, Bool, true, false, not, ◌++◌, Option, Some, None, refl, sym, ◌∙◌, ap, subst}
 use Rattle.std.specs.Option.{option_map}
-use Rattle.smv_language.specs.Tree.{Tree}
-use Rattle.smv_language.specs.ProgramTree.{DeclaredTree, ProgramTree}
-use Rattle.smv_language.specs.Flat.{FlatLeaf, FlatModel}
+use Rattle.smv_language.specs.Language.{Tree, DeclaredTree, ProgramTree, FlatLeaf, FlatModel}
 use Rattle.smv_type_laws.specs.Intervals.{Interval}
 use Rattle.smv_type_laws.specs.ExpressionKinds as found
 use Rattle.smv_type_laws.specs.ExpressionKinds.{Class, truth_class, number_class, symbol_class, KindRule, mismatch, not_boolean, same_class, rule_if}

@@ -3,12 +3,10 @@ use Rattle.std.proofs.Common.{◌≡◌, ℕ, ◌+◌, false, List, [], ◌∷�
 use Rattle.std.specs.Prelude.{slice_get}
 use Rattle.smv_language.specs.declared.program.Moment.{Moment}
 use Rattle.smv_language.specs.declared.program.Moment.TheVariants.{Always, First, After}
-use Rattle.smv_language.specs.Tree.{Tree, truth as is_truth, number as is_number, leaf, not_of, negate, next_of, binary, choice, case_of, set_of, span}
-use Rattle.smv_language.specs.ProgramTree.{Text, Path, Formula, DeclaredTree, instance, SectionTree, var, ivar, frozen, define, constants, assign, init, invar, trans, ModuleTree, ProgramTree}
-use Rattle.smv_language.specs.Scope.{Place, Role, state, input, frozen_role, Kind, a_formal, a_variable, a_define, an_instance, undeclared, define_key, actual_key, kind_in, kind_at, plain_name, nth_formula, actual_of_kind}
-use Rattle.smv_language.specs.Trace.{Each, IsInstance, EachBoth}
+use Rattle.smv_language.specs.Language.{Tree, leaf, not_of, negate, next_of, binary, choice, case_of, set_of, span, Text, Path, Formula, DeclaredTree, instance, SectionTree, var, ivar, frozen, define, constants, assign, init, invar, trans, ModuleTree, ProgramTree, Place, Role, state, input, frozen_role, Kind, a_formal, a_variable, an_instance, undeclared, define_key, actual_key, kind_in, kind_at, plain_name, nth_formula, actual_of_kind, Each, IsInstance, EachBoth, FlatLeaf, FlatFormula, FlatModel}
+use Rattle.smv_language.specs.Tree.{truth as is_truth, number as is_number}
+use Rattle.smv_language.specs.Scope.{a_define}
 use Rattle.fault_instructions.specs.Weavable.{NoNext, HasMeaning, IsReadable, IsLawfulTarget, IsLawfulAssignment, IsLawfulDecl, IsLawfulSection, IsLawfulInstance}
-use Rattle.smv_language.specs.Flat.{FlatLeaf, FlatFormula, FlatModel}
 use Rattle.smv_flat_laws.specs.Looks.{ActualsMean}
 use Rattle.smv_flat_laws.specs.Items.{Item, a_declaration, a_definition, an_assignment, some_constants, an_init, an_invar, a_trans, items_of_section, items_of}
 use Rattle.smv_flat_laws.specs.NameResolution.{Definition, IsResolved, leaves_in}

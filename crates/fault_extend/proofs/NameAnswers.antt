@@ -3,19 +3,15 @@ use Rattle.std.proofs.Common.{◌≡◌, inl, inr, ℕ, ◌<◌, Bool, true, fal
 use Rattle.std.specs.Prelude.{IfSome, MatchOption, nat_lt, if◌then◌else◌, Result, Ok, Err, IfOk, IfErr, OnOk}
 use Rattle.std.specs.Option.{option_map}
 use Rattle.std.proofs.lemmas.Bool.{ltb-true, ltb-false}
-use Rattle.smv_language.specs.ProgramTree.{Path, Formula, ProgramTree}
-use Rattle.smv_language.specs.ExpressionTree.{tree_of}
+use Rattle.smv_language.specs.Language.{Path, Formula, ProgramTree, tree_of, Place, FlatModel, flat_tree}
 use Rattle.smv_language.specs.declared.expr.Expr.{Expr}
 use Rattle.fault_instructions.specs.Instructions.{guard_tree}
-use Rattle.smv_language.specs.Scope.{Place}
-use Rattle.smv_language.specs.Flat.{FlatModel}
 use Rattle.smv_flat_laws.specs.Rules.{Rule, number_of, no_main, main_has_parameters, double_module, double_name, no_such_module, wrong_count, module_loop, no_such_name, not_a_target, double_assign, define_loop, next_here, input_here, too_many, IsAccepted}
 use Rattle.smv_scope.specs.declared.fault.FlatFault.{FlatFault}
 use Rattle.smv_flat_laws.specs.ValueRules.{IsLeastBroken}
 use Rattle.smv_scope.specs.Faults.{rule_of, IsFaultOf}
 use Rattle.smv_flat.specs.ResolvedAt.{IsValueFault}
 use Rattle.smv_language.specs.declared.model.Flat.{Flat}
-use Rattle.smv_language.specs.ModelTree.{flat_tree}
 use Rattle.smv_flat.proofs.FlatFaults.{no_rule}
 use Rattle.fault_rules.specs.declared.fault.InstructionRule.TheVariants.{OutOfMemory}
 use Rattle.fault_extend_laws.specs.Uses.{Use}

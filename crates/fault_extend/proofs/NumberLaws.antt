@@ -4,8 +4,7 @@ use Rattle.std.specs.Prelude.{slice_get, cond, if◌then◌else◌, IfSome}
 use Rattle.std.specs.Cmp.Lexicographic.{pointwise}
 use Rattle.std.specs.Map.{lookup}
 use Rattle.indexmap.specs.IndexMap.{insert_entry}
-use Rattle.smv_language.specs.ProgramTree.{Text}
-use Rattle.smv_language.specs.Trace.{Each, AtSome}
+use Rattle.smv_language.specs.Language.{Text, Each, AtSome}
 use Rattle.smv_language.proofs.ValueLaws.{both_true}
 use Rattle.smv_language.specs.declared.model.FlatModel.{FlatModel}
 use Rattle.smv_language.specs.declared.model.Fault.{Fault}

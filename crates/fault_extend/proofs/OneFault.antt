@@ -1,8 +1,7 @@
 -- Of instructions for a program at most one fault is told, want of memory apart.
 use Rattle.std.proofs.Common.{◌≡◌, ◌≢◌, ℕ, suc, List, Option, Some, None, length, sym, ◌∙◌, ap, subst}
-use Rattle.smv_language.specs.ProgramTree.{Text, ProgramTree}
+use Rattle.smv_language.specs.Language.{Text, ProgramTree, FlatModel}
 use Rattle.fault_instructions.specs.Instructions.{InstructionTree}
-use Rattle.smv_language.specs.Flat.{FlatModel}
 use Rattle.smv_flat_laws.specs.Rules as rules
 use Rattle.smv_flat_laws.specs.Rules.{IsAccepted}
 use Rattle.smv_flat_laws.specs.Model.{IsFlatOf}

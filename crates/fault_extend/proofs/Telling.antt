@@ -2,15 +2,13 @@
 use Rattle.std.proofs.Common.{◌≡◌, ℕ, List, [], ◌∷◌, map, refl, sym, ap, subst}
 use Rattle.std.specs.Prelude.{Result, Ok, Err, OnOk, IfErr}
 use Rattle.std.proofs.Common.{inl, inr}
-use Rattle.smv_language.specs.ProgramTree.{Text, ProgramTree}
+use Rattle.smv_language.specs.Language.{Text, ProgramTree, FlatInstance, FlatModel, instance_tree}
 use Rattle.fault_instructions.specs.Instructions.{InstructionTree}
-use Rattle.smv_language.specs.Flat.{FlatInstance, FlatModel}
 use Rattle.smv_flat_laws.specs.Rules.{IsAccepted}
 use Rattle.smv_flat_laws.specs.Model.{IsFlatOf}
 use Rattle.smv_type_laws.specs.Models.{IsTyped}
 use Rattle.smv_type_laws.proofs.Typed.{typed_has_none}
 use Rattle.smv_language.specs.declared.model.Instance.{Instance}
-use Rattle.smv_language.specs.ModelTree.{instance_tree}
 use Rattle.smv_types.specs.Faults.{IsOfMemory, IsToldOf}
 use Rattle.smv_types.specs.declared.fault.TypeFault.{TypeFault}
 use Rattle.fault_extend_laws.specs.Uses.{uses}

@@ -1,8 +1,7 @@
 -- Which rule of instructions is told: the first that is broken, group after group.
 use Rattle.std.specs.Prelude.{◌≡◌, ◌≢◌, ℕ, List, Some, map}
-use Rattle.smv_language.specs.ProgramTree.{Text, ProgramTree}
+use Rattle.smv_language.specs.Language.{Text, ProgramTree, FlatInstance, FlatModel}
 use Rattle.fault_instructions.specs.Instructions.{InstructionTree}
-use Rattle.smv_language.specs.Flat.{FlatInstance, FlatModel}
 use Rattle.smv_flat_laws.specs.Rules.{IsAccepted}
 use Rattle.smv_flat_laws.specs.Model.{IsFlatOf}
 use Rattle.smv_language.specs.declared.model.Instance.{Instance}

@@ -1,12 +1,9 @@
 -- What is judged of the expressions of a mode, one after the other.
 use Rattle.std.specs.Prelude.{◌≡◌, ◌<◌, ℕ, Bool, true, false, Option, Some, None, IfSome, nat_lt, if◌then◌else◌, Result, Ok, Err}
 use Rattle.std.specs.Option.{option_map}
-use Rattle.smv_language.specs.Tree.{Tree}
-use Rattle.smv_language.specs.ProgramTree.{Formula, DeclaredTree, ProgramTree, program_tree}
-use Rattle.smv_language.specs.Scope.{Place}
+use Rattle.smv_language.specs.Language.{Tree, Formula, DeclaredTree, ProgramTree, program_tree, Place, FlatLeaf, FlatModel, model_tree}
 use Rattle.smv_language.specs.declared.program.Member.{Member}
 use Rattle.fault_instructions.specs.Instructions.{ModeTree}
-use Rattle.smv_language.specs.Flat.{FlatLeaf, FlatModel}
 use Rattle.smv_flat_laws.specs.Rules.{Rule, number_of}
 use Rattle.smv_type_laws.specs.ExpressionKinds as found
 use Rattle.smv_type_laws.specs.ExpressionKinds.{Class, truth_class, number_class, symbol_class, same_class}
@@ -16,7 +13,6 @@ use Rattle.smv_language.specs.declared.expr.Expr.{Expr}
 use Rattle.smv_language.specs.declared.model.Flat.{Flat}
 use Rattle.smv_scope.specs.declared.fault.FlatFault.{FlatFault}
 use Rattle.smv_scope.specs.Faults.{rule_of}
-use Rattle.smv_language.specs.ModelTree.{model_tree}
 use Rattle.smv_types.specs.declared.calls.Kind.{Kind}
 use Rattle.smv_types.specs.declared.calls.Kind.TheVariants.{Bool as ABool, Num, Sym}
 use Rattle.fault_extend_laws.specs.Uses.{Use}

@@ -1,14 +1,11 @@
 -- The instances of a flat model are those of the program in depth-first order.
 use Rattle.std.specs.Prelude.{◌≡◌, List, map}
-use Rattle.smv_language.specs.ProgramTree.{DeclaredTree, boolean, range, members, instance, DeclTree, SectionTree, var, ivar, frozen}
-use Rattle.smv_language.specs.ProgramTree.{define, constants, assign, init, invar, trans, ProgramTree}
-use Rattle.smv_language.specs.Trace.{Each}
+use Rattle.smv_language.specs.Language.{DeclaredTree, boolean, range, members, instance, DeclTree, SectionTree, var, ivar, frozen, define}
+use Rattle.smv_language.specs.Language.{constants, assign, init, invar, trans, ProgramTree, Each, FlatInstance, place_of}
 use Rattle.smv_language.specs.declared.model.Instance.{Instance}
-use Rattle.smv_language.specs.Flat.{FlatInstance}
 use Rattle.smv_flat_laws.specs.Items.{instances_of}
 use Rattle.smv_flat_laws.specs.Rules.{IsAccepted}
 use Rattle.fault_extend.specs.WovenFaults.{AreInstancesOf}
-use Rattle.smv_language.specs.ModelTree.{place_of}
 
 -- an instance of the code as one of the definitions
 abbrev pub instance_tree : Instance → FlatInstance

@@ -1,12 +1,9 @@
 -- What the rules of names and of kinds say of guards and of what is followed.
 use Rattle.std.specs.Prelude.{◌≡◌, false, List, [], Option, Some, None}
-use Rattle.smv_language.specs.Tree.{Tree}
-use Rattle.smv_language.specs.ProgramTree.{Text, Formula, DeclaredTree, ModuleTree, ProgramTree}
-use Rattle.smv_language.specs.Scope.{Place, Role, a_variable, kind_in}
-use Rattle.smv_language.specs.Trace.{IsInstance, Each}
+use Rattle.smv_language.specs.Language.{Tree, Text, Formula, DeclaredTree, ModuleTree, ProgramTree, Place, Role, a_variable, kind_in}
+use Rattle.smv_language.specs.Language.{IsInstance, Each, FlatLeaf, FlatModel}
 use Rattle.fault_instructions.specs.Instructions.{EffectTree, EachArgument, ModeTree, SliceTree, InstructionTree, slices_of}
 use Rattle.fault_instructions.specs.Types.{IsUniform}
-use Rattle.smv_language.specs.Flat.{FlatLeaf, FlatModel}
 use Rattle.smv_flat_laws.specs.NameResolution.{Definition, Resolver, IsSound, IsResolved, has_next}
 use Rattle.smv_flat_laws.specs.Rules.{IsAccepted}
 use Rattle.smv_flat_laws.specs.Model.{IsFlatOf}

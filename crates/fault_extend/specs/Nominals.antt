@@ -2,11 +2,7 @@
 use Rattle.std.specs.Prelude.{ℕ, ◌+◌, List, Option, map, flat_map}
 use Rattle.std.specs.Option.{option_map, option_copied}
 use Rattle.std.specs.Borrow.{Bor}
-use Rattle.smv_language.specs.ProgramTree.{Path, Formula, declared_tree}
-use Rattle.smv_language.specs.Trace.{Each}
-use Rattle.smv_language.specs.ExpressionTree.{tree_of}
-use Rattle.smv_language.specs.Flat.{FlatInstance}
-use Rattle.smv_language.specs.ModelTree.{flat_tree}
+use Rattle.smv_language.specs.Language.{Path, Formula, declared_tree, Each, tree_of, FlatInstance, flat_tree}
 use Rattle.smv_language.specs.declared.expr.Expr.{Expr}
 use Rattle.smv_language.specs.declared.model.Flat.{Flat}
 use Rattle.fault_instructions.specs.Instructions.{mode_tree}

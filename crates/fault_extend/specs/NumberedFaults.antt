@@ -1,11 +1,10 @@
 -- The numbers that faults have in a flat model.
 use Rattle.std.specs.Prelude.{◌≡◌, ◌≤◌, ℕ, List, [], ◌∷◌, ◌++◌, Option, Some, None, slice_get}
-use Rattle.smv_language.specs.ProgramTree.{Text, Path}
+use Rattle.smv_language.specs.Language.{Text, Path, Each, AtSome}
 use Rattle.fault_instructions.specs.AddedNames.{mode_variable, mode_symbol}
 use Rattle.smv_language.specs.declared.model.Variable.{Variable}
 use Rattle.smv_language.specs.declared.model.FlatModel.{FlatModel}
 use Rattle.smv_language.specs.declared.model.Fault.{Fault}
-use Rattle.smv_language.specs.Trace.{Each, AtSome}
 use Rattle.fault_extend.specs.declared.faults.WovenFault.{WovenFault}
 use Rattle.fault_extend.specs.declared.list.SymbolNumbers.{SymbolNumbers}
 

@@ -1,8 +1,7 @@
 -- The laws of what a weave tells, as statements.
 use Rattle.std.specs.Prelude.{◌≡◌, List}
-use Rattle.smv_language.specs.ProgramTree.{Text, ProgramTree}
+use Rattle.smv_language.specs.Language.{Text, ProgramTree, FlatModel}
 use Rattle.fault_instructions.specs.Instructions.{InstructionTree}
-use Rattle.smv_language.specs.Flat.{FlatModel}
 use Rattle.smv_flat_laws.specs.Rules.{IsAccepted}
 use Rattle.smv_flat_laws.specs.Model.{IsFlatOf}
 use Rattle.fault_extend_laws.specs.Expressions.{AllUsesKept}

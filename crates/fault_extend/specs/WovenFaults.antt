@@ -1,13 +1,10 @@
 -- The list of faults that a weave gives, over the instances of a flat model.
 use Rattle.std.specs.Prelude.{◌≡◌, List, map, flat_map}
-use Rattle.smv_language.specs.ProgramTree.{ModuleTree, ProgramTree}
-use Rattle.smv_language.specs.Trace.{Each, IsInstance}
-use Rattle.smv_language.specs.Scope.{Place}
+use Rattle.smv_language.specs.Language.{ModuleTree, ProgramTree, Each, IsInstance, Place, place_of}
 use Rattle.fault_instructions.specs.Instructions.{InstructionTree, slices_of}
 use Rattle.smv_language.specs.declared.model.Instance.{Instance}
 use Rattle.fault_weave.specs.Faults.{Fault, slice_faults, HasInstances}
 use Rattle.fault_extend.specs.declared.faults.WovenFault.{WovenFault}
-use Rattle.smv_language.specs.ModelTree.{place_of}
 
 -- a fault of the code as one of the definitions
 abbrev pub fault_tree : WovenFault → Fault

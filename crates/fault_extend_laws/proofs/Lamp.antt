@@ -2,13 +2,12 @@
 use Rattle.std.proofs.Common.{[], ◌∷◌, Some, None, inl, inr, refl}
 use Rattle.std.specs.Prelude.{codes, pos, false}
 use Rattle.smv_language.specs.Tree.{number}
-use Rattle.smv_language.specs.ProgramTree.{boolean, var, ProgramTree}
+use Rattle.smv_language.specs.Language.{boolean, var, ProgramTree, FlatModel}
 use Rattle.smv_language.specs.Values.{truth}
 use Rattle.fault_instructions.specs.declared.instructions.Dynamics.TheVariants.{Permanent}
 use Rattle.fault_instructions.specs.declared.instructions.Start.TheVariants.{Nominal}
 use Rattle.fault_instructions.specs.declared.effects.ConstantEffect.TheVariants.{StuckAt}
 use Rattle.fault_instructions.specs.Instructions.{of_constant, ModeTree, InstructionTree}
-use Rattle.smv_language.specs.Flat.{FlatModel}
 use Rattle.smv_flat_laws.specs.Rules.{Rule, no_main, main_has_parameters, double_module, double_name, no_such_module, wrong_count, module_loop, no_such_name, not_a_target, double_assign, define_loop, next_here, input_here, too_many}
 use Rattle.smv_type_laws.specs.ExpressionKinds.{not_boolean}
 use Rattle.fault_extend_laws.specs.Uses.{Use}

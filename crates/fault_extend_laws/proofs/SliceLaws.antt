@@ -2,10 +2,8 @@
 use Rattle.std.proofs.Common.{◌≡◌, ℕ, suc, ◌+◌, Bool, true, false, List, [], ◌∷◌, ◌++◌, map, length, refl, sym, ◌∙◌, ap, arith}
 use Rattle.std.specs.Prelude.{flat_map, if◌then◌else◌}
 use Rattle.std.proofs.lemmas.Grind.{flat_map-append}
-use Rattle.smv_language.specs.ProgramTree.{Text, ProgramTree}
-use Rattle.smv_language.specs.Texts.{same_text}
+use Rattle.smv_language.specs.Language.{Text, ProgramTree, same_text, FlatInstance}
 use Rattle.fault_instructions.specs.Instructions.{ModeTree, SliceTree, ExtensionTree, InstructionTree}
-use Rattle.smv_language.specs.Flat.{FlatInstance}
 use Rattle.smv_flat_laws.proofs.Lists.{map_joined}
 use Rattle.fault_instructions.specs.KindTypes.{type_of_kind}
 use Rattle.fault_rules.specs.Sites.{OwnedSlice, owned, Site, mode_sites, slice_sites, extension_sites, item_sites}

@@ -1,11 +1,7 @@
 -- The rules on guards and on what is followed, and the first that instructions break.
 use Rattle.std.specs.Prelude.{◌≡◌, ◌⊎◌, ◌<◌, ℕ, Bool, true, false, List, [], ◌∷◌, ◌++◌, Option, Some, None}
-use Rattle.smv_language.specs.Tree.{Tree}
-use Rattle.smv_language.specs.ProgramTree.{Formula, DeclaredTree, ProgramTree}
-use Rattle.smv_language.specs.Scope.{Place}
-use Rattle.smv_language.specs.Trace.{Each}
+use Rattle.smv_language.specs.Language.{Tree, Formula, DeclaredTree, ProgramTree, Place, Each, FlatLeaf, FlatModel}
 use Rattle.fault_instructions.specs.Instructions.{EffectTree, of_expression, InstructionTree}
-use Rattle.smv_language.specs.Flat.{FlatLeaf, FlatModel}
 use Rattle.smv_flat_laws.specs.Rules.{Rule, number_of}
 use Rattle.smv_flat_laws.specs.ValueRules.{BreaksValue}
 use Rattle.smv_flat_laws.specs.ResolvedAt.{IsResolvedAt}

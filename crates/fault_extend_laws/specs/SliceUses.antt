@@ -1,10 +1,7 @@
 -- The modes that are judged at an instance, slice by slice.
 use Rattle.std.specs.Prelude.{ℕ, suc, List, [], ◌∷◌, flat_map, if◌then◌else◌}
-use Rattle.smv_language.specs.ProgramTree.{DeclaredTree}
-use Rattle.smv_language.specs.Scope.{Place}
-use Rattle.smv_language.specs.Texts.{same_text}
+use Rattle.smv_language.specs.Language.{DeclaredTree, Place, same_text, FlatInstance}
 use Rattle.fault_instructions.specs.Instructions.{ModeTree}
-use Rattle.smv_language.specs.Flat.{FlatInstance}
 use Rattle.fault_rules.specs.PlacedSlices.{PlacedSlice}
 use Rattle.fault_extend_laws.specs.Uses.{Use}
 

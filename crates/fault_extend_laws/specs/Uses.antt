@@ -1,10 +1,7 @@
 -- Where the expressions of modes are judged: by instances in depth-first order, then by items.
 use Rattle.std.specs.Prelude.{ℕ, suc, List, [], ◌∷◌, ◌++◌, flat_map, if◌then◌else◌}
-use Rattle.smv_language.specs.ProgramTree.{DeclaredTree, ProgramTree}
-use Rattle.smv_language.specs.Scope.{Place}
-use Rattle.smv_language.specs.Texts.{same_text}
+use Rattle.smv_language.specs.Language.{DeclaredTree, ProgramTree, Place, same_text, FlatInstance}
 use Rattle.fault_instructions.specs.Instructions.{ModeTree, InstructionTree}
-use Rattle.smv_language.specs.Flat.{FlatInstance}
 use Rattle.smv_flat_laws.specs.Items.{instances_of}
 use Rattle.fault_instructions.specs.KindTypes.{type_of_kind}
 use Rattle.fault_rules.specs.Sites.{Site, an_extension, a_slice, a_mode, item_sites}

@@ -5,10 +5,7 @@ use Rattle.std.specs.Char.{is_ascii_digit}
 use Rattle.std.specs.Fmt.{decimal}
 use Rattle.std.proofs.lemmas.Bool.Decides.{nat_tests}
 use Rattle.smv_lexer.specs.Runs.{Runs, takes_digit}
-use Rattle.smv_language.specs.Trace.{Each}
-use Rattle.smv_language.specs.Lexemes.{is_reserved}
-use Rattle.smv_language.specs.PrintedTokens.{IsName, IsWritable}
-use Rattle.smv_language.specs.WritableProgram.{IsWritableDecl, IsWritableSection, IsWritableModule, IsWritableProgram}
+use Rattle.smv_language.specs.Language.{Each, is_reserved, IsName, IsWritable, IsWritableDecl, IsWritableSection, IsWritableModule, IsWritableProgram}
 use Rattle.smv_language.proofs.TokenTexts.{decimal_digits}
 use Rattle.fault_instructions.specs.WritableInstructions.{IsWritableMode, IsWritableSlice, IsWritableInstructions}
 use Rattle.fault_generator.specs.Generator.{next_number, stage_name, output_of, stage, with_stage, with_stages, rails_after, rails_of, Rails, relay_variables, relay_assignments, relay_module, dead_section, main_module, generated_model, off_mode, relay_slice, generated_instructions, generated_top}

@@ -2,10 +2,7 @@
 use Rattle.std.proofs.Common.{◌≡◌, ℕ, suc, ◌+◌, ◌<◌, ◌≤◌, arith, List, [], ◌∷◌, ◌++◌, length, Option, refl, sym, ◌∙◌, ap, subst, length-append}
 use Rattle.std.specs.Prelude.{codes, map, flat_map}
 use Rattle.base_values.specs.declared.limits.TheConstants.{MOST_INSTANCES, MOST_VARIABLES}
-use Rattle.smv_language.specs.ProgramTree.{boolean, ProgramTree}
-use Rattle.smv_language.specs.Scope.{state}
-use Rattle.smv_language.specs.Trace.{Each}
-use Rattle.smv_language.specs.Flat.{FlatInstance}
+use Rattle.smv_language.specs.Language.{boolean, ProgramTree, state, Each, FlatInstance}
 use Rattle.smv_flat_laws.specs.Items.{Item, numbered_from, items_named, Visit, walk_items, walk, visits, instance_declared, instances_of_visit}
 use Rattle.smv_flat_laws.specs.Rules.{no_such_module, wrong_count, module_loop, too_many, a_visit, an_item, a_use, instances_before, variables_before, visit_sites, module_sites, use_sites, IsKept, IsAccepted}
 use Rattle.smv_flat_laws.proofs.Conditions.{each_join}

@@ -2,11 +2,8 @@
 use Rattle.std.proofs.Common.{ℕ, ◌*◌, ◌≤◌, arith, List, [], ◌∷◌, ◌++◌, length, length-append}
 use Rattle.base_values.specs.declared.limits.TheConstants.{MOST_HEIGHT, MOST_NESTED}
 use Rattle.smv_lexer.specs.declared.token.TokenKind.TheVariants as k
-use Rattle.smv_language.specs.Tree.{height_of}
-use Rattle.smv_language.specs.ProgramTree.{Formula, DeclaredTree, boolean, range, members, instance, DeclTree, DefineTree, AssignmentTree, SectionTree, var, ivar, frozen, define, constants, assign, init, invar, trans, ModuleTree, ProgramTree}
-use Rattle.smv_language.specs.Trace.{Each}
-use Rattle.smv_language.specs.Lexemes.{Lexeme, sign}
-use Rattle.smv_language.specs.SpellsProgram.{SpellsMany, no_more, one_more, SpellsCommas, last_one, one_comma, SpellsBracketed, no_brackets, brackets, SpellsExpr, SpellsFormula, open_ended, ended, SpellsDeclared, is_type, is_instance, is_empty_instance, SpellsDecl, declares, SpellsDefine, defines, SpellsAssignment, assigns, SpellsSection, a_var, an_ivar, a_frozen, a_define, some_constants, an_assign, an_init, an_invar, a_trans, SpellsSections, no_section, a_section, skipped, SpellsModule, a_module}
+use Rattle.smv_language.specs.Language.{height_of, Formula, DeclaredTree, boolean, range, members, instance, DeclTree, DefineTree, AssignmentTree, SectionTree, var, ivar, frozen, define, constants, assign, init, invar, trans, ModuleTree, ProgramTree, Each, Lexeme, sign, SpellsMany, no_more, one_more, SpellsCommas, last_one, one_comma, SpellsBracketed, no_brackets, brackets, SpellsExpr, SpellsFormula, open_ended, ended, SpellsDeclared, is_type, is_instance, is_empty_instance, SpellsDecl, declares, SpellsDefine, defines, SpellsAssignment, assigns, SpellsSection, a_var, an_ivar, a_frozen, some_constants, an_assign, an_init, an_invar, a_trans, SpellsSections, no_section, a_section, skipped, SpellsModule, a_module}
+use Rattle.smv_language.specs.SpellsProgram.{a_define}
 use Rattle.smv_expression_reader.specs.ExpressionDepths.{Spelling, AreWithin, spelling, in_formula, in_many}
 use Rattle.smv_model_reader.specs.ProgramDepths.{in_commas, in_actual, in_actuals, in_declared, in_decl, in_define, in_assignment, in_section, in_sections, in_module, HasProgramDepths}
 use Rattle.fault_generator_laws.proofs.Short.{spelling_long, lexemes_short}

@@ -1,10 +1,8 @@
 -- Every expression that a program of stages has under a key is made of names, TRUE, `!` and `&`.
 use Rattle.std.proofs.Common.{◌≡◌, ℕ, zero, suc, ◌≤◌, arith, Bool, true, false, List, [], ◌∷◌, Option, Some, None, refl, subst}
 use Rattle.std.specs.Prelude.{codes}
-use Rattle.smv_language.specs.ProgramTree.{Text, Formula, DeclaredTree, boolean, range, members, instance, DeclTree, SectionTree, ModuleTree, ProgramTree}
-use Rattle.smv_language.specs.Texts.{same_text}
-use Rattle.smv_language.specs.Scope.{Place, Role, Kind, a_formal, a_variable, a_define, an_instance, undeclared, state, find_module, formal_from, kind_declared, kind_in_decls, kind_in_defines, kind_in_sections, kind_after_formals, kind_in, kind_at, module_of_kind, module_at, nth_formula, actual_of_kind, Key, define_key, actual_key}
-use Rattle.smv_language.specs.Trace.{Each}
+use Rattle.smv_language.specs.Language.{Text, Formula, DeclaredTree, boolean, range, members, instance, DeclTree, SectionTree, ModuleTree, ProgramTree, same_text, Place, Role, Kind, a_formal, a_variable, an_instance, undeclared, state, find_module, formal_from, kind_declared, kind_in_decls, kind_in_defines, kind_in_sections, kind_after_formals, kind_in, kind_at, module_of_kind, module_at, nth_formula, actual_of_kind, Key, define_key, actual_key, Each}
+use Rattle.smv_language.specs.Scope.{a_define}
 use Rattle.smv_flat_laws.specs.Rules.{expression_of_kind, expression_in, expression_of}
 use Rattle.smv_type_laws.specs.Costs.{cost_of}
 use Rattle.fault_generator.specs.Generator.{stage_name, output_of, dead_formula}

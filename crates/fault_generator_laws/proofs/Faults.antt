@@ -1,8 +1,7 @@
 -- The faults of a program of stages: one a stage.
 use Rattle.std.proofs.Common.{◌≡◌, ℕ, zero, suc, ◌+◌, ◌≤◌, arith, List, [], ◌∷◌, ◌++◌, length, Option, Some, None, refl, sym, ◌∙◌, ap, subst, append-nil}
 use Rattle.std.specs.Prelude.{codes, flat_map}
-use Rattle.smv_language.specs.ProgramTree.{ModuleTree, ProgramTree}
-use Rattle.smv_language.specs.Scope.{Place, module_at}
+use Rattle.smv_language.specs.Language.{ModuleTree, ProgramTree, Place, module_at}
 use Rattle.fault_weave.specs.Faults.{Fault, instance_names_in, joined, each_joined, below, instances_in, slice_faults, module_slices, place_faults, HasFaults}
 use Rattle.fault_generator.specs.Generator.{stage_name, relay_module, generated_instructions}
 use Rattle.fault_generator_laws.specs.Laws.{GeneratedFaultsAreStages}

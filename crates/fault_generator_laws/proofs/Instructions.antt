@@ -3,11 +3,7 @@ use Rattle.std.proofs.Common.{◌≡◌, ℕ, suc, ◌+◌, ◌*◌, ◌≤◌, 
 use Rattle.std.specs.Prelude.{codes, map, flat_map}
 use Rattle.std.specs.List.{list_any}
 use Rattle.base_values.specs.declared.limits.TheConstants.{MOST_FAULTS}
-use Rattle.smv_language.specs.ProgramTree.{Text, DeclaredTree, DeclTree, ProgramTree}
-use Rattle.smv_language.specs.Texts.{same_text}
-use Rattle.smv_language.specs.Scope.{Place, is_symbol_of_type}
-use Rattle.smv_language.specs.Trace.{Each}
-use Rattle.smv_language.specs.Flat.{FlatInstance, FlatModel}
+use Rattle.smv_language.specs.Language.{Text, DeclaredTree, DeclTree, ProgramTree, same_text, Place, is_symbol_of_type, Each, FlatInstance, FlatModel}
 use Rattle.smv_flat_laws.specs.Items.{instances_of_visit, instances_of, modules_of_instances}
 use Rattle.smv_flat_laws.proofs.Conditions.{each_flat}
 use Rattle.fault_instructions.specs.AddedNames.{own_name, mode_variable, mode_symbol}

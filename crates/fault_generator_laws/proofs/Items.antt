@@ -1,13 +1,9 @@
 -- No item of a program of stages breaks a rule, in its module or at an instance.
 use Rattle.std.proofs.Common.{◌≡◌, ℕ, suc, ◌<◌, ◌≤◌, ◌^◌, arith, true, false, List, [], ◌∷◌, ◌++◌, length, Option, Some, None, refl, sym, ◌∙◌, ap, inl, inr}
 use Rattle.std.specs.Prelude.{map, codes, flat_map}
-use Rattle.smv_language.specs.Tree.{leaf}
-use Rattle.smv_language.specs.ProgramTree.{Text, boolean, ModuleTree, ProgramTree}
-use Rattle.smv_language.specs.Texts.{is_among}
+use Rattle.smv_language.specs.Language.{leaf, Text, boolean, ModuleTree, ProgramTree, is_among, kind_at, state, FlatInstance}
 use Rattle.smv_language.specs.declared.program.Moment.TheVariants.{Always}
-use Rattle.smv_language.specs.Scope.{kind_at, state}
 use Rattle.smv_flat_laws.specs.NameResolution.{has_next}
-use Rattle.smv_language.specs.Flat.{FlatInstance}
 use Rattle.smv_flat_laws.specs.Items.{Item, a_declaration, a_definition, an_assignment, NumberedModule}
 use Rattle.smv_flat_laws.specs.Rules.{no_main, main_has_parameters, double_module, double_name, no_such_name, not_a_target, double_assign, define_loop, next_here, input_here, the_program, a_header, an_item, a_use, names_of_item, HasNoValue, is_target, may_be_assigned, IsKept}
 use Rattle.fault_generator.specs.Generator.{stage_name, stage, output_of, relay_module, dead_formula}

@@ -2,10 +2,8 @@
 use Rattle.std.proofs.Common.{◌≡◌, ℕ, zero, suc, ◌+◌, ◌≤◌, arith, Bool, true, false, List, [], ◌∷◌, ◌++◌, length, Option, Some, None, refl, sym, ◌∙◌, ap, subst, inl, inr}
 use Rattle.std.specs.Prelude.{codes, slice_get, IsTrue}
 use Rattle.smv_language.specs.Tree.{truth}
-use Rattle.smv_language.specs.ProgramTree.{Text, Path, Formula, boolean, SectionTree, ModuleTree, ProgramTree}
-use Rattle.smv_language.specs.Scope.{Place, Kind, state, a_variable, a_define, undeclared, find_module, kind_in_defines, kind_in_sections, kind_at, module_of_kind, module_at, actual_of_kind, Key, define_key, actual_key, Meaning, a_variable_at, an_expression_at, an_instance_at, a_symbol, plain_name, through_plain, through_actual, by_kind, means_in, Means}
-use Rattle.smv_language.specs.Texts.{same_text}
-use Rattle.smv_language.specs.Trace.{AtSome}
+use Rattle.smv_language.specs.Language.{Text, Path, Formula, boolean, SectionTree, ModuleTree, ProgramTree, Place, Kind, state, a_variable, undeclared, find_module, kind_in_defines, kind_in_sections, kind_at, module_of_kind, module_at, actual_of_kind, Key, define_key, actual_key, Meaning, a_variable_at, an_expression_at, an_instance_at, plain_name, through_plain, through_actual, by_kind, means_in, Means, same_text, AtSome}
+use Rattle.smv_language.specs.Scope.{a_define, a_symbol}
 use Rattle.smv_flat_laws.specs.NameResolution.{leaves_in}
 use Rattle.smv_flat_laws.specs.Looks.{Look, at_actual, plain_of, step_kind, step_on, look_after, ComesBack, MeansNothing}
 use Rattle.smv_flat_laws.specs.Rules.{HasNoValue, nothing, only_an_instance, expression_of_kind, expression_in, expression_of, Needs, NeedsItself, Leads, ActualLoops, LoopsInside, is_input_kind, MeansInput, ReadsInput, GivesInput}

@@ -5,11 +5,7 @@ use Rattle.std.proofs.lemmas.List.{take-append-drop}
 use Rattle.smv_lexer.specs.declared.token.Token.{Token}
 use Rattle.smv_lexer.specs.Tokens.{HasTokens}
 use Rattle.smv_lexer.proofs.SplitLemmas.{one_answer}
-use Rattle.smv_language.specs.ProgramTree.{Formula, ProgramTree}
-use Rattle.smv_language.specs.Lexemes.{Lexeme, lexemes_of}
-use Rattle.smv_language.specs.SpellsProgram.{SpellsExpr, SpellsProgram}
-use Rattle.smv_language.specs.Text.{program_text}
-use Rattle.smv_language.specs.Bytes.{BytesSpellProgram, BytesSpellExpr, HasDepths}
+use Rattle.smv_language.specs.Language.{Formula, ProgramTree, Lexeme, lexemes_of, SpellsExpr, SpellsProgram, program_text, BytesSpellProgram, BytesSpellExpr, HasDepths}
 use Rattle.smv_language.proofs.OneTree.{one_expression}
 use Rattle.smv_language.proofs.OneProgram.{one_program}
 use Rattle.smv_language.proofs.ProgramSpells.{program_spells}

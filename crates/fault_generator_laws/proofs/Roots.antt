@@ -2,10 +2,7 @@
 use Rattle.std.proofs.Common.{◌≡◌, ℕ, suc, ◌+◌, ◌≤◌, arith, List, [], ◌∷◌, ◌++◌, length, Option, Some, None, refl, sym, ◌∙◌, ap, subst, append-nil}
 use Rattle.std.specs.Prelude.{codes, map, flat_map}
 use Rattle.std.proofs.lemmas.List.{length-map}
-use Rattle.smv_language.specs.ProgramTree.{Text, Path, Formula, boolean, SectionTree, ProgramTree}
-use Rattle.smv_language.specs.Scope.{Place, state, a_variable, kind_in_sections, Key, define_key, actual_key, a_variable_at, means_in}
-use Rattle.smv_language.specs.Trace.{Each}
-use Rattle.smv_language.specs.Flat.{FlatInstance}
+use Rattle.smv_language.specs.Language.{Text, Path, Formula, boolean, SectionTree, ProgramTree, Place, state, a_variable, kind_in_sections, Key, define_key, actual_key, a_variable_at, means_in, Each, FlatInstance}
 use Rattle.smv_flat_laws.specs.NameResolution.{leaves_in}
 use Rattle.smv_flat_laws.specs.Items.{Item, NumberedItem, numbered_from, items_of_section, items_named, instances_of}
 use Rattle.smv_flat_laws.specs.Rules.{expression_of}

@@ -6,12 +6,8 @@ use Rattle.smv_lexer.specs.declared.token.Token.{Token}
 use Rattle.smv_lexer.specs.declared.token.TokenKind.{TokenKind}
 use Rattle.smv_lexer.specs.declared.token.TokenKind.TheVariants as k
 use Rattle.smv_lexer.specs.Tokens.{Piece, Splits, IsPiece, token_of, tokens_from, HasTokens}
-use Rattle.smv_language.specs.Tree.{Tree, Trees, Branches}
-use Rattle.smv_language.specs.ProgramTree.{Path}
-use Rattle.smv_language.specs.Lexemes.{Lexeme, word, sign, lexemes_of}
-use Rattle.smv_language.specs.Spells.{SpellsDotted, one_name, more_names, Spells, only_iff, implies, repeated, only_or, chooses, only_not, negates, only_atom, inverts, SpellsMore, no_operator, one_operator, SpellsAtom, is_true, is_false, is_number, is_span, is_name, in_parentheses, is_next, is_set, is_case, SpellsTrees, one_tree, more_trees, SpellsBranches, one_branch, more_branches}
+use Rattle.smv_language.specs.Language.{Tree, Trees, Branches, Path, Lexeme, word, sign, lexemes_of, SpellsDotted, one_name, more_names, Spells, only_iff, implies, repeated, only_or, chooses, only_not, negates, only_atom, inverts, SpellsMore, no_operator, one_operator, SpellsAtom, is_true, is_false, is_number, is_span, is_name, in_parentheses, is_next, is_set, is_case, SpellsTrees, one_tree, more_trees, SpellsBranches, one_branch, more_branches, nesting_of, more_nesting, atom_nesting, trees_nesting, branches_nesting}
 use Rattle.smv_expression_reader.specs.Places.{lexeme_at}
-use Rattle.smv_language.specs.Nesting.{nesting_of, more_nesting, atom_nesting, trees_nesting, branches_nesting}
 use Rattle.smv_lexer.proofs.PieceLemmas.{text_some as token_long}
 
 dotted_long : {ts : List Lexeme} {p : Path} → SpellsDotted ts p → 1 ≤ length ts

@@ -4,10 +4,7 @@ use Rattle.std.specs.Prelude.{codes, map, flat_map, slice_get}
 use Rattle.std.proofs.lemmas.List.{length-map}
 use Rattle.std.proofs.lemmas.List.Sums.{sum_by-cons, sum_by-append}
 use Rattle.base_values.specs.declared.limits.TheConstants.{MOST_BITS, MOST_COST}
-use Rattle.smv_language.specs.Tree.{Tree}
-use Rattle.smv_language.specs.ProgramTree.{Text, DeclaredTree, boolean, ProgramTree}
-use Rattle.smv_language.specs.Scope.{Place, Role, state, input, frozen_role, undeclared, formal_from, kind_in_decls, kind_in_sections, kind_in}
-use Rattle.smv_language.specs.Flat.{FlatLeaf, FlatInstance, FlatVariable, FlatFormula, FlatModel}
+use Rattle.smv_language.specs.Language.{Tree, Text, DeclaredTree, boolean, ProgramTree, Place, Role, state, input, frozen_role, undeclared, formal_from, kind_in_decls, kind_in_sections, kind_in, FlatLeaf, FlatInstance, FlatVariable, FlatFormula, FlatModel, EachBoth}
 use Rattle.smv_flat_laws.specs.NameResolution.{Resolver, Definition}
 use Rattle.smv_flat_laws.specs.History.{Mode, bit_variable, bit_variables, bit_at_first, bits_at_first, bit_at_step, bits_at_step, with_history}
 use Rattle.smv_flat_laws.specs.Items.{Item, items_named, Visit, variable_declared, variables_of}
@@ -29,7 +26,6 @@ use Rattle.fault_generator_laws.proofs.Typed.{main_asks_none}
 use Rattle.fault_generator_laws.proofs.Woven.{woven_sections, woven_of, out_inside, own_inside, mode_inside, woven_visits, woven_visits_are, woven_instances_are}
 use Rattle.smv_type_laws.proofs.ResolvedCosts.{resolved_cost}
 use Rattle.smv_flat_laws.proofs.BothLaws.{both_long}
-use Rattle.smv_language.specs.Trace.{EachBoth}
 
 abbrev condition_cost : Condition → ℕ
 condition_cost (plain e) = cost_of e

@@ -4,10 +4,7 @@ use Rattle.std.specs.Prelude.{nat_eq, codes}
 use Rattle.std.proofs.lemmas.Bool.Decides.{nat_tests}
 use Rattle.std.proofs.lemmas.Fmt.{decimal_injective}
 use Rattle.base_values.specs.declared.limits.TheConstants.{MOST_INSTANCES}
-use Rattle.smv_language.specs.ProgramTree.{DeclTree, SectionTree, ModuleTree, ProgramTree}
-use Rattle.smv_language.specs.Texts.{same_text}
-use Rattle.smv_language.specs.Trace.{Each}
-use Rattle.smv_language.specs.Scope.{Kind, an_instance, state, kind_in_decls}
+use Rattle.smv_language.specs.Language.{DeclTree, SectionTree, ModuleTree, ProgramTree, same_text, Each, Kind, an_instance, state, kind_in_decls}
 use Rattle.smv_language.proofs.ValueLaws.{same_text_equal, same_text_refl}
 use Rattle.smv_flat_laws.proofs.Lists.{each_more}
 use Rattle.fault_generator.specs.Generator.{rails_after, stage_name, output_of, Rails, stage, with_stage, with_stages, rails_of, relay_variables, relay_assignments, relay_module, main_module, generated_model}

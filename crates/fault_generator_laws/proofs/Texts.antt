@@ -3,11 +3,7 @@ use Rattle.std.proofs.Common.{◌≡◌, ℕ, suc, ◌+◌, ◌*◌, ◌<◌, �
 use Rattle.std.specs.Prelude.{codes, map}
 use Rattle.std.proofs.lemmas.Fmt.{length-decimal-le}
 use Rattle.base_values.specs.declared.limits.TheConstants.{MOST_STAGES}
-use Rattle.smv_language.specs.Tree.{height_of}
-use Rattle.smv_language.specs.ProgramTree.{Text, Formula, ProgramTree}
-use Rattle.smv_language.specs.Text.{text_of, declared_text, line, decl_line, define_line, all_of, section_text, module_text, program_text}
-use Rattle.smv_language.specs.Trace.{Each}
-use Rattle.smv_language.specs.Lexemes.{Lexeme, word, lexemes_of}
+use Rattle.smv_language.specs.Language.{height_of, Text, Formula, ProgramTree, text_of, declared_text, line, decl_line, define_line, all_of, section_text, module_text, program_text, Each, Lexeme, word, lexemes_of}
 use Rattle.smv_flat_laws.proofs.Lists.{each_more}
 use Rattle.fault_instructions.specs.Instructions.{EffectTree, EachArgument, ModeTree, SliceTree, ExtensionTree, InstructionTree}
 use Rattle.fault_instructions.specs.InstructionText.{instructions_text, extension_words}

@@ -2,10 +2,7 @@
 use Rattle.std.proofs.Common.{◌≡◌, ℕ, zero, suc, arith, false, List, [], ◌∷◌, Option, Some, None, refl, sym, ◌∙◌, ap, subst, inl, inr, le-ltb}
 use Rattle.std.specs.Prelude.{codes, IsTrue, nat_lt}
 use Rattle.base_values.specs.declared.limits.TheConstants.{MOST_TOP_COST}
-use Rattle.smv_language.specs.Tree.{Tree}
-use Rattle.smv_language.specs.ProgramTree.{Formula, ModuleTree, ProgramTree}
-use Rattle.smv_language.specs.Scope.{Place, Kind, kind_at, Key, define_key, a_variable_at, an_expression_at, by_kind, means_in, Means}
-use Rattle.smv_language.specs.Flat.{FlatLeaf, FlatModel}
+use Rattle.smv_language.specs.Language.{Tree, Formula, ModuleTree, ProgramTree, Place, Kind, kind_at, Key, define_key, a_variable_at, an_expression_at, by_kind, means_in, Means, FlatLeaf, FlatModel}
 use Rattle.smv_flat_laws.specs.ResolvedAt.{IsResolvedAt}
 use Rattle.smv_flat_laws.specs.Model.{IsFlatOf}
 use Rattle.smv_flat_laws.specs.Rules.{Rule, no_such_name, next_here, input_here, expression_of, Needs, Leads, is_input_kind, MeansInput, ReadsInput}

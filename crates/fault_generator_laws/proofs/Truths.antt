@@ -6,11 +6,8 @@ use Rattle.std.proofs.lemmas.List.Sums.{sum_by-cons}
 use Rattle.base_values.specs.declared.limits.TheConstants.{MOST_INSTANCES, MOST_BITS, MOST_COST}
 use Rattle.smv_language.specs.declared.expr.Op.{Op}
 use Rattle.smv_language.specs.declared.expr.Op.TheVariants as op
-use Rattle.smv_language.specs.Tree.{Tree, truth, leaf, not_of, binary}
-use Rattle.smv_language.specs.ProgramTree.{Text, Path, Formula, DeclaredTree, boolean}
-use Rattle.smv_language.specs.Scope.{Role, state, input, frozen_role}
-use Rattle.smv_language.specs.Trace.{Each}
-use Rattle.smv_language.specs.Flat.{FlatLeaf, flat_variable, flat_symbol, flat_definition, FlatVariable, FlatFormula, FlatModel}
+use Rattle.smv_language.specs.Language.{Tree, leaf, not_of, binary, Text, Path, Formula, DeclaredTree, boolean, Role, state, input, frozen_role, Each, FlatLeaf, flat_variable, flat_symbol, flat_definition, FlatVariable, FlatFormula, FlatModel}
+use Rattle.smv_language.specs.Tree.{truth}
 use Rattle.smv_flat_laws.specs.NameResolution.{IsResolved}
 use Rattle.smv_flat_laws.proofs.Lists.{each_more}
 use Rattle.smv_type_laws.specs.ExpressionKinds.{Kind, truth_class, Judged, judged_not, judged_connective, judged_same, judge}

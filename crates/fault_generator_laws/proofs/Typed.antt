@@ -2,11 +2,8 @@
 use Rattle.std.proofs.Common.{◌≡◌, ℕ, suc, ◌≤◌, arith, List, [], ◌∷◌, ◌++◌, length, Option, Some, None, refl, sym, ◌∙◌, ap, subst}
 use Rattle.std.specs.Prelude.{codes, map, flat_map, slice_get}
 use Rattle.std.proofs.lemmas.List.{length-map}
-use Rattle.smv_language.specs.Tree.{Tree, leaf}
-use Rattle.smv_language.specs.ProgramTree.{Text, Formula, ProgramTree}
-use Rattle.smv_language.specs.Scope.{Place, Meaning, a_variable_at, an_expression_at, an_instance_at, a_symbol}
-use Rattle.smv_language.specs.Trace.{Each, EachBoth}
-use Rattle.smv_language.specs.Flat.{FlatLeaf, flat_variable, flat_symbol, flat_definition, FlatInstance, FlatVariable, FlatFormula, FlatModel}
+use Rattle.smv_language.specs.Language.{Tree, leaf, Text, Formula, ProgramTree, Place, Meaning, a_variable_at, an_expression_at, an_instance_at, Each, EachBoth, FlatLeaf, flat_variable, flat_symbol, flat_definition, FlatInstance, FlatVariable, FlatFormula, FlatModel}
+use Rattle.smv_language.specs.Scope.{a_symbol}
 use Rattle.smv_flat_laws.specs.NameResolution.{StandsFor, Resolver, IsSound, IsResolved, Definition}
 use Rattle.smv_flat_laws.specs.Items.{instances_of, Item, numbered_from, items_named, Visit, variable_declared, variables_of, instances_of_visit}
 use Rattle.smv_flat_laws.specs.Model.{Condition, now_among, Written, written_at, conditions, first_conditions, each_conditions, step_conditions, kept_conditions, IsVariableOf, IsFormulaOf, first_appearances, symbols_of_item, symbols_of, IsDefinitionOf, IsFlatOf}

@@ -2,10 +2,7 @@
 use Rattle.std.proofs.Common.{◌≡◌, ℕ, suc, ◌+◌, ◌<◌, ◌≤◌, arith, List, [], ◌∷◌, ◌++◌, length, Option, refl, sym, ◌∙◌, ap, subst}
 use Rattle.std.specs.Prelude.{codes, map, flat_map}
 use Rattle.base_values.specs.declared.limits.TheConstants.{MOST_INSTANCES, MOST_VARIABLES}
-use Rattle.smv_language.specs.ProgramTree.{Text, DeclaredTree, boolean, SectionTree, ProgramTree}
-use Rattle.smv_language.specs.Scope.{state}
-use Rattle.smv_language.specs.Trace.{Each}
-use Rattle.smv_language.specs.Flat.{FlatInstance}
+use Rattle.smv_language.specs.Language.{Text, DeclaredTree, boolean, SectionTree, ProgramTree, state, Each, FlatInstance}
 use Rattle.smv_flat_laws.specs.Items.{Item, NumberedItem, NumberedModule, numbered_items, numbered_from, items_named, modules_of, Visit, walk_items, walk, visits, instances_of_visit, instances_of}
 use Rattle.smv_flat_laws.specs.Rules.{too_many, a_header, an_item, a_visit, a_use, instances_before, variables_before, visit_sites, module_sites, use_sites, sites, Breaks, IsWithin}
 use Rattle.smv_flat_laws.proofs.Reaches.{each_right}

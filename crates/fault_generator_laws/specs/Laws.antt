@@ -1,11 +1,7 @@
 -- What the generator's models and instructions keep, as statements.
 use Rattle.std.specs.Prelude.{◌≡◌, ℕ, ◌<◌, ◌≤◌, false, List, [], None, length, codes}
 use Rattle.base_values.specs.declared.limits.TheConstants.{MOST_INSTANCES, MOST_STAGES}
-use Rattle.smv_language.specs.Tree.{Tree}
-use Rattle.smv_language.specs.ProgramTree.{ProgramTree}
-use Rattle.smv_language.specs.Text.{program_text}
-use Rattle.smv_language.specs.Trace.{Each}
-use Rattle.smv_language.specs.Bytes.{HasDepths}
+use Rattle.smv_language.specs.Language.{Tree, ProgramTree, program_text, Each, HasDepths, FlatLeaf, FlatModel}
 use Rattle.fault_instructions.specs.InstructionText.{instructions_text}
 use Rattle.fault_reader.specs.InstructionDepths.{HaveInstructionDepths, AreInstructionsTooDeep}
 use Rattle.fault_reader.specs.InstructionPlaces.{IsInstructions}
@@ -14,7 +10,6 @@ use Rattle.smv_expression_reader.specs.declared.fault.ParseFault.TheVariants.{Ou
 use Rattle.smv_expression_reader.specs.Stops.{IsExpression, IsTooDeep, FaultMeans}
 use Rattle.smv_model_reader.specs.Symbols.{IsProgram}
 use Rattle.smv_model_reader.specs.ProgramDepths.{HasProgramDepths, IsProgramTooDeep}
-use Rattle.smv_language.specs.Flat.{FlatLeaf, FlatModel}
 use Rattle.smv_flat_laws.specs.History.{Mode, with_history}
 use Rattle.smv_flat_laws.specs.Items.{modules_of_instances}
 use Rattle.smv_flat_laws.specs.Rules.{Rule, too_many, sites, Breaks, IsFirstBroken, IsAccepted}

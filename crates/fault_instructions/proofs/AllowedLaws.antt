@@ -7,10 +7,8 @@ use Rattle.std.proofs.lemmas.Bool.Decides.{Decides-int_eq}
 use Rattle.std.specs.Ordering.{int_eq}
 use Rattle.smv_language.specs.declared.program.Member.{Member}
 use Rattle.smv_language.specs.declared.program.Member.TheVariants as member
-use Rattle.smv_language.specs.ProgramTree.{Text}
-use Rattle.smv_language.specs.Values.{Value, truth, number, symbol, same_value, same_int}
-use Rattle.smv_language.specs.Texts.{same_text}
-use Rattle.smv_language.specs.Trace.{is_member, value_of_member}
+use Rattle.smv_language.specs.Language.{Text, Value, symbol, same_value, same_int, same_text, is_member, value_of_member}
+use Rattle.smv_language.specs.Values.{truth, number}
 use Rattle.smv_language.proofs.ValueLaws.{same_text_refl, same_int_equal, same_value_refl}
 use Rattle.smv_language.proofs.OneTree.{same_text_equal}
 use Rattle.base_values.proofs.BoolLaws.{bool_same}

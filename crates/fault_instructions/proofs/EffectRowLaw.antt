@@ -1,10 +1,8 @@
 -- The law of effects.
 use Rattle.std.proofs.Common.{◌≡◌, ◌≢◌, ◌↔◌, Bool, true, false, Option, Some, None, refl, sym, ◌∙◌, ap, subst}
 use Rattle.std.specs.Prelude.{ℤ, int_lt, ◌-ℤ◌, IsTrue, codes, ◌||◌, ◌&&◌, if◌then◌else◌}
-use Rattle.smv_language.specs.ProgramTree.{Text, Path, Formula, DeclaredTree, boolean, range, members, instance}
-use Rattle.smv_language.specs.Values.{Value, truth, number, symbol, Values, one, has, same_value, opposite}
-use Rattle.smv_language.specs.Evaluate.{Leaves, evaluate}
-use Rattle.smv_language.specs.Trace.{Each, in_domain}
+use Rattle.smv_language.specs.Language.{Text, Path, Formula, DeclaredTree, boolean, range, members, instance, Value, symbol, Values, one, has, same_value, opposite, Leaves, evaluate, Each, in_domain}
+use Rattle.smv_language.specs.Values.{truth, number}
 use Rattle.smv_language.proofs.ValueLaws.{same_text_refl}
 use Rattle.fault_instructions.specs.declared.effects.EffectRule.{EffectRule}
 use Rattle.fault_instructions.specs.declared.effects.EffectRule.TheVariants.{NotOwn, AsBefore, AsEntered, Falling}

@@ -5,13 +5,9 @@ use Rattle.std.proofs.lemmas.List.{drop_more}
 use Rattle.smv_lexer.specs.Bytes.{is_word_start}
 use Rattle.smv_lexer.specs.Runs.{Runs, takes_word}
 use Rattle.smv_lexer.specs.Tokens.{IsWord}
-use Rattle.smv_language.specs.Texts.{same_text}
+use Rattle.smv_language.specs.Language.{same_text, binary, next_of, Text, Path, Formula, DeclaredTree, boolean, range, members, instance, Value, symbol, Values, one, has, same_value, opposite, Leaves, evaluate, gives_choice, in_domain}
 use Rattle.smv_language.specs.declared.expr.Op.TheVariants as op
-use Rattle.smv_language.specs.Tree.{binary, next_of}
-use Rattle.smv_language.specs.ProgramTree.{Text, Path, Formula, DeclaredTree, boolean, range, members, instance}
-use Rattle.smv_language.specs.Values.{Value, truth, number, symbol, Values, one, has, same_value, opposite}
-use Rattle.smv_language.specs.Evaluate.{Leaves, evaluate, gives_choice}
-use Rattle.smv_language.specs.Trace.{in_domain}
+use Rattle.smv_language.specs.Values.{truth, number}
 use Rattle.smv_language.proofs.ValueLaws.{same_value_equal, same_value_refl, both_true}
 use Rattle.fault_instructions.specs.declared.effects.PlainEffect.TheVariants.{Inverted, Random, Erroneous, Frozen, StuckAtPick}
 use Rattle.fault_instructions.specs.declared.effects.ConstantEffect.TheVariants.{StuckAt}

@@ -2,12 +2,10 @@
 use Rattle.std.proofs.Common.{◌≡◌, ℕ, true, false, [], ◌∷◌, Some, None, refl}
 use Rattle.std.specs.Prelude.{pos, negsuc, codes, if◌then◌else◌}
 use Rattle.smv_language.specs.declared.program.Member.TheVariants as member
-use Rattle.smv_language.specs.ProgramTree.{Path, boolean, range, members}
-use Rattle.smv_language.specs.Texts.{same_text}
-use Rattle.smv_language.specs.Evaluate.{Leaves, evaluate}
-use Rattle.smv_language.specs.Tree.{binary, negate, number as a_number}
+use Rattle.smv_language.specs.Language.{Path, boolean, range, members, same_text, Leaves, evaluate, binary, negate, symbol, one}
+use Rattle.smv_language.specs.Tree.{number as a_number}
 use Rattle.smv_language.specs.declared.expr.Op.TheVariants as op
-use Rattle.smv_language.specs.Values.{truth, number, symbol, one}
+use Rattle.smv_language.specs.Values.{truth, number}
 use Rattle.fault_instructions.specs.declared.effects.PlainEffect.TheVariants.{Erroneous, Frozen}
 use Rattle.fault_instructions.specs.declared.effects.ConstantEffect.TheVariants.{StuckAt}
 use Rattle.fault_instructions.specs.declared.effects.NumberEffect.TheVariants.{Offset}

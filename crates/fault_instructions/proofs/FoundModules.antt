@@ -1,9 +1,7 @@
 -- The module that a name finds is one of the program's.
 use Rattle.std.proofs.Common.{◌≡◌, inl, inr, Bool, true, false, [], ◌∷◌, Some}
 use Rattle.std.specs.Prelude.{if◌then◌else◌}
-use Rattle.smv_language.specs.ProgramTree.{Text, ModuleTree, ProgramTree}
-use Rattle.smv_language.specs.Texts.{same_text}
-use Rattle.smv_language.specs.Scope.{find_module}
+use Rattle.smv_language.specs.Language.{Text, ModuleTree, ProgramTree, same_text, find_module}
 use Rattle.fault_instructions.specs.Weavable.{Among}
 
 pub found_among : (q : ProgramTree) (x : Text) (m : ModuleTree) → find_module q x ≡ Some m → Among q m

@@ -5,13 +5,8 @@ use Rattle.std.specs.Fmt.{signed_decimal}
 use Rattle.smv_lexer.specs.declared.token.TokenKind.{TokenKind}
 use Rattle.smv_lexer.specs.declared.token.TokenKind.TheVariants as k
 use Rattle.smv_lexer.specs.Tokens.{IsWord, IsNumber, number_of, sign_text}
-use Rattle.smv_language.specs.ProgramTree.{Text, Formula}
-use Rattle.smv_language.specs.Values.{Value, truth, number, symbol, value_text}
-use Rattle.smv_language.specs.Lexemes.{Lexeme, word, num, sign}
-use Rattle.smv_language.specs.SpellsProgram.{SpellsMany, no_more, one_more}
-use Rattle.smv_language.specs.Text.{each_after, joined, text_of, all_of}
-use Rattle.smv_language.specs.PrintedTokens.{printed, printed_int, in_brackets}
-use Rattle.smv_language.specs.Trace.{Each}
+use Rattle.smv_language.specs.Language.{Text, Formula, Value, symbol, value_text, Lexeme, word, num, sign, SpellsMany, no_more, one_more, each_after, joined, text_of, all_of, printed, printed_int, in_brackets, Each, IsPlain}
+use Rattle.smv_language.specs.Values.{truth, number}
 use Rattle.smv_language.proofs.Pieces.{Reads, nothing, then, as_lexemes, piece_reads, whole_reads}
 use Rattle.smv_language.proofs.TokenTexts.{Ends, blank, line_feed, is_open_brace, is_close_brace, is_comma, is_semicolon, is_colon, is_word, AreDigits, digits_read}
 use Rattle.smv_language.proofs.PrintedSpells.{printed_spells, an_expr, int_spells}
@@ -25,7 +20,6 @@ use Rattle.fault_instructions.specs.Instructions.{EffectTree, ModeTree, SliceTre
 use Rattle.fault_instructions.specs.SpellsInstructions.{SpellsConst, const_true, const_false, const_int, const_name, SpellsEffect, SpellsDynamics, d_permanent, d_transient, SpellsGuard, no_guard, a_guard, IsTokenText, number_text, word_text, sign_of, SpellsMark, no_mark, a_mark, SpellsMode, a_mode, SpellsStart, at_nominal, at_any, SpellsSlice, a_slice, SpellsExtension, an_extension, SpellsInstructions, unnamed, named, BytesSpellInstructions, SpellsArguments, no_argument, a_constant, an_expression, a_number, two_numbers, an_effect}
 use Rattle.fault_instructions.specs.InstructionText.{effect_text, dynamics_text, mark_text, guard_text, mode_head, mode_line, start_text, slice_text, extension_text, extension_words, file_words, name_line, instructions_text, arguments_text}
 use Rattle.fault_instructions.specs.WritableInstructions.{IsInner, IsMarkText, IsWritableEffect, IsWritableMark, IsWritableGuard, IsWritableMode, IsWritableSlice, IsWritableExtension, IsWritableInstructions}
-use Rattle.smv_language.specs.WritableProgram.{IsPlain}
 use Rattle.fault_instructions.proofs.OneInstructions.{OneToken}
 use Rattle.fault_instructions.specs.Effects.{keyword}
 use Rattle.fault_instructions.proofs.EffectRows.{keyword_word}

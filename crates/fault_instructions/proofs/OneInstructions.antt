@@ -3,12 +3,8 @@ use Rattle.std.proofs.Common.{◌≡◌, true, false, List, [], ◌∷◌, ◌++
 use Rattle.std.specs.Prelude.{codes}
 use Rattle.smv_lexer.specs.declared.token.TokenKind.TheVariants as k
 use Rattle.smv_lexer.specs.Tokens.{sign_text}
-use Rattle.smv_language.specs.ProgramTree.{Text}
+use Rattle.smv_language.specs.Language.{Text, Lexeme, word, num, sign, same_text, plain_int, minus_int, SpellsMany, no_more, one_more}
 use Rattle.smv_language.specs.Values.{number}
-use Rattle.smv_language.specs.Lexemes.{Lexeme, word, num, sign}
-use Rattle.smv_language.specs.Texts.{same_text}
-use Rattle.smv_language.specs.Spells.{plain_int, minus_int}
-use Rattle.smv_language.specs.SpellsProgram.{SpellsMany, no_more, one_more}
 use Rattle.smv_language.proofs.Ends.{end_of_bracket}
 use Rattle.smv_language.proofs.OneTree.{Same, not_reserved, one_int, regrouped, second, tails}
 use Rattle.smv_language.proofs.OneParts.{OneBefore, Any, Nothing, Semicolon, semicolon_stops, one_expr, one_many, words_differ, Braced}

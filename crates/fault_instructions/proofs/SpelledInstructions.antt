@@ -2,15 +2,11 @@
 use Rattle.std.proofs.Common.{◌≢◌, inl, inr, ℕ, List, [], ◌∷◌, ◌++◌, Option, codes, refl, subst}
 use Rattle.smv_lexer.specs.declared.token.TokenKind.{TokenKind}
 use Rattle.smv_lexer.specs.declared.token.TokenKind.TheVariants as k
-use Rattle.smv_language.specs.ProgramTree.{Text, Formula}
-use Rattle.smv_language.specs.Values.{Value}
-use Rattle.smv_language.specs.Lexemes.{Lexeme, word, sign}
-use Rattle.smv_language.specs.PrintedTokens.{IsSmall}
+use Rattle.smv_language.specs.Language.{Text, Formula, Value, Lexeme, word, sign, IsSmall, IsPlain}
 use Rattle.smv_language.proofs.Spelled.{IsSign, Fits, AllFit, front, back, tokens_fit, int_writable, spelled_writable, many_writable}
 use Rattle.fault_instructions.specs.Instructions.{EffectTree, ModeTree, SliceTree, ExtensionTree, InstructionTree}
 use Rattle.fault_instructions.specs.SpellsInstructions.{SpellsConst, const_true, const_false, const_int, const_name, SpellsEffect, SpellsGuard, no_guard, a_guard, IsTokenText, number_text, word_text, sign_of, SpellsMark, no_mark, a_mark, SpellsMode, a_mode, SpellsSlice, a_slice, SpellsExtension, an_extension, SpellsInstructions, unnamed, named, BytesSpellInstructions, SpellsArguments, no_argument, a_constant, an_expression, a_number, two_numbers, an_effect}
 use Rattle.fault_instructions.specs.WritableInstructions.{IsInner, IsMarkText, IsWritableEffect, IsWritableMark, IsWritableGuard, IsWritableMode, IsWritableSlice, IsWritableExtension, IsWritableInstructions}
-use Rattle.smv_language.specs.WritableProgram.{IsPlain}
 use Rattle.fault_instructions.proofs.OneInstructions.{OneToken}
 
 const_writable : {ts : List Lexeme} {c : Value} → SpellsConst ts c → AllFit ts → IsPlain c

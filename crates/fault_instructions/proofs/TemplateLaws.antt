@@ -4,12 +4,9 @@ use Rattle.std.specs.Prelude.{nat_abs, ℤ, pos, negsuc, nat_eq, ◌-ℤ◌, IsT
 use Rattle.smv_language.specs.declared.expr.Op.TheVariants as op
 use Rattle.smv_language.specs.declared.program.Member.{Member}
 use Rattle.smv_language.specs.declared.program.Member.TheVariants as member
-use Rattle.smv_language.specs.Tree.{binary, negate, number as is_number}
-use Rattle.smv_language.specs.ProgramTree.{Text, Path, DeclaredTree, boolean, range, members, instance}
-use Rattle.smv_language.specs.Values.{Value, truth, number, symbol, Values, no_value, one, from_to, either, has, same_value, same_int, opposite, apply}
-use Rattle.smv_language.specs.Texts.{same_text}
-use Rattle.smv_language.specs.Evaluate.{Leaves, evaluate, evaluate_trees}
-use Rattle.smv_language.specs.Trace.{Each, in_domain, is_member, value_of_member}
+use Rattle.smv_language.specs.Language.{binary, negate, Text, Path, DeclaredTree, boolean, range, members, instance, Value, symbol, Values, no_value, one, from_to, either, has, same_value, same_int, opposite, apply, same_text, Leaves, evaluate, evaluate_trees, Each, in_domain, is_member, value_of_member}
+use Rattle.smv_language.specs.Tree.{number as is_number}
+use Rattle.smv_language.specs.Values.{truth, number}
 use Rattle.smv_language.proofs.ValueLaws.{same_text_refl, same_value_equal, same_value_refl}
 use Rattle.fault_instructions.specs.AddedNames.{ModeState, mode_symbol}
 use Rattle.fault_instructions.specs.Templates.{number_tree, value_tree, member_trees, domain_tree}

@@ -1,7 +1,6 @@
 -- What an effect is made of: the forms of what it demands of a type, and of its branch.
 use Rattle.std.specs.Prelude.{ℤ, Bool, Option}
-use Rattle.smv_language.specs.ProgramTree.{Formula}
-use Rattle.smv_language.specs.Values.{Value}
+use Rattle.smv_language.specs.Language.{Formula, Value}
 use Rattle.fault_instructions.specs.declared.effects.EffectRule.{EffectRule}
 
 -- what the type of the variable has to be

@@ -2,11 +2,9 @@
 use Rattle.std.specs.Prelude.{◌≡◌, ◌≢◌, ◌↔◌, IsTrue, Bool, true, false, List, [], ◌∷◌, Some, None, codes}
 use Rattle.smv_language.specs.declared.program.Member.{Member}
 use Rattle.smv_language.specs.declared.program.Member.TheVariants as member
-use Rattle.smv_language.specs.ProgramTree.{Text, Path, Formula, DeclaredTree, members, SectionTree, init, invar, trans}
-use Rattle.smv_language.specs.Values.{Value, truth, symbol, Values, one, has, opposite}
-use Rattle.smv_language.specs.Texts.{same_text}
-use Rattle.smv_language.specs.Evaluate.{Leaves, evaluate}
-use Rattle.smv_language.specs.Trace.{Each, in_domain}
+use Rattle.smv_language.specs.Language.{Text, Path, Formula, DeclaredTree, members, SectionTree, init, invar, trans, Value, symbol, Values}
+use Rattle.smv_language.specs.Language.{one, has, opposite, same_text, Leaves, evaluate, Each, in_domain}
+use Rattle.smv_language.specs.Values.{truth}
 use Rattle.fault_instructions.specs.Instructions.{EffectTree, SliceTree}
 use Rattle.fault_instructions.specs.AddedNames.{ModeState, own_name, mode_variable, mode_symbol}
 use Rattle.fault_instructions.specs.Effects.{row, Allows}

@@ -2,9 +2,8 @@
 -- of, and the read values that it allows, given the own value and the value read at the moment before.
 use Rattle.std.specs.Prelude.{◌≡◌, ◌≢◌, ℤ, Bool, true, false, IsTrue, int_lt, ◌+ℤ◌, ◌-ℤ◌, if◌then◌else◌}
 use Rattle.std.specs.Prelude.{List, [], ◌∷◌, Option, Some, None, codes}
-use Rattle.smv_language.specs.ProgramTree.{Text, Formula, DeclaredTree, range}
-use Rattle.smv_language.specs.Values.{Value, truth, number, opposite}
-use Rattle.smv_language.specs.Trace.{in_domain}
+use Rattle.smv_language.specs.Language.{Text, Formula, DeclaredTree, range, Value, opposite, in_domain}
+use Rattle.smv_language.specs.Values.{truth, number}
 use Rattle.fault_instructions.specs.declared.effects.PlainEffect.TheVariants.{Inverted, Random, Erroneous, Frozen, StuckAtPick}
 use Rattle.fault_instructions.specs.declared.effects.ConstantEffect.TheVariants.{StuckAt}
 use Rattle.fault_instructions.specs.declared.effects.ExpressionEffect.TheVariants.{Follows}

@@ -1,9 +1,7 @@
 -- The text of instructions, as bytes.
 use Rattle.std.specs.Prelude.{List, [], ◌++◌, Option, Some, None, map, codes}
 use Rattle.std.specs.Fmt.{signed_decimal}
-use Rattle.smv_language.specs.ProgramTree.{Text, Formula}
-use Rattle.smv_language.specs.Text.{text_of, joined, all_of}
-use Rattle.smv_language.specs.Values.{value_text}
+use Rattle.smv_language.specs.Language.{Text, Formula, text_of, joined, all_of, value_text}
 use Rattle.fault_instructions.specs.declared.instructions.Dynamics.{Dynamics}
 use Rattle.fault_instructions.specs.declared.instructions.Dynamics.TheVariants.{Permanent, Transient}
 use Rattle.fault_instructions.specs.declared.instructions.Start.{Start}

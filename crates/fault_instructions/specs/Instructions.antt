@@ -17,11 +17,9 @@ use Rattle.fault_instructions.specs.declared.instructions.ModeRule.{ModeRule}
 use Rattle.fault_instructions.specs.declared.instructions.Slice.{Slice}
 use Rattle.fault_instructions.specs.declared.instructions.Extension.{Extension}
 use Rattle.fault_instructions.specs.declared.instructions.Instructions.{Instructions}
-use Rattle.smv_language.specs.ProgramTree.{Text, Path, Formula}
+use Rattle.smv_language.specs.Language.{Text, Path, Formula, tree_of, Value, symbol, same_text}
 use Rattle.smv_language.specs.declared.expr.Expr.{Expr}
-use Rattle.smv_language.specs.ExpressionTree.{tree_of}
-use Rattle.smv_language.specs.Values.{Value, truth, number, symbol}
-use Rattle.smv_language.specs.Texts.{same_text}
+use Rattle.smv_language.specs.Values.{truth, number}
 
 -- an effect with its arguments
 pub data EffectTree : Type 0 where

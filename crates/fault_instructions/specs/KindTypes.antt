@@ -1,6 +1,5 @@
 -- The type with which a kind of name is declared.
-use Rattle.smv_language.specs.ProgramTree.{DeclaredTree, boolean}
-use Rattle.smv_language.specs.Scope.{Kind, a_variable}
+use Rattle.smv_language.specs.Language.{DeclaredTree, boolean, Kind, a_variable}
 
 -- the type of a variable; every other kind counts as a boolean
 abbrev pub type_of_kind : Kind → DeclaredTree

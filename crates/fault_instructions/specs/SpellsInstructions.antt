@@ -3,12 +3,10 @@ use Rattle.std.specs.Prelude.{◌≡◌, ◌≢◌, ℕ, ℤ, true, false, List,
 use Rattle.smv_lexer.specs.declared.token.TokenKind.{TokenKind}
 use Rattle.smv_lexer.specs.declared.token.TokenKind.TheVariants as k
 use Rattle.smv_lexer.specs.declared.token.Token.{Token}
-use Rattle.smv_language.specs.ProgramTree.{Text, Formula}
-use Rattle.smv_language.specs.Values.{Value, truth, number, symbol}
-use Rattle.smv_language.specs.Lexemes.{Lexeme, word, num, sign, is_reserved, lexemes_of}
+use Rattle.smv_language.specs.Language.{Text, Formula, Value, symbol, Lexeme, word, num, sign, is_reserved, lexemes_of, SpellsInt}
+use Rattle.smv_language.specs.Language.{SpellsMany, SpellsExpr}
+use Rattle.smv_language.specs.Values.{truth, number}
 use Rattle.smv_lexer.specs.Tokens.{HasTokens, sign_text}
-use Rattle.smv_language.specs.Spells.{SpellsInt}
-use Rattle.smv_language.specs.SpellsProgram.{SpellsMany, SpellsExpr}
 use Rattle.fault_instructions.specs.declared.instructions.Dynamics.{Dynamics}
 use Rattle.fault_instructions.specs.declared.instructions.Dynamics.TheVariants.{Permanent, Transient}
 use Rattle.fault_instructions.specs.declared.instructions.Start.{Start}

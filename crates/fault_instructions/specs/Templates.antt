@@ -4,18 +4,17 @@ use Rattle.base_values.specs.declared.limits.TheConstants.{GREATEST_NUMBER}
 use Rattle.smv_language.specs.declared.expr.Op.TheVariants as op
 use Rattle.smv_language.specs.declared.program.Member.{Member}
 use Rattle.smv_language.specs.declared.program.Section.{Section}
-use Rattle.smv_language.specs.Tree.{Trees, truth as is_truth, number as is_number, leaf, not_of, negate, next_of, binary, choice, set_of}
-use Rattle.smv_language.specs.Tree.{span, no_tree, tree_then, trees_from}
-use Rattle.smv_language.specs.ProgramTree.{Text, Path, Formula, DeclaredTree, boolean, range, members, instance, SectionTree, init, invar}
-use Rattle.smv_language.specs.ProgramTree.{trans, section_tree}
-use Rattle.smv_language.specs.Values.{Value, truth, number, symbol}
+use Rattle.smv_language.specs.Language.{Trees, leaf, not_of, negate, next_of, binary, choice, set_of, span, no_tree, tree_then, trees_from}
+use Rattle.smv_language.specs.Language.{Text, Path, Formula, DeclaredTree, boolean, range, members, instance, SectionTree, init, invar}
+use Rattle.smv_language.specs.Language.{trans, section_tree, Value, symbol, value_of_member}
+use Rattle.smv_language.specs.Tree.{truth as is_truth, number as is_number}
+use Rattle.smv_language.specs.Values.{truth, number}
 use Rattle.fault_instructions.specs.declared.effects.EffectRule.{EffectRule}
 use Rattle.fault_instructions.specs.declared.effects.EffectRule.TheVariants.{NotOwn, AsBefore, AsEntered, Falling}
 use Rattle.fault_instructions.specs.Instructions.{EffectTree}
 use Rattle.fault_instructions.specs.EffectForms.{Branch, the_constant, the_formula, the_opposite, the_sum, any_value}
 use Rattle.fault_instructions.specs.Effects.{branch_of, rule_of}
 use Rattle.fault_instructions.specs.AddedNames.{own_name, mode_variable, mode_symbol}
-use Rattle.smv_language.specs.Trace.{value_of_member}
 
 -- the single name
 abbrev pub named : Text → Formula

@@ -2,9 +2,7 @@
 use Rattle.std.specs.Prelude.{◌≡◌, ◌⊎◌, ℤ, Bool, IsTrue, Some, None}
 use Rattle.smv_language.specs.declared.program.Member.{Member}
 use Rattle.smv_language.specs.declared.program.Member.TheVariants as member
-use Rattle.smv_language.specs.ProgramTree.{DeclaredTree, boolean, range, members}
-use Rattle.smv_language.specs.Values.{Value}
-use Rattle.smv_language.specs.Trace.{Each, AtSome, in_domain}
+use Rattle.smv_language.specs.Language.{DeclaredTree, boolean, range, members, Value, Each, AtSome, in_domain}
 use Rattle.fault_instructions.specs.Instructions.{SliceTree}
 use Rattle.fault_instructions.specs.EffectForms.{Demand, no_demand, one_of_its, truth_values, two_values, a_range}
 use Rattle.fault_instructions.specs.AddedNames.{ModeState}

@@ -1,8 +1,7 @@
 -- That the numbers of a program and of instructions have negations within 64 bits, as all that are read have.
 use Rattle.std.specs.Prelude.{All}
 use Rattle.smv_language.specs.declared.program.Module.{Module}
-use Rattle.smv_language.specs.ProgramTree.{Text, module_tree}
-use Rattle.smv_language.specs.Scope.{kind_in}
+use Rattle.smv_language.specs.Language.{Text, module_tree, kind_in}
 use Rattle.fault_instructions.specs.declared.instructions.ModeRule.{ModeRule}
 use Rattle.fault_instructions.specs.declared.instructions.Slice.{Slice}
 use Rattle.fault_instructions.specs.declared.instructions.Extension.{Extension}

@@ -3,12 +3,9 @@ use Rattle.std.specs.Prelude.{◌≡◌, ◌≢◌, ◌⊎◌, [], Option, Some,
 use Rattle.smv_lexer.specs.declared.token.TokenKind.{TokenKind}
 use Rattle.smv_lexer.specs.declared.token.TokenKind.TheVariants as k
 use Rattle.smv_lexer.specs.Tokens.{IsWord, IsNumber, number_of, sign_text}
-use Rattle.smv_language.specs.ProgramTree.{Text, Formula}
+use Rattle.smv_language.specs.Language.{Text, Formula, IsName, IsSmall, IsEnd, IsWritable, Each, IsPlain}
 use Rattle.smv_language.specs.Values.{number}
-use Rattle.smv_language.specs.PrintedTokens.{IsName, IsSmall, IsEnd, IsWritable}
-use Rattle.smv_language.specs.Trace.{Each}
 use Rattle.fault_instructions.specs.Instructions.{EffectTree, ModeTree, SliceTree, ExtensionTree, InstructionTree, EachArgument}
-use Rattle.smv_language.specs.WritableProgram.{IsPlain}
 
 -- a sign that does not end a mark
 abbrev pub IsInner : TokenKind → Type 0

@@ -1,10 +1,7 @@
 -- The units of a mode, found by its slice and name, are those of its mark.
 use Rattle.std.proofs.Common.{◌≡◌, ℕ, Bool, true, false, ◌≤◌, List, [], ◌∷◌, ◌++◌, map, Option, Some, None, ◌⊎◌, inl, inr, refl, sym, ◌∙◌, ap, subst, arith}
 use Rattle.std.specs.Prelude.{flat_map, if◌then◌else◌}
-use Rattle.smv_language.specs.ProgramTree.{Text, ModuleTree, ProgramTree}
-use Rattle.smv_language.specs.Scope.{Place, module_at}
-use Rattle.smv_language.specs.Texts.{same_text}
-use Rattle.smv_language.specs.Trace.{Each, AtSome}
+use Rattle.smv_language.specs.Language.{Text, ModuleTree, ProgramTree, Place, module_at, same_text, Each, AtSome}
 use Rattle.smv_language.proofs.ValueLaws.{same_text_equal}
 use Rattle.fault_instructions.specs.Instructions.{ModeTree, SliceTree, ExtensionTree, InstructionTree, slices_from, slices_of}
 use Rattle.fault_weave.specs.Faults.{Fault, slice_faults, module_slices, place_faults, HasFaults}

@@ -1,7 +1,6 @@
 -- The first fault of marks as it is found in order, and the units of a mode by its slice and name.
 use Rattle.std.specs.Prelude.{◌≡◌, ◌⊎◌, ℕ, suc, List, [], ◌∷◌, Option, Some, None, if◌then◌else◌}
-use Rattle.smv_language.specs.ProgramTree.{Text}
-use Rattle.smv_language.specs.Texts.{same_text}
+use Rattle.smv_language.specs.Language.{Text, same_text}
 use Rattle.fault_instructions.specs.Instructions.{ModeTree, SliceTree, ExtensionTree, InstructionTree}
 use Rattle.fault_odds.specs.declared.mode_marks.MarkFault.{MarkFault}
 use Rattle.fault_odds.specs.declared.mode_marks.MarkFault.TheVariants as wrong

@@ -1,7 +1,6 @@
 -- The units of the faults of instructions, and the first mode whose mark is no probability.
 use Rattle.std.specs.Prelude.{◌≡◌, ℕ, suc, List, ◌∷◌, ◌++◌, Option, Some, None, length, map, flat_map}
-use Rattle.smv_language.specs.ProgramTree.{Text}
-use Rattle.smv_language.specs.Trace.{Each, EachBoth}
+use Rattle.smv_language.specs.Language.{Text, Each, EachBoth}
 use Rattle.fault_instructions.specs.Instructions.{ModeTree, SliceTree, ExtensionTree, InstructionTree}
 use Rattle.fault_weave.specs.Faults.{Fault}
 use Rattle.fault_odds.specs.declared.mode_marks.MarkFault.{MarkFault}

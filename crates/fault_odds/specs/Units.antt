@@ -1,8 +1,7 @@
 -- Probabilities in units, one unit being one part of 10^18, and the marks of modes that are probabilities.
 use Rattle.std.specs.Prelude.{ℕ, ◌+◌, ◌-◌, ◌*◌, ◌^◌, nat_le, Bool, ◌&&◌, List, [], ◌∷◌, Option, Some, None, length, codes, if◌then◌else◌}
 use Rattle.std.specs.List.{list_all}
-use Rattle.smv_language.specs.ProgramTree.{Text}
-use Rattle.smv_language.specs.Texts.{same_text}
+use Rattle.smv_language.specs.Language.{Text, same_text}
 use Rattle.smv_lexer.specs.Tokens.{number_of}
 
 -- how many units make one

@@ -2,8 +2,7 @@
 use Rattle.std.proofs.Common.{◌≡◌, ℕ, zero, suc, ◌<◌, ◌≤◌, Bool, true, false, ◌||◌, List, [], ◌∷◌, Some, None, refl, ap, ◌∙◌, sym, subst, arith, ◌⊎◌, inl, inr}
 use Rattle.std.specs.Prelude.{slice_get, nat_lt, IsTrue, ◌↔◌}
 use Rattle.std.proofs.lemmas.Bool.Decides.{leb_tells, nat_tests}
-use Rattle.smv_language.specs.Values.{Value, opposite}
-use Rattle.smv_language.specs.Flat.{FlatModel}
+use Rattle.smv_language.specs.Language.{Value, opposite, FlatModel}
 use Rattle.smv_flat_laws.specs.History.{Mode}
 use Rattle.smv_flat_laws.specs.FlatTrace.{stands, stands_in_some}
 use Rattle.fault_orders.specs.declared.Relation.{Relation}

@@ -2,10 +2,8 @@
 use Rattle.std.proofs.Common.{◌≡◌, ℕ, zero, suc, Bool, true, false, cond, ◌||◌, ◌&&◌, List, [], ◌∷◌, ◌++◌, length, take, Some, refl, ap, ◌∙◌, ◌⊎◌, inl, inr}
 use Rattle.std.specs.Prelude.{slice_get}
 use Rattle.smv_language.specs.declared.expr.Op.TheVariants as op
-use Rattle.smv_language.specs.ProgramTree.{Text}
-use Rattle.smv_language.specs.Values.{Value, truth, opposite}
-use Rattle.smv_language.specs.Evaluate.{gives_applied, gives_not}
-use Rattle.smv_language.specs.Flat.{FlatModel, one_of, Holds}
+use Rattle.smv_language.specs.Language.{Text, Value, opposite, gives_applied, gives_not, FlatModel, one_of, Holds}
+use Rattle.smv_language.specs.Values.{truth}
 use Rattle.smv_flat_laws.specs.History.{Mode}
 use Rattle.smv_flat_laws.specs.FlatTrace.{stands, stands_in_some}
 use Rattle.fault_cause_laws.specs.Additions.{with_addition}

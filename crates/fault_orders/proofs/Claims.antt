@@ -2,10 +2,8 @@
 use Rattle.std.proofs.Common.{◌≡◌, ℕ, zero, suc, ◌+◌, ◌<◌, Bool, true, false, cond, ◌&&◌, ◌||◌, List, Option, Some, None, refl, ap, ◌∙◌, subst, arith}
 use Rattle.std.specs.Prelude.{◌↔◌}
 use Rattle.smv_language.specs.declared.expr.Op.TheVariants as op
-use Rattle.smv_language.specs.Tree.{Tree, binary, not_of}
-use Rattle.smv_language.specs.Values.{truth, one, opposite}
-use Rattle.smv_language.specs.Evaluate.{Leaves, evaluate}
-use Rattle.smv_language.specs.Flat.{FlatLeaf, flat_variable}
+use Rattle.smv_language.specs.Language.{Tree, binary, not_of, one, opposite, Leaves, evaluate, FlatLeaf, flat_variable}
+use Rattle.smv_language.specs.Values.{truth}
 use Rattle.cut_right_laws.specs.Sets.{has_number}
 use Rattle.fault_cause_laws.proofs.AddedReadings.{gives_and, gives_opposite}
 use Rattle.fault_orders.specs.declared.Relation.{Relation}

@@ -2,9 +2,8 @@
 use Rattle.std.proofs.Common.{◌≡◌, ℕ, suc, ◌+◌, ◌-◌, ◌<◌, Bool, List, [], ◌∷◌, ◌++◌, length, take, Some, refl, ap, ◌∙◌, sym, subst, arith}
 use Rattle.std.proofs.lemmas.List.{append_assoc, length-append, length-map}
 use Rattle.std.specs.Prelude.{slice_get, codes, ◌↔◌}
-use Rattle.smv_language.specs.Values.{Value, truth}
-use Rattle.smv_language.specs.Trace.{Each}
-use Rattle.smv_language.specs.Flat.{FlatModel}
+use Rattle.smv_language.specs.Language.{Value, Each, FlatModel}
+use Rattle.smv_language.specs.Values.{truth}
 use Rattle.smv_flat_laws.specs.History.{Mode, with_history}
 use Rattle.smv_flat_laws.specs.FlatTrace.{IsFlatMoment, IsFlatTrace, IsModeOf, stands_in_some, bits_after, told_from}
 use Rattle.smv_flat_laws.proofs.Lists.{length_end}

@@ -2,10 +2,8 @@
 use Rattle.std.proofs.Common.{◌≡◌, ℕ, zero, suc, ◌+◌, ◌-◌, ◌<◌, ◌≤◌, Bool, true, false, ◌||◌, List, [], ◌∷◌, ◌++◌, length, take, Option, Some, None, refl, ap, ◌∙◌, sym, subst, arith, eqb-true}
 use Rattle.std.proofs.lemmas.List.{append_assoc, length-append, length-map}
 use Rattle.std.specs.Prelude.{slice_get, codes, nat_eq, IsTrue, ◌↔◌}
-use Rattle.smv_language.specs.Tree.{Tree}
-use Rattle.smv_language.specs.Values.{Value, truth, Values, one}
-use Rattle.smv_language.specs.Evaluate.{evaluate}
-use Rattle.smv_language.specs.Flat.{FlatLeaf, FlatModel, FlatMay, one_of, leaves_at}
+use Rattle.smv_language.specs.Language.{Tree, Value, Values, one, evaluate, FlatLeaf, FlatModel, FlatMay, one_of, leaves_at}
+use Rattle.smv_language.specs.Values.{truth}
 use Rattle.smv_flat_laws.specs.History.{Mode, with_history}
 use Rattle.smv_flat_laws.specs.FlatTrace.{IsFlatMoment, IsFlatTrace, stands_in_some, bits_after, told_from}
 use Rattle.smv_flat_laws.proofs.Lists.{length_end}

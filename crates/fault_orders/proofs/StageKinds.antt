@@ -1,9 +1,7 @@
 -- The model that is staged for two faults breaks no rule of kinds but that of its size.
 use Rattle.std.proofs.Common.{ℕ, ◌-◌, ◌<◌, ◌≤◌, true, false, List, [], ◌∷◌, length, codes, refl, arith}
 use Rattle.smv_language.specs.declared.expr.Op.TheVariants as op
-use Rattle.smv_language.specs.Tree.{Tree, not_of, binary}
-use Rattle.smv_language.specs.ProgramTree.{Text, boolean}
-use Rattle.smv_language.specs.Flat.{FlatLeaf, FlatModel}
+use Rattle.smv_language.specs.Language.{Tree, not_of, binary, Text, boolean, FlatLeaf, FlatModel}
 use Rattle.smv_flat_laws.specs.History.{Mode, with_history}
 use Rattle.smv_flat_laws.proofs.Lists.{get_end}
 use Rattle.smv_type_laws.specs.ExpressionKinds.{truth_class}

@@ -1,9 +1,7 @@
 -- The laws of orders of faults.
 use Rattle.std.specs.Prelude.{◌≡◌, ◌↔◌, ℕ, ◌<◌, ◌-◌, Bool, IsTrue, List, [], ◌∷◌, ◌++◌, Option, Some, None, length, map, take, slice_get}
-use Rattle.smv_language.specs.Tree.{Tree}
-use Rattle.smv_language.specs.Values.{Value, truth, one}
-use Rattle.smv_language.specs.Trace.{Each}
-use Rattle.smv_language.specs.Flat.{FlatLeaf, FlatModel, FlatGives}
+use Rattle.smv_language.specs.Language.{Tree, Value, one, Each, FlatLeaf, FlatModel, FlatGives}
+use Rattle.smv_language.specs.Values.{truth}
 use Rattle.smv_flat_laws.specs.History.{Mode}
 use Rattle.smv_flat_laws.specs.FlatTrace.{IsFlatMoment, IsFlatTrace, IsModeOf, stands, stands_in_some}
 use Rattle.smv_flat_laws.specs.NameResolution.{leaves_in}

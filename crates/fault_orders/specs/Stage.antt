@@ -1,10 +1,8 @@
 -- A model with history and two more booleans, which tell of two faults which came first, and what speaks against a claim.
 use Rattle.std.specs.Prelude.{ℕ, zero, suc, ◌+◌, ◌-◌, List, [], ◌∷◌, Option, Some, None, codes, length, if◌then◌else◌}
 use Rattle.smv_language.specs.declared.expr.Op.TheVariants as op
-use Rattle.smv_language.specs.Tree.{Tree, leaf, not_of, next_of, binary}
-use Rattle.smv_language.specs.ProgramTree.{Text, boolean}
-use Rattle.smv_language.specs.Scope.{state}
-use Rattle.smv_language.specs.Flat.{FlatLeaf, flat_variable, FlatVariable, FlatFormula, FlatModel}
+use Rattle.smv_language.specs.Language.{Tree, leaf, not_of, next_of, binary, Text, boolean, state, FlatLeaf, flat_variable, FlatVariable}
+use Rattle.smv_language.specs.Language.{FlatFormula, FlatModel}
 use Rattle.smv_flat_laws.specs.History.{Mode, added, with_history}
 use Rattle.fault_cause_laws.specs.Additions.{with_addition}
 use Rattle.cut_right_laws.specs.Sets.{has_number}

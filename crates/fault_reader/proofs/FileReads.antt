@@ -5,19 +5,14 @@ use Rattle.std.specs.Prelude.{◌||◌, codes, if◌then◌else◌}
 use Rattle.smv_lexer.specs.declared.token.TokenKind.TheVariants as k
 use Rattle.smv_lexer.specs.declared.token.Token.{Token}
 use Rattle.smv_lexer.specs.Tokens.{HasTokens}
-use Rattle.smv_language.specs.ProgramTree.{Text, Formula}
-use Rattle.smv_language.specs.Values.{Value}
-use Rattle.smv_language.specs.Lexemes.{Lexeme, word, sign, is_reserved, lexemes_of}
-use Rattle.smv_language.specs.Spells.{plain_int, minus_int}
-use Rattle.smv_language.specs.SpellsProgram.{SpellsMany, no_more, one_more}
+use Rattle.smv_language.specs.Language.{Text, Formula, Value, Lexeme, word, sign, is_reserved, lexemes_of, plain_int, minus_int, SpellsMany, no_more, one_more}
 use Rattle.smv_language.proofs.OneTree.{is_none_of}
 use Rattle.fault_instructions.specs.declared.instructions.Dynamics.{Dynamics}
 use Rattle.fault_instructions.specs.declared.instructions.Start.{Start}
 use Rattle.fault_instructions.specs.Instructions.{EffectTree, of_constant, of_expression, of_number, of_numbers, kind_of, ModeTree, SliceTree, ExtensionTree, InstructionTree}
 use Rattle.fault_instructions.specs.SpellsInstructions.{SpellsConst, const_true, const_false, const_int, const_name, SpellsArguments, no_argument, a_constant, an_expression, a_number, two_numbers, SpellsEffect, an_effect, SpellsDynamics, d_permanent, d_transient, SpellsGuard, no_guard, a_guard, IsTokenText, number_text, word_text, sign_of, SpellsMark, no_mark, a_mark, SpellsMode, a_mode, SpellsStart, at_nominal, at_any, SpellsSlice, a_slice, SpellsExtension, an_extension, SpellsInstructions, unnamed, named, BytesSpellInstructions}
 use Rattle.smv_expression_reader.specs.Places.{text_in}
-use Rattle.smv_expression_reader.specs.Marks.{Mark, mark_of, s_close, s_close_brace, s_comma, s_semicolon, s_colon}
-use Rattle.smv_expression_reader.specs.MarkView.{is_mark}
+use Rattle.smv_expression_reader.specs.Marks.{mark_of, is_mark}
 use Rattle.smv_expression_reader.specs.ExpressionDepths.{AreWithin, is_too_deep, are_too_deep, spelling, in_many}
 use Rattle.smv_expression_reader.specs.SecondPass.{got, deep, none, and_then, answer, expect_at, name_at, expr_at, each_at, rest_of, end_at, has_word, text_at, word_at, int_at}
 use Rattle.smv_expression_reader.proofs.Marks.{Marked, marked, mark_of_name, word_there}
@@ -29,6 +24,8 @@ use Rattle.fault_reader.specs.InstructionParts.{const_at, arguments_at, kind_fro
 use Rattle.smv_lexer.proofs.SignLemmas.{not_true}
 use Rattle.fault_instructions.proofs.EffectRows.{keyword_finds}
 use Rattle.fault_instructions.proofs.OneInstructions.{OneToken}
+use Rattle.smv_expression_reader.specs.declared.mark.Mark.{Mark}
+use Rattle.smv_expression_reader.specs.declared.mark.Mark.TheVariants as marks
 
 const_read : {ts : List Lexeme} {c : Value} (q : SpellsConst ts c) (r : List Lexeme) → const_at (ts ++ r) ≡ got c r
 const_read const_true r = refl
@@ -40,22 +37,22 @@ const_read (const_name {x} n) r = rw (is_none_of x (codes "TRUE") refl n, is_non
 arguments_read : {us : List Lexeme} {e : EffectTree} (p : SpellsArguments us e) (r : List Lexeme) → arguments_at (kind_of e) (us ++ r) ≡ answer (are_too_deep (in_arguments p)) e r
 arguments_read no_argument r = refl
 arguments_read (a_constant {of} {ts} {c} q) r =
-    ap (λ z. and_then (const_at z) (λ c s. and_then (expect_at s_close s) (λ _ q. got (of_constant of c) q))) (append_assoc ts (sign k.Close ∷ []) r)
-    ∙ closes_with (of_constant of) s_close (sign k.Close) (const_at (ts ++ sign k.Close ∷ r)) false c r refl (const_read q (sign k.Close ∷ r))
+    ap (λ z. and_then (const_at z) (λ c s. and_then (expect_at marks.Close s) (λ _ q. got (of_constant of c) q))) (append_assoc ts (sign k.Close ∷ []) r)
+    ∙ closes_with (of_constant of) marks.Close (sign k.Close) (const_at (ts ++ sign k.Close ∷ r)) false c r refl (const_read q (sign k.Close ∷ r))
 arguments_read (an_expression {of} {ts} {e} q) r =
-    ap (λ z. and_then (expr_at z) (λ e s. and_then (expect_at s_close s) (λ _ q. got (of_expression of e) q))) (append_assoc ts (sign k.Close ∷ []) r)
-    ∙ closes_with (of_expression of) s_close (sign k.Close) (expr_at (ts ++ sign k.Close ∷ r)) (is_too_deep (spelling q)) e r refl (read_expr q (sign k.Close ∷ r) refl)
+    ap (λ z. and_then (expr_at z) (λ e s. and_then (expect_at marks.Close s) (λ _ q. got (of_expression of e) q))) (append_assoc ts (sign k.Close ∷ []) r)
+    ∙ closes_with (of_expression of) marks.Close (sign k.Close) (expr_at (ts ++ sign k.Close ∷ r)) (is_too_deep (spelling q)) e r refl (read_expr q (sign k.Close ∷ r) refl)
     ∙ ap (λ b. answer b (of_expression of e) r) (sym (or-false (is_too_deep (spelling q))))
 arguments_read (a_number {of} {ts} {n} q) r =
-    ap (λ z. and_then (int_at z) (λ d s. and_then (expect_at s_close s) (λ _ q. got (of_number of d) q))) (append_assoc ts (sign k.Close ∷ []) r)
-    ∙ closes_with (of_number of) s_close (sign k.Close) (int_at (ts ++ sign k.Close ∷ r)) false n r refl (int_read q (sign k.Close ∷ r))
+    ap (λ z. and_then (int_at z) (λ d s. and_then (expect_at marks.Close s) (λ _ q. got (of_number of d) q))) (append_assoc ts (sign k.Close ∷ []) r)
+    ∙ closes_with (of_number of) marks.Close (sign k.Close) (int_at (ts ++ sign k.Close ∷ r)) false n r refl (int_read q (sign k.Close ∷ r))
 arguments_read (two_numbers {of} {xs} {ys} {m} {n} p q) r =
-    ap (λ z. and_then (int_at z) (λ d s. and_then (expect_at s_comma s) (λ _ q. and_then (int_at q) (λ f y. and_then (expect_at s_close y) (λ _ z. got (of_numbers of d f) z)))))
+    ap (λ z. and_then (int_at z) (λ d s. and_then (expect_at marks.Comma s) (λ _ q. and_then (int_at q) (λ f y. and_then (expect_at marks.Close y) (λ _ z. got (of_numbers of d f) z)))))
     (append_assoc xs (sign k.Comma ∷ (ys ++ sign k.Close ∷ [])) r)
-    ∙ ap (λ y. and_then y (λ d s. and_then (expect_at s_comma s) (λ _ q. and_then (int_at q) (λ f y. and_then (expect_at s_close y) (λ _ z. got (of_numbers of d f) z)))))
+    ∙ ap (λ y. and_then y (λ d s. and_then (expect_at marks.Comma s) (λ _ q. and_then (int_at q) (λ f y. and_then (expect_at marks.Close y) (λ _ z. got (of_numbers of d f) z)))))
     (int_read p (sign k.Comma ∷ ((ys ++ sign k.Close ∷ []) ++ r)))
-    ∙ ap (λ z. and_then (int_at z) (λ f y. and_then (expect_at s_close y) (λ _ z. got (of_numbers of m f) z))) (append_assoc ys (sign k.Close ∷ []) r)
-    ∙ closes_with (λ f. of_numbers of m f) s_close (sign k.Close) (int_at (ys ++ sign k.Close ∷ r)) false n r refl (int_read q (sign k.Close ∷ r))
+    ∙ ap (λ z. and_then (int_at z) (λ f y. and_then (expect_at marks.Close y) (λ _ z. got (of_numbers of m f) z))) (append_assoc ys (sign k.Close ∷ []) r)
+    ∙ closes_with (λ f. of_numbers of m f) marks.Close (sign k.Close) (int_at (ys ++ sign k.Close ∷ r)) false n r refl (int_read q (sign k.Close ∷ r))
 
 effect_read : {es : List Lexeme} {e : EffectTree} (p : SpellsEffect es e) (r : List Lexeme) → effect_at (es ++ r) ≡ answer (are_too_deep (in_effect p)) e r
 effect_read (an_effect {us} {e} p) r = ap (λ o. kind_from o (us ++ r)) (keyword_finds (kind_of e)) ∙ arguments_read p r
@@ -80,40 +77,44 @@ no_brace t x number_text e = cc
 no_brace t x word_text e = cc
 no_brace t x (sign_of {s} h) e = let same : s ≡ k.CloseBrace = cc in h same
 
-token_goes_on : (t : Lexeme) (x : Text) → IsTokenText t x → not (is_mark s_close_brace (mark_of t)) ≡ true
+token_goes_on : (t : Lexeme) (x : Text) → IsTokenText t x → not (is_mark marks.CloseBrace (mark_of t)) ≡ true
 unfolding Marked
 token_goes_on t x p = go (mark_of t) (marked t)
   where
-    go : (c : Mark) → Marked c t → not (is_mark s_close_brace c) ≡ true
-    go s_close_brace f = absurd (no_brace t x p f)
+    go : (c : Mark) → Marked c t → not (is_mark marks.CloseBrace c) ≡ true
+    go marks.CloseBrace f = absurd (no_brace t x p f)
     go c f = refl
 
 text_starts : (ts : List Lexeme) (x : Text) (p : OneToken ts x) (r : List Lexeme) → in_braces (ts ++ r) ≡ true
+unfolding OneToken
 text_starts ts x p r = ap (λ z. in_braces (z ++ r)) p.1 ∙ token_goes_on p.0 x p.2
 
 text_size : (ts : List Lexeme) (x : Text) → OneToken ts x → 0 < length ts
+unfolding OneToken
 text_size ts x p = let some : 0 < length (p.0 ∷ []) = omega arith in subst (λ z. 0 < length z) (sym p.1) some
 
 text_read : (ts : List Lexeme) (x : Text) (p : OneToken ts x) (r : List Lexeme) → true ≡ true → text_at (ts ++ r) ≡ answer false x r
+unfolding OneToken
 text_read ts x p r o = ap (λ z. text_at (z ++ r)) p.1 ∙ ap (λ y. got y r) (token_is p.0 x p.2)
 
 mark_read : {ms : List Lexeme} {m : Option (List Text)} (p : SpellsMark ms m) (r : List Lexeme) → marked_at (ms ++ sign k.Colon ∷ r) ≡ got m (sign k.Colon ∷ r)
+unfolding OneToken
 mark_read no_mark r = refl
 mark_read (a_mark {ts} {xs} q) r =
     let size = length-append ts (sign k.CloseBrace ∷ sign k.Colon ∷ r) in
     let read : texts_at (ts ++ sign k.CloseBrace ∷ sign k.Colon ∷ r) ≡ answer (are_too_deep (in_many OneToken (λ ts a p. []) q)) xs (sign k.CloseBrace ∷ sign k.Colon ∷ r) =
     many_read Text OneToken text_at in_braces (λ ts a p. []) (λ z. true) (λ z h. refl) text_starts text_size text_read q (length (ts ++ sign k.CloseBrace ∷ sign k.Colon ∷ r))
     (sign k.CloseBrace ∷ sign k.Colon ∷ r) (omega (arith, size)) refl refl in
-    ap (λ z. and_then (texts_at z) (λ xs r. and_then (expect_at s_close_brace r) (λ _ s. got (Some xs) s))) (append_assoc ts (sign k.CloseBrace ∷ []) (sign k.Colon ∷ r))
-    ∙ closes_with (λ xs. Some xs) s_close_brace (sign k.CloseBrace) (texts_at (ts ++ sign k.CloseBrace ∷ sign k.Colon ∷ r)) false xs (sign k.Colon ∷ r) refl
+    ap (λ z. and_then (texts_at z) (λ xs r. and_then (expect_at marks.CloseBrace r) (λ _ s. got (Some xs) s))) (append_assoc ts (sign k.CloseBrace ∷ []) (sign k.Colon ∷ r))
+    ∙ closes_with (λ xs. Some xs) marks.CloseBrace (sign k.CloseBrace) (texts_at (ts ++ sign k.CloseBrace ∷ sign k.Colon ∷ r)) false xs (sign k.Colon ∷ r) refl
     (read ∙ ap (λ b. answer b xs (sign k.CloseBrace ∷ sign k.Colon ∷ r)) (no_many OneToken q))
 
 head_read : (x : Text) {ms ds : List Lexeme} {m : Option (List Text)} {d : Dynamics} → is_reserved x ≡ false → SpellsMark ms m → SpellsDynamics ds d → (r : List Lexeme) →
     head_at (word (codes "MODE") ∷ word x ∷ (ms ++ sign k.Colon ∷ (ds ++ r))) ≡ got (head_tree x m d) r
 head_read x {ms} {ds} {m} {d} n p q r =
-    ap (λ y. and_then y (λ x s. and_then (marked_at s) (λ m q. and_then (expect_at s_colon q) (λ _ y. and_then (dynamics_at y) (λ d z. got (head_tree x m d) z)))))
+    ap (λ y. and_then y (λ x s. and_then (marked_at s) (λ m q. and_then (expect_at marks.Colon q) (λ _ y. and_then (dynamics_at y) (λ d z. got (head_tree x m d) z)))))
     (name_read x n (ms ++ sign k.Colon ∷ (ds ++ r)))
-    ∙ ap (λ y. and_then y (λ m q. and_then (expect_at s_colon q) (λ _ y. and_then (dynamics_at y) (λ d z. got (head_tree x m d) z)))) (mark_read p (ds ++ r))
+    ∙ ap (λ y. and_then y (λ m q. and_then (expect_at marks.Colon q) (λ _ y. and_then (dynamics_at y) (λ d z. got (head_tree x m d) z)))) (mark_read p (ds ++ r))
     ∙ ap (λ y. and_then y (λ d z. got (head_tree x m d) z)) (dynamics_read q r)
 
 mode_read : (ts : List Lexeme) (a : ModeTree) (p : SpellsMode ts a) (r : List Lexeme) → true ≡ true → mode_at (ts ++ r) ≡ answer (are_too_deep (in_mode ts a p)) a r
@@ -129,11 +130,11 @@ mode_read ts a (a_mode {x} {ms} {ds} {es} {gs} {mark} {d} {e} {g} n p q u v) r o
     let b : Bool = are_too_deep (in_effect u) in
     let c : Bool = are_too_deep (in_guard v) in
     ap (λ z. mode_at (word (codes "MODE") ∷ word x ∷ z)) whole
-    ∙ ap (λ y. and_then y (λ h r. and_then (effect_at r) (λ e s. and_then (guard_at s) (λ g q. and_then (expect_at s_semicolon q) (λ _ z. got (mode_with h e g) z)))))
+    ∙ ap (λ y. and_then y (λ h r. and_then (effect_at r) (λ e s. and_then (guard_at s) (λ g q. and_then (expect_at marks.Semicolon q) (λ _ z. got (mode_with h e g) z)))))
     (head_read x n p q (es ++ (gs ++ sign k.Semicolon ∷ r)))
-    ∙ then_read (λ e s. and_then (guard_at s) (λ g q. and_then (expect_at s_semicolon q) (λ _ z. got (mode_with h e g) z))) (effect_at (es ++ (gs ++ sign k.Semicolon ∷ r))) b c e
+    ∙ then_read (λ e s. and_then (guard_at s) (λ g q. and_then (expect_at marks.Semicolon q) (λ _ z. got (mode_with h e g) z))) (effect_at (es ++ (gs ++ sign k.Semicolon ∷ r))) b c e
     (gs ++ sign k.Semicolon ∷ r) (mode_with h e g) r (effect_read u (gs ++ sign k.Semicolon ∷ r))
-    (closes_with (λ g. mode_with h e g) s_semicolon (sign k.Semicolon) (guard_at (gs ++ sign k.Semicolon ∷ r)) c g r refl (guard_read v r))
+    (closes_with (λ g. mode_with h e g) marks.Semicolon (sign k.Semicolon) (guard_at (gs ++ sign k.Semicolon ∷ r)) c g r refl (guard_read v r))
     ∙ ap (λ b. answer b (mode_with h e g) r) (sym (too_append (in_effect u) (in_guard v)))
 
 mode_starts : (ts : List Lexeme) (a : ModeTree) (p : SpellsMode ts a) (r : List Lexeme) → has_word (codes "MODE") (ts ++ r) ≡ true

@@ -3,11 +3,7 @@ use Rattle.std.proofs.Common.{◌≡◌, ◌≢◌, ℕ, ℤ, false, List, [], �
 use Rattle.std.specs.Prelude.{codes}
 use Rattle.std.specs.Option.{option_map}
 use Rattle.smv_lexer.specs.declared.token.TokenKind.TheVariants as k
-use Rattle.smv_language.specs.ProgramTree.{Text, Formula}
-use Rattle.smv_language.specs.Values.{Value}
-use Rattle.smv_language.specs.Lexemes.{Lexeme, word, num, sign, is_reserved}
-use Rattle.smv_language.specs.Spells.{SpellsInt, plain_int, minus_int}
-use Rattle.smv_language.specs.SpellsProgram.{SpellsMany, no_more, one_more}
+use Rattle.smv_language.specs.Language.{Text, Formula, Value, Lexeme, word, num, sign, is_reserved, SpellsInt, plain_int, minus_int, SpellsMany, no_more, one_more}
 use Rattle.fault_instructions.specs.declared.instructions.Dynamics.{Dynamics}
 use Rattle.fault_instructions.specs.declared.instructions.Start.{Start}
 use Rattle.fault_instructions.specs.Effects.{keyword}
@@ -17,14 +13,17 @@ use Rattle.fault_instructions.specs.SpellsInstructions.{SpellsConst, const_true,
 use Rattle.smv_expression_reader.specs.Recogniser.{role_of}
 use Rattle.smv_expression_reader.specs.Recogniser as machine
 use Rattle.smv_expression_reader.specs.Places.{is_word}
-use Rattle.smv_expression_reader.specs.Marks.{Mark, s_close_brace, mark_of}
+use Rattle.smv_expression_reader.specs.Marks.{mark_of}
 use Rattle.smv_expression_reader.proofs.Accepted.{spelled_accepted}
 use Rattle.smv_expression_reader.proofs.Marks.{Marked, marked, mark_of_name}
 use Rattle.smv_language.proofs.OneTree.{is_none_of}
-use Rattle.fault_reader.specs.InstructionGrammar.{the_name, the_number, the_open, the_close, the_comma, the_colon, the_semicolon, Sym, is_single, IsMark, IsMode, spelled, expr, after_extensions, after_in_mark, after_constant, arguments, next, instructions}
+use Rattle.fault_reader.specs.InstructionGrammar.{Sym, is_single, IsMark, IsMode, spelled, expr, after_extensions, after_in_mark, after_constant, arguments, next, instructions}
 use Rattle.fault_reader.specs.InstructionGrammar as s
 use Rattle.fault_reader.proofs.Through.{That, as_one, as_key, as_other, is_that, is_the_word, Means_of, Through, true_where, live_complete}
 use Rattle.smv_expression_reader.proofs.Meanings.{as_last, Leads, some_leads}
+use Rattle.smv_expression_reader.specs.declared.mark.Mark.{Mark}
+use Rattle.smv_expression_reader.specs.declared.mark.Mark.TheVariants as marks
+use Rattle.fault_reader.specs.declared.place.Single.TheVariants as the
 
 complete_extensions : (us : List Lexeme) (xs : List ExtensionTree) (t : Lexeme) (ts : List Lexeme) → SpellsMany SpellsExtension us xs → us ≡ t ∷ ts → Through (after_extensions t) ts
 unfolding Leads That
@@ -32,13 +31,13 @@ complete_extensions us xs t ts no_more e = cc
 complete_extensions us xs t ts (one_more {us = ys} (an_extension {x = x} {ts = bs} n q) more) e =
     let head : word (codes "EXTENSION") ≡ t = cc in
     let rest : word (codes "OF") ∷ word (codes "MODULE") ∷ word x ∷ (bs ++ ys) ≡ ts = cc in
-    let means : Means_of (s.keyword (codes "OF") ∷ s.keyword (codes "MODULE") ∷ s.single the_name ∷ s.slices ∷ s.extensions ∷ []) (word (codes "OF") ∷ word (codes "MODULE") ∷ word x ∷ (bs ++ ys)) =
-    as_key (codes "OF") (s.keyword (codes "MODULE") ∷ s.single the_name ∷ s.slices ∷ s.extensions ∷ []) (word (codes "MODULE") ∷ word x ∷ (bs ++ ys))
-    (as_key (codes "MODULE") (s.single the_name ∷ s.slices ∷ s.extensions ∷ []) (word x ∷ (bs ++ ys))
-    (as_one the_name (s.slices ∷ s.extensions ∷ []) (word x) (bs ++ ys) (x, refl, n)
+    let means : Means_of (s.keyword (codes "OF") ∷ s.keyword (codes "MODULE") ∷ s.single the.Name ∷ s.slices ∷ s.extensions ∷ []) (word (codes "OF") ∷ word (codes "MODULE") ∷ word x ∷ (bs ++ ys)) =
+    as_key (codes "OF") (s.keyword (codes "MODULE") ∷ s.single the.Name ∷ s.slices ∷ s.extensions ∷ []) (word (codes "MODULE") ∷ word x ∷ (bs ++ ys))
+    (as_key (codes "MODULE") (s.single the.Name ∷ s.slices ∷ s.extensions ∷ []) (word x ∷ (bs ++ ys))
+    (as_one the.Name (s.slices ∷ s.extensions ∷ []) (word x) (bs ++ ys) (x, refl, n)
     (as_other s.slices (s.extensions ∷ []) bs ys (_, q) (as_last instructions s.extensions ys (_, more))))) in
     subst (λ z. Through (after_extensions z) ts) head
-    (subst (Means_of (s.keyword (codes "OF") ∷ s.keyword (codes "MODULE") ∷ s.single the_name ∷ s.slices ∷ s.extensions ∷ [])) rest means)
+    (subst (Means_of (s.keyword (codes "OF") ∷ s.keyword (codes "MODULE") ∷ s.single the.Name ∷ s.slices ∷ s.extensions ∷ [])) rest means)
 
 extension_first : (us : List Lexeme) (xs : List ExtensionTree) (t : Lexeme) (ts : List Lexeme) → SpellsMany SpellsExtension us xs → us ≡ t ∷ ts → word (codes "EXTENSION") ≡ t
 extension_first us xs t ts no_more e = cc
@@ -53,9 +52,9 @@ complete_file us i t ts (unnamed {xs = xs} more) e =
 complete_file us i t ts (named {x = x} {ts = bs} n more) e =
     let head : word (codes "FAULT") ≡ t = cc in
     let rest : word (codes "EXTENSION") ∷ word x ∷ bs ≡ ts = cc in
-    let means : Means_of (s.keyword (codes "EXTENSION") ∷ s.single the_name ∷ s.extensions ∷ []) (word (codes "EXTENSION") ∷ word x ∷ bs) =
-    as_key (codes "EXTENSION") (s.single the_name ∷ s.extensions ∷ []) (word x ∷ bs) (as_one the_name (s.extensions ∷ []) (word x) bs (x, refl, n) (as_last instructions s.extensions bs (_, more))) in
-    subst (λ z. Through (next s.file z) ts) head (subst (Means_of (s.keyword (codes "EXTENSION") ∷ s.single the_name ∷ s.extensions ∷ [])) rest means)
+    let means : Means_of (s.keyword (codes "EXTENSION") ∷ s.single the.Name ∷ s.extensions ∷ []) (word (codes "EXTENSION") ∷ word x ∷ bs) =
+    as_key (codes "EXTENSION") (s.single the.Name ∷ s.extensions ∷ []) (word x ∷ bs) (as_one the.Name (s.extensions ∷ []) (word x) bs (x, refl, n) (as_last instructions s.extensions bs (_, more))) in
+    subst (λ z. Through (next s.file z) ts) head (subst (Means_of (s.keyword (codes "EXTENSION") ∷ s.single the.Name ∷ s.extensions ∷ [])) rest means)
 
 -- the modes of a slice: one, and further ones
 some_modes : (bs : List Lexeme) (ms : List ModeTree) (ys : List Lexeme) → ms ≢ [] → SpellsMany SpellsMode bs ms → Means_of (s.slices ∷ []) ys → Means_of (s.mode ∷ s.modes ∷ s.slices ∷ []) (bs ++ ys)
@@ -74,14 +73,14 @@ complete_slices us xs t ts (one_more {us = ys} (a_slice {x = x} {y = y} {ns = ns
     subst (Means_of (s.slice_start ∷ s.keyword (codes "WITH") ∷ s.mode ∷ s.modes ∷ s.slices ∷ [])) (sym (append_assoc ns (word (codes "WITH") ∷ bs) ys))
     (as_other s.slice_start (s.keyword (codes "WITH") ∷ s.mode ∷ s.modes ∷ s.slices ∷ []) ns (word (codes "WITH") ∷ (bs ++ ys)) (_, st)
     (as_key (codes "WITH") (s.mode ∷ s.modes ∷ s.slices ∷ []) (bs ++ ys) (some_modes bs ms ys some q (as_last instructions s.slices ys (_, more))))) in
-    let means : Means_of (s.single the_name ∷ s.keyword (codes "AFFECTS") ∷ s.single the_name ∷ s.slice_start ∷ s.keyword (codes "WITH") ∷ s.mode ∷ s.modes ∷ s.slices ∷ [])
+    let means : Means_of (s.single the.Name ∷ s.keyword (codes "AFFECTS") ∷ s.single the.Name ∷ s.slice_start ∷ s.keyword (codes "WITH") ∷ s.mode ∷ s.modes ∷ s.slices ∷ [])
     (word x ∷ word (codes "AFFECTS") ∷ word y ∷ ((ns ++ word (codes "WITH") ∷ bs) ++ ys)) =
-    as_one the_name (s.keyword (codes "AFFECTS") ∷ s.single the_name ∷ s.slice_start ∷ s.keyword (codes "WITH") ∷ s.mode ∷ s.modes ∷ s.slices ∷ []) (word x)
+    as_one the.Name (s.keyword (codes "AFFECTS") ∷ s.single the.Name ∷ s.slice_start ∷ s.keyword (codes "WITH") ∷ s.mode ∷ s.modes ∷ s.slices ∷ []) (word x)
     (word (codes "AFFECTS") ∷ word y ∷ ((ns ++ word (codes "WITH") ∷ bs) ++ ys)) (x, refl, n)
-    (as_key (codes "AFFECTS") (s.single the_name ∷ s.slice_start ∷ s.keyword (codes "WITH") ∷ s.mode ∷ s.modes ∷ s.slices ∷ []) (word y ∷ ((ns ++ word (codes "WITH") ∷ bs) ++ ys))
-    (as_one the_name (s.slice_start ∷ s.keyword (codes "WITH") ∷ s.mode ∷ s.modes ∷ s.slices ∷ []) (word y) ((ns ++ word (codes "WITH") ∷ bs) ++ ys) (y, refl, m) starts)) in
+    (as_key (codes "AFFECTS") (s.single the.Name ∷ s.slice_start ∷ s.keyword (codes "WITH") ∷ s.mode ∷ s.modes ∷ s.slices ∷ []) (word y ∷ ((ns ++ word (codes "WITH") ∷ bs) ++ ys))
+    (as_one the.Name (s.slice_start ∷ s.keyword (codes "WITH") ∷ s.mode ∷ s.modes ∷ s.slices ∷ []) (word y) ((ns ++ word (codes "WITH") ∷ bs) ++ ys) (y, refl, m) starts)) in
     subst (λ z. Through (next s.slices z) ts) head
-    (subst (Means_of (s.single the_name ∷ s.keyword (codes "AFFECTS") ∷ s.single the_name ∷ s.slice_start ∷ s.keyword (codes "WITH") ∷ s.mode ∷ s.modes ∷ s.slices ∷ [])) rest means)
+    (subst (Means_of (s.single the.Name ∷ s.keyword (codes "AFFECTS") ∷ s.single the.Name ∷ s.slice_start ∷ s.keyword (codes "WITH") ∷ s.mode ∷ s.modes ∷ s.slices ∷ [])) rest means)
 
 complete_slice_start : (us : List Lexeme) (st : Start) (t : Lexeme) (ts : List Lexeme) → SpellsStart us st → us ≡ t ∷ ts → Through (next s.slice_start t) ts
 unfolding Leads
@@ -112,7 +111,7 @@ complete_modes us ms t ts (one_more {ts = cs} {us = ds} {a = m} p more) e =
     subst (λ z. Through (next s.modes z) ts) first.0 (subst (Means_of (s.mode_rest ∷ s.modes ∷ [])) first.1.2 means)
 
 abbrev in_mode : List Sym
-in_mode = s.mark ∷ s.single the_colon ∷ s.dynamics ∷ s.effect ∷ s.guard ∷ s.single the_semicolon ∷ []
+in_mode = s.mark ∷ s.single the.Colon ∷ s.dynamics ∷ s.effect ∷ s.guard ∷ s.single the.Semicolon ∷ []
 
 complete_mode_rest : (us : List Lexeme) (m : ModeTree) (t : Lexeme) (ts : List Lexeme) → SpellsMode us m → us ≡ word (codes "MODE") ∷ t ∷ ts → Through (next s.mode_rest t) ts
 unfolding That
@@ -120,14 +119,14 @@ complete_mode_rest us m t ts (a_mode {x = x} {ms = ms} {ds = ds} {es = es} {gs =
     let head : word x ≡ t = cc in
     let rest : ms ++ sign k.Colon ∷ (ds ++ (es ++ (gs ++ sign k.Semicolon ∷ []))) ≡ ts = cc in
     let means : Means_of in_mode (ms ++ sign k.Colon ∷ (ds ++ (es ++ (gs ++ sign k.Semicolon ∷ [])))) =
-    as_other s.mark (s.single the_colon ∷ s.dynamics ∷ s.effect ∷ s.guard ∷ s.single the_semicolon ∷ []) ms (sign k.Colon ∷ (ds ++ (es ++ (gs ++ sign k.Semicolon ∷ [])))) (_, pm)
-    (as_one the_colon (s.dynamics ∷ s.effect ∷ s.guard ∷ s.single the_semicolon ∷ []) (sign k.Colon) (ds ++ (es ++ (gs ++ sign k.Semicolon ∷ []))) refl
-    (as_other s.dynamics (s.effect ∷ s.guard ∷ s.single the_semicolon ∷ []) ds (es ++ (gs ++ sign k.Semicolon ∷ [])) (_, pd)
-    (as_other s.effect (s.guard ∷ s.single the_semicolon ∷ []) es (gs ++ sign k.Semicolon ∷ []) (_, pe)
-    (as_other s.guard (s.single the_semicolon ∷ []) gs (sign k.Semicolon ∷ []) (_, pg)
-    (as_one the_semicolon [] (sign k.Semicolon) [] refl refl))))) in
+    as_other s.mark (s.single the.Colon ∷ s.dynamics ∷ s.effect ∷ s.guard ∷ s.single the.Semicolon ∷ []) ms (sign k.Colon ∷ (ds ++ (es ++ (gs ++ sign k.Semicolon ∷ [])))) (_, pm)
+    (as_one the.Colon (s.dynamics ∷ s.effect ∷ s.guard ∷ s.single the.Semicolon ∷ []) (sign k.Colon) (ds ++ (es ++ (gs ++ sign k.Semicolon ∷ []))) refl
+    (as_other s.dynamics (s.effect ∷ s.guard ∷ s.single the.Semicolon ∷ []) ds (es ++ (gs ++ sign k.Semicolon ∷ [])) (_, pd)
+    (as_other s.effect (s.guard ∷ s.single the.Semicolon ∷ []) es (gs ++ sign k.Semicolon ∷ []) (_, pe)
+    (as_other s.guard (s.single the.Semicolon ∷ []) gs (sign k.Semicolon ∷ []) (_, pg)
+    (as_one the.Semicolon [] (sign k.Semicolon) [] refl refl))))) in
     subst (λ z. Through (next s.mode_rest z) ts) head
-    (true_where (is_single the_name (mark_of (word x))) in_mode ts (is_that the_name (word x) (x, refl, n)) (subst (Means_of in_mode) rest means))
+    (true_where (is_single the.Name (mark_of (word x))) in_mode ts (is_that the.Name (word x) (x, refl, n)) (subst (Means_of in_mode) rest means))
 
 mark_first : (us : List Lexeme) (m : Option (List Text)) (t : Lexeme) (ts : List Lexeme) → SpellsMark us m → us ≡ t ∷ ts → sign k.OpenBrace ≡ t
 mark_first us m t ts no_mark e = cc
@@ -142,7 +141,7 @@ complete_mark t ts m =
 -- a token of a mark goes on inside
 inside_mark : (c : Mark) (t : Lexeme) → Marked c t → (t ≡ sign k.CloseBrace → ⊥) → after_in_mark c ≡ Some (s.in_mark ∷ [])
 unfolding Marked
-inside_mark s_close_brace t m h = absurd (h m)
+inside_mark marks.CloseBrace t m h = absurd (h m)
 inside_mark c t m h = refl
 
 token_goes_on : (t : Lexeme) (x : Text) → IsTokenText t x → after_in_mark (mark_of t) ≡ Some (s.in_mark ∷ [])
@@ -175,8 +174,8 @@ complete_int us n t ts (plain_int {n = v} {d = d}) e = let head : num v d ≡ t 
 complete_int us n t ts (minus_int {n = v} {d = d}) e =
     let head : sign k.Minus ≡ t = cc in
     let rest : num v d ∷ [] ≡ ts = cc in
-    let means : Means_of (s.single the_number ∷ []) (num v d ∷ []) = as_one the_number [] (num v d) [] (v, d, refl) refl in
-    subst (λ z. Through (next s.int z) ts) head (subst (Means_of (s.single the_number ∷ [])) rest means)
+    let means : Means_of (s.single the.Number ∷ []) (num v d ∷ []) = as_one the.Number [] (num v d) [] (v, d, refl) refl in
+    subst (λ z. Through (next s.int z) ts) head (subst (Means_of (s.single the.Number ∷ [])) rest means)
 
 complete_int_constant : (us : List Lexeme) (n : ℤ) (t : Lexeme) (ts : List Lexeme) → SpellsInt us n → us ≡ t ∷ ts → Through (next s.constant t) ts
 unfolding Leads That
@@ -184,8 +183,8 @@ complete_int_constant us n t ts (plain_int {n = v} {d = d}) e = let head : num v
 complete_int_constant us n t ts (minus_int {n = v} {d = d}) e =
     let head : sign k.Minus ≡ t = cc in
     let rest : num v d ∷ [] ≡ ts = cc in
-    let means : Means_of (s.single the_number ∷ []) (num v d ∷ []) = as_one the_number [] (num v d) [] (v, d, refl) refl in
-    subst (λ z. Through (next s.constant z) ts) head (subst (Means_of (s.single the_number ∷ [])) rest means)
+    let means : Means_of (s.single the.Number ∷ []) (num v d ∷ []) = as_one the.Number [] (num v d) [] (v, d, refl) refl in
+    subst (λ z. Through (next s.constant z) ts) head (subst (Means_of (s.single the.Number ∷ [])) rest means)
 
 name_constant : (x : Text) → is_reserved x ≡ false → next s.constant (word x) ≡ Some []
 name_constant x n = rw (is_none_of x (codes "TRUE") refl n, is_none_of x (codes "FALSE") refl n) (ap after_constant (mark_of_name x n))
@@ -201,20 +200,20 @@ complete_constant us c t ts (const_name {x = x} n) e =
     some_leads instructions (next s.constant t) [] ts (ap (next s.constant) (sym head) ∙ name_constant x n) rest
 
 -- a word with something in parentheses
-in_parentheses : (x : Sym) (us : List Lexeme) → spelled x us → Means_of (s.single the_open ∷ x ∷ s.single the_close ∷ []) (sign k.Open ∷ (us ++ sign k.Close ∷ []))
+in_parentheses : (x : Sym) (us : List Lexeme) → spelled x us → Means_of (s.single the.Open ∷ x ∷ s.single the.Close ∷ []) (sign k.Open ∷ (us ++ sign k.Close ∷ []))
 unfolding That
 in_parentheses x us d =
-    as_one the_open (x ∷ s.single the_close ∷ []) (sign k.Open) (us ++ sign k.Close ∷ []) refl
-    (as_other x (s.single the_close ∷ []) us (sign k.Close ∷ []) d (as_one the_close [] (sign k.Close) [] refl refl))
+    as_one the.Open (x ∷ s.single the.Close ∷ []) (sign k.Open) (us ++ sign k.Close ∷ []) refl
+    (as_other x (s.single the.Close ∷ []) us (sign k.Close ∷ []) d (as_one the.Close [] (sign k.Close) [] refl refl))
 
 numbers_in_parentheses : (xs ys : List Lexeme) → spelled s.int xs → spelled s.int ys →
-    Means_of (s.single the_open ∷ s.int ∷ s.single the_comma ∷ s.int ∷ s.single the_close ∷ []) (sign k.Open ∷ (xs ++ sign k.Comma ∷ (ys ++ sign k.Close ∷ [])))
+    Means_of (s.single the.Open ∷ s.int ∷ s.single the.Comma ∷ s.int ∷ s.single the.Close ∷ []) (sign k.Open ∷ (xs ++ sign k.Comma ∷ (ys ++ sign k.Close ∷ [])))
 unfolding That
 numbers_in_parentheses xs ys d f =
-    as_one the_open (s.int ∷ s.single the_comma ∷ s.int ∷ s.single the_close ∷ []) (sign k.Open) (xs ++ sign k.Comma ∷ (ys ++ sign k.Close ∷ [])) refl
-    (as_other s.int (s.single the_comma ∷ s.int ∷ s.single the_close ∷ []) xs (sign k.Comma ∷ (ys ++ sign k.Close ∷ [])) d
-    (as_one the_comma (s.int ∷ s.single the_close ∷ []) (sign k.Comma) (ys ++ sign k.Close ∷ []) refl
-    (as_other s.int (s.single the_close ∷ []) ys (sign k.Close ∷ []) f (as_one the_close [] (sign k.Close) [] refl refl))))
+    as_one the.Open (s.int ∷ s.single the.Comma ∷ s.int ∷ s.single the.Close ∷ []) (sign k.Open) (xs ++ sign k.Comma ∷ (ys ++ sign k.Close ∷ [])) refl
+    (as_other s.int (s.single the.Comma ∷ s.int ∷ s.single the.Close ∷ []) xs (sign k.Comma ∷ (ys ++ sign k.Close ∷ [])) d
+    (as_one the.Comma (s.int ∷ s.single the.Close ∷ []) (sign k.Comma) (ys ++ sign k.Close ∷ []) refl
+    (as_other s.int (s.single the.Close ∷ []) ys (sign k.Close ∷ []) f (as_one the.Close [] (sign k.Close) [] refl refl))))
 
 complete_arguments : {us : List Lexeme} {x : EffectTree} → SpellsArguments us x → Means_of (arguments (kind_of x)) us
 complete_arguments no_argument = refl

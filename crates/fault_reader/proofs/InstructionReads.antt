@@ -3,11 +3,7 @@ use Rattle.std.proofs.Common.{◌≡◌, Bool, true, false, List, [], ◌∷◌,
 use Rattle.std.specs.Prelude.{◌&&◌, ◌||◌, codes, if◌then◌else◌}
 use Rattle.std.specs.Option.{option_map}
 use Rattle.smv_lexer.specs.declared.token.TokenKind.TheVariants as k
-use Rattle.smv_language.specs.ProgramTree.{Text}
-use Rattle.smv_language.specs.Values.{Value}
-use Rattle.smv_language.specs.Lexemes.{Lexeme, word, num, sign}
-use Rattle.smv_language.specs.Spells.{plain_int}
-use Rattle.smv_language.specs.SpellsProgram.{no_more}
+use Rattle.smv_language.specs.Language.{Text, Value, Lexeme, word, num, sign, plain_int, no_more}
 use Rattle.fault_instructions.specs.declared.instructions.Dynamics.{Dynamics}
 use Rattle.fault_instructions.specs.declared.instructions.Dynamics.TheVariants.{Permanent}
 use Rattle.fault_instructions.specs.declared.effects.PlainEffect.TheVariants.{Frozen}
@@ -15,21 +11,25 @@ use Rattle.fault_instructions.specs.declared.effects.EffectKind.{EffectKind}
 use Rattle.fault_instructions.specs.declared.effects.EffectKind.TheVariants as kind
 use Rattle.fault_instructions.specs.Instructions.{EffectTree, plain, ModeTree}
 use Rattle.fault_instructions.specs.SpellsInstructions.{SpellsConst, const_true, const_false, const_int, const_name, no_argument, SpellsEffect, an_effect, SpellsDynamics, d_permanent, d_transient, no_guard, SpellsMark, no_mark, a_mark, SpellsMode, a_mode, at_nominal, unnamed}
-use Rattle.smv_expression_reader.specs.Recogniser.{closes, role_of, by_number, by_name, by_other, State, had, stuck, is_whole}
+use Rattle.smv_expression_reader.specs.Recogniser.{role_of, by_number, by_name, by_other, State, had, stuck, is_whole}
 use Rattle.smv_expression_reader.specs.Recogniser as machine
 use Rattle.smv_expression_reader.specs.Places.{is_word}
 use Rattle.smv_expression_reader.specs.PredictiveReader.{Fits, IsPredictable, is_some}
-use Rattle.smv_expression_reader.specs.Marks.{Mark, a_name, a_number, s_open_brace, s_close_brace, s_colon, s_minus, mark_of}
+use Rattle.smv_expression_reader.specs.Marks.{mark_of}
 use Rattle.smv_expression_reader.proofs.Exact.{completes}
 use Rattle.smv_expression_reader.proofs.FormulasRead.{whole_stops}
 use Rattle.smv_expression_reader.proofs.Marks.{word_there}
-use Rattle.fault_reader.specs.InstructionGrammar.{the_name, the_number, the_open, the_close, the_comma, the_colon, the_semicolon, Sym, is_single, spelled, empty, expr, live, where_so, after_extensions, after_mark, after_in_mark, after_int, after_constant, effect_in, arguments, next, follow, shortest, shortest_mode, instructions}
+use Rattle.fault_reader.specs.InstructionGrammar.{Sym, is_single, spelled, empty, expr, live, where_so, after_extensions, after_mark, after_in_mark, after_int, after_constant, effect_in, arguments, next, follow, shortest, shortest_mode, instructions}
 use Rattle.fault_reader.specs.InstructionGrammar as s
 use Rattle.fault_reader.proofs.Through.{That, that}
 use Rattle.fault_reader.proofs.InstructionSound.{sounds}
 use Rattle.fault_reader.proofs.InstructionComplete.{completed}
 use Rattle.smv_expression_reader.proofs.Meanings.{leads_some, some_leads, FitsAll, some_fits}
 use Rattle.smv_language.proofs.SpelledLaws.{some_int}
+use Rattle.smv_expression_reader.specs.declared.mark.Mark.{Mark}
+use Rattle.smv_expression_reader.specs.declared.machine.TokenRole.TheVariants as role
+use Rattle.smv_expression_reader.specs.declared.mark.Mark.TheVariants as marks
+use Rattle.fault_reader.specs.declared.place.Single.TheVariants as the
 
 -- what may be nothing
 empties : (x : Sym) → empty x ≡ true → spelled x []
@@ -81,19 +81,19 @@ emptied s.int d = absurd (some_int [] d.0 d.1 refl)
 emptied x d = refl
 
 -- what may follow a symbol does not begin it
-pub closes_stop : (st : State) → is_whole st ≡ true → machine.step st closes ≡ stuck
+pub closes_stop : (st : State) → is_whole st ≡ true → machine.step st role.Closes ≡ stuck
 closes_stop (had by_number []) h = refl
 closes_stop (had by_name []) h = refl
 closes_stop (had by_other []) h = refl
 closes_stop st h = cc
 
-formula_parted : (st : State) (t : Lexeme) → is_whole st ≡ true → (is_single the_semicolon (mark_of t) || is_single the_close (mark_of t)) ≡ true → live (machine.step st (role_of t)) [] ≡ None
+formula_parted : (st : State) (t : Lexeme) → is_whole st ≡ true → (is_single the.Semicolon (mark_of t) || is_single the.Close (mark_of t)) ≡ true → live (machine.step st (role_of t)) [] ≡ None
 unfolding That
-formula_parted st t w f = go (is_single the_semicolon (mark_of t)) refl f
+formula_parted st t w f = go (is_single the.Semicolon (mark_of t)) refl f
   where
-    go : (b : Bool) → is_single the_semicolon (mark_of t) ≡ b → (b || is_single the_close (mark_of t)) ≡ true → live (machine.step st (role_of t)) [] ≡ None
-    go true e f = let there : t ≡ sign k.Semicolon = that the_semicolon t e in ap (λ z. live (machine.step st (role_of z)) []) there ∙ ap (λ z. live z []) (whole_stops st w)
-    go false e f = let there : t ≡ sign k.Close = that the_close t f in ap (λ z. live (machine.step st (role_of z)) []) there ∙ ap (λ z. live z []) (closes_stop st w)
+    go : (b : Bool) → is_single the.Semicolon (mark_of t) ≡ b → (b || is_single the.Close (mark_of t)) ≡ true → live (machine.step st (role_of t)) [] ≡ None
+    go true e f = let there : t ≡ sign k.Semicolon = that the.Semicolon t e in ap (λ z. live (machine.step st (role_of z)) []) there ∙ ap (λ z. live z []) (whole_stops st w)
+    go false e f = let there : t ≡ sign k.Close = that the.Close t f in ap (λ z. live (machine.step st (role_of z)) []) there ∙ ap (λ z. live z []) (closes_stop st w)
 
 modes_parted : (t : Lexeme) → (is_word t (codes "SLICE") || is_word t (codes "EXTENSION")) ≡ true → next s.modes t ≡ None
 modes_parted t f = go (is_word t (codes "SLICE")) refl f
@@ -102,8 +102,8 @@ modes_parted t f = go (is_word t (codes "SLICE")) refl f
     go true e f = ap (next s.modes) (word_there t (codes "SLICE") e)
     go false e f = ap (next s.modes) (word_there t (codes "EXTENSION") f)
 
-mark_parted : (c : Mark) → is_single the_colon c ≡ true → after_mark c ≡ None
-mark_parted s_colon h = refl
+mark_parted : (c : Mark) → is_single the.Colon c ≡ true → after_mark c ≡ None
+mark_parted marks.Colon h = refl
 mark_parted c h = cc
 
 apart_from : (x : Sym) (t : Lexeme) → empty x ≡ true → follow x t ≡ true → next x t ≡ None
@@ -115,7 +115,7 @@ apart_from s.slices t e f = ap (next s.slices) (word_there t (codes "EXTENSION")
 apart_from s.slice_start t e f = ap (next s.slice_start) (word_there t (codes "WITH") f)
 apart_from s.modes t e f = modes_parted t f
 apart_from s.mark t e f = mark_parted (mark_of t) f
-apart_from s.guard t e f = let there : t ≡ sign k.Semicolon = that the_semicolon t f in ap (next s.guard) there
+apart_from s.guard t e f = let there : t ≡ sign k.Semicolon = that the.Semicolon t f in ap (next s.guard) there
 apart_from x t e f = cc
 
 -- what follows each symbol of a choice
@@ -157,13 +157,13 @@ ends_guard false b h = cc
 
 fits_extensions : (t : Lexeme) → FitsOf (after_extensions t) (λ u. false)
 fits_extensions t =
-    fits_where (is_word t (codes "EXTENSION")) (s.keyword (codes "OF") ∷ s.keyword (codes "MODULE") ∷ s.single the_name ∷ s.slices ∷ s.extensions ∷ []) (λ u. false)
+    fits_where (is_word t (codes "EXTENSION")) (s.keyword (codes "OF") ∷ s.keyword (codes "MODULE") ∷ s.single the.Name ∷ s.slices ∷ s.extensions ∷ []) (λ u. false)
     (λ u h. refl, (λ u h. refl, (λ u h. refl, (λ u h. starts_extension (is_word u (codes "EXTENSION")) _ h, (λ u h. h, tt)))))
 
 fits_file : (t : Lexeme) → FitsOf (next s.file t) (follow s.file)
 unfolding FitsAll
 fits_file t =
-    fits_if (is_word t (codes "FAULT")) (Some (s.keyword (codes "EXTENSION") ∷ s.single the_name ∷ s.extensions ∷ [])) (after_extensions t) (follow s.file)
+    fits_if (is_word t (codes "FAULT")) (Some (s.keyword (codes "EXTENSION") ∷ s.single the.Name ∷ s.extensions ∷ [])) (after_extensions t) (follow s.file)
     (λ u h. refl, (λ u h. refl, (λ u h. h, tt))) (fits_extensions t)
 
 starts_with : (a : Bool) → ((is_some Sym instructions (where_so a []) || (false && false)) || ((false && false) && false)) ≡ true → a ≡ true
@@ -172,7 +172,7 @@ starts_with false h = cc
 
 fits_slices : (t : Lexeme) → FitsOf (next s.slices t) (follow s.slices)
 fits_slices t =
-    fits_where (is_word t (codes "SLICE")) (s.single the_name ∷ s.keyword (codes "AFFECTS") ∷ s.single the_name ∷ s.slice_start ∷ s.keyword (codes "WITH") ∷ s.mode ∷ s.modes ∷ s.slices ∷ []) (follow s.slices) (
+    fits_where (is_word t (codes "SLICE")) (s.single the.Name ∷ s.keyword (codes "AFFECTS") ∷ s.single the.Name ∷ s.slice_start ∷ s.keyword (codes "WITH") ∷ s.mode ∷ s.modes ∷ s.slices ∷ []) (follow s.slices) (
       λ u h. refl,
       (
         λ u h. refl,
@@ -188,28 +188,28 @@ fits_slices t =
 
 fits_mode_rest : (t : Lexeme) → FitsOf (next s.mode_rest t) (follow s.mode_rest)
 fits_mode_rest t =
-    fits_where (is_single the_name (mark_of t)) (s.mark ∷ s.single the_colon ∷ s.dynamics ∷ s.effect ∷ s.guard ∷ s.single the_semicolon ∷ []) (follow s.mode_rest)
-    (λ u h. starts_single (is_single the_colon (mark_of u)) h, (λ u h. refl, (λ u h. refl, (λ u h. refl, (λ u h. starts_single (is_single the_semicolon (mark_of u)) h, (λ u h. refl, tt))))))
+    fits_where (is_single the.Name (mark_of t)) (s.mark ∷ s.single the.Colon ∷ s.dynamics ∷ s.effect ∷ s.guard ∷ s.single the.Semicolon ∷ []) (follow s.mode_rest)
+    (λ u h. starts_single (is_single the.Colon (mark_of u)) h, (λ u h. refl, (λ u h. refl, (λ u h. refl, (λ u h. starts_single (is_single the.Semicolon (mark_of u)) h, (λ u h. refl, tt))))))
 
 fits_mark : (c : Mark) → FitsOf (after_mark c) (follow s.mark)
 unfolding FitsAll
-fits_mark s_open_brace = (λ u h. refl, tt)
+fits_mark marks.OpenBrace = (λ u h. refl, tt)
 fits_mark c = tt
 
 fits_in_mark : (c : Mark) → FitsOf (after_in_mark c) (follow s.in_mark)
 unfolding FitsAll
-fits_in_mark s_close_brace = tt
+fits_in_mark marks.CloseBrace = tt
 fits_in_mark c = (λ u h. refl, tt)
 
 fits_int : (c : Mark) (f : Lexeme → Bool) → FitsOf (after_int c) f
 unfolding FitsAll
-fits_int s_minus f = (λ u h. refl, tt)
-fits_int a_number f = tt
+fits_int marks.Minus f = (λ u h. refl, tt)
+fits_int marks.Number f = tt
 fits_int c f = tt
 
 fits_constant : (c : Mark) → FitsOf (after_constant c) (follow s.constant)
 unfolding FitsAll
-fits_constant a_name = tt
+fits_constant marks.Name = tt
 fits_constant c = fits_int c (follow s.constant)
 
 fits_arguments : (o : Option EffectKind) → FitsOf (option_map arguments o) (follow s.effect)
@@ -217,12 +217,12 @@ unfolding FitsAll
 fits_arguments None = tt
 fits_arguments (Some (kind.Plain of)) = tt
 fits_arguments (Some (kind.OfConstant of)) = (λ u h. refl, (λ u h. refl, (λ u h. refl, tt)))
-fits_arguments (Some (kind.OfExpression of)) = (λ u h. refl, (λ u h. ends_formula (is_single the_semicolon (mark_of u)) (is_single the_close (mark_of u)) h, (λ u h. refl, tt)))
+fits_arguments (Some (kind.OfExpression of)) = (λ u h. refl, (λ u h. ends_formula (is_single the.Semicolon (mark_of u)) (is_single the.Close (mark_of u)) h, (λ u h. refl, tt)))
 fits_arguments (Some (kind.OfNumber of)) = (λ u h. refl, (λ u h. refl, (λ u h. refl, tt)))
 fits_arguments (Some (kind.OfNumbers of)) = (λ u h. refl, (λ u h. refl, (λ u h. refl, (λ u h. refl, (λ u h. refl, tt)))))
 
 fits_live : (st : State) (f : Lexeme → Bool) →
-    ((u : Lexeme) → (false || (true && f u)) ≡ true → (is_single the_semicolon (mark_of u) || is_single the_close (mark_of u)) ≡ true) → FitsOf (live st []) f
+    ((u : Lexeme) → (false || (true && f u)) ≡ true → (is_single the.Semicolon (mark_of u) || is_single the.Close (mark_of u)) ≡ true) → FitsOf (live st []) f
 unfolding FitsAll
 fits_live stuck f h = tt
 fits_live st f h = (h, tt)
@@ -246,20 +246,20 @@ fits s.effect t = fits_arguments (effect_in t)
 fits s.constant t = fits_if (is_word t (codes "TRUE") || is_word t (codes "FALSE")) (Some []) (after_constant (mark_of t)) (follow s.constant) tt (fits_constant (mark_of t))
 fits s.int t = fits_int (mark_of t) (follow s.int)
 fits s.guard t =
-    fits_where (is_word t (codes "WHEN")) (expr ∷ []) (follow s.guard) (λ u h. ends_guard (is_single the_semicolon (mark_of u)) (is_single the_close (mark_of u)) h, tt)
+    fits_where (is_word t (codes "WHEN")) (expr ∷ []) (follow s.guard) (λ u h. ends_guard (is_single the.Semicolon (mark_of u)) (is_single the.Close (mark_of u)) h, tt)
 
 -- a list that each symbol stands for
 short_mode : SpellsMode (word (codes "MODE") ∷ shortest_mode) (record { name = codes "x"; mark = None; dynamics = Permanent; effect = plain Frozen; guard = None })
 short_mode = a_mode refl no_mark d_permanent (an_effect no_argument) no_guard
 
 completing : (x : Sym) → spelled x (shortest x)
-completing (s.single the_name) = (word (codes "x"), refl, refl)
-completing (s.single the_number) = (num 0 [], refl, refl)
-completing (s.single the_open) = (sign k.Open, refl, refl)
-completing (s.single the_close) = (sign k.Close, refl, refl)
-completing (s.single the_comma) = (sign k.Comma, refl, refl)
-completing (s.single the_colon) = (sign k.Colon, refl, refl)
-completing (s.single the_semicolon) = (sign k.Semicolon, refl, refl)
+completing (s.single the.Name) = (word (codes "x"), refl, refl)
+completing (s.single the.Number) = (num 0 [], refl, refl)
+completing (s.single the.Open) = (sign k.Open, refl, refl)
+completing (s.single the.Close) = (sign k.Close, refl, refl)
+completing (s.single the.Comma) = (sign k.Comma, refl, refl)
+completing (s.single the.Colon) = (sign k.Colon, refl, refl)
+completing (s.single the.Semicolon) = (sign k.Semicolon, refl, refl)
 completing (s.keyword w) = refl
 completing (s.formula st q) = completes st q
 completing s.mode = (_, short_mode)

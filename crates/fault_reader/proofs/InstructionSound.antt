@@ -3,10 +3,7 @@ use Rattle.std.proofs.Common.{◌≡◌, inl, inr, ◌⊎◌, ℕ, Bool, true, f
 use Rattle.std.specs.Prelude.{◌||◌, codes, if◌then◌else◌}
 use Rattle.std.specs.Option.{option_map}
 use Rattle.smv_lexer.specs.declared.token.TokenKind.TheVariants as k
-use Rattle.smv_language.specs.ProgramTree.{Text}
-use Rattle.smv_language.specs.Lexemes.{Lexeme, word, num, sign}
-use Rattle.smv_language.specs.Spells.{plain_int, minus_int}
-use Rattle.smv_language.specs.SpellsProgram.{no_more, one_more}
+use Rattle.smv_language.specs.Language.{Text, Lexeme, word, num, sign, plain_int, minus_int, no_more, one_more}
 use Rattle.fault_instructions.specs.declared.effects.EffectKind.{EffectKind}
 use Rattle.fault_instructions.specs.declared.effects.EffectKind.TheVariants as kind
 use Rattle.fault_instructions.specs.Effects.{keyword, effect_kinds}
@@ -16,16 +13,19 @@ use Rattle.fault_instructions.specs.SpellsInstructions.{IsTokenText, number_text
 use Rattle.smv_expression_reader.specs.Recogniser.{role_of, is_whole}
 use Rattle.smv_expression_reader.specs.Recogniser as machine
 use Rattle.smv_expression_reader.specs.Places.{is_word, text_in}
-use Rattle.smv_expression_reader.specs.Marks.{Mark, a_name, a_number, s_open_brace, s_close_brace, s_minus, mark_of}
+use Rattle.smv_expression_reader.specs.Marks.{mark_of}
 use Rattle.smv_expression_reader.proofs.Rest.{accepted_spelled}
 use Rattle.smv_expression_reader.proofs.Marks.{Marked, marked, word_there}
-use Rattle.fault_reader.specs.InstructionGrammar.{the_name, the_number, the_open, the_close, the_comma, the_colon, the_semicolon, Sym, is_single, IsMark, IsMode, spelled, expr, after_extensions, after_mark, after_in_mark, after_int, after_constant, effect_in, arguments, after_effect, next, instructions}
+use Rattle.fault_reader.specs.InstructionGrammar.{Sym, is_single, IsMark, IsMode, spelled, expr, after_extensions, after_mark, after_in_mark, after_int, after_constant, effect_in, arguments, after_effect, next, instructions}
 use Rattle.fault_reader.specs.InstructionGrammar as s
 use Rattle.fault_reader.proofs.Through.{That, one, key, Means_of, Through, where_true, where_word, if_word, live_sound, that}
 use Rattle.smv_expression_reader.proofs.Meanings.{last, Leads}
+use Rattle.smv_expression_reader.specs.declared.mark.Mark.{Mark}
+use Rattle.smv_expression_reader.specs.declared.mark.Mark.TheVariants as marks
+use Rattle.fault_reader.specs.declared.place.Single.TheVariants as the
 
 -- a lexeme that closes no mark is spelled by its text
-token_text : (t : Lexeme) → (mark_of t ≡ s_close_brace → ⊥) → IsTokenText t (text_in t)
+token_text : (t : Lexeme) → (mark_of t ≡ marks.CloseBrace → ⊥) → IsTokenText t (text_in t)
 token_text (word x) h = word_text
 token_text (num n d) h = number_text
 token_text (sign s) h = sign_of (λ e. h (ap (λ z. mark_of (sign z)) e))
@@ -41,10 +41,10 @@ either_word t v w h = go (is_word t v) refl h
 sound_extensions : (t : Lexeme) (ts : List Lexeme) → Through (after_extensions t) ts → spelled s.extensions (t ∷ ts)
 unfolding That
 sound_extensions t ts h =
-    let w = where_word t (codes "EXTENSION") (s.keyword (codes "OF") ∷ s.keyword (codes "MODULE") ∷ s.single the_name ∷ s.slices ∷ s.extensions ∷ []) ts h in
-    let a = key (codes "OF") (s.keyword (codes "MODULE") ∷ s.single the_name ∷ s.slices ∷ s.extensions ∷ []) ts w.1 in
-    let b = key (codes "MODULE") (s.single the_name ∷ s.slices ∷ s.extensions ∷ []) a.0 a.2 in
-    let n = one the_name (s.slices ∷ s.extensions ∷ []) b.0 b.2 in
+    let w = where_word t (codes "EXTENSION") (s.keyword (codes "OF") ∷ s.keyword (codes "MODULE") ∷ s.single the.Name ∷ s.slices ∷ s.extensions ∷ []) ts h in
+    let a = key (codes "OF") (s.keyword (codes "MODULE") ∷ s.single the.Name ∷ s.slices ∷ s.extensions ∷ []) ts w.1 in
+    let b = key (codes "MODULE") (s.single the.Name ∷ s.slices ∷ s.extensions ∷ []) a.0 a.2 in
+    let n = one the.Name (s.slices ∷ s.extensions ∷ []) b.0 b.2 in
     let m = n.means in
     let more = last instructions s.extensions m.1 m.4 in
     let name = n.that in
@@ -54,12 +54,12 @@ sound_extensions t ts h =
 
 sound_file : (t : Lexeme) (ts : List Lexeme) → Through (next s.file t) ts → spelled s.file (t ∷ ts)
 unfolding That Leads
-sound_file t ts h = go (if_word t (codes "FAULT") (Some (s.keyword (codes "EXTENSION") ∷ s.single the_name ∷ s.extensions ∷ [])) (after_extensions t) ts h)
+sound_file t ts h = go (if_word t (codes "FAULT") (Some (s.keyword (codes "EXTENSION") ∷ s.single the.Name ∷ s.extensions ∷ [])) (after_extensions t) ts h)
   where
-    go : ((t ≡ word (codes "FAULT")) × Means_of (s.keyword (codes "EXTENSION") ∷ s.single the_name ∷ s.extensions ∷ []) ts) ⊎ Through (after_extensions t) ts → spelled s.file (t ∷ ts)
+    go : ((t ≡ word (codes "FAULT")) × Means_of (s.keyword (codes "EXTENSION") ∷ s.single the.Name ∷ s.extensions ∷ []) ts) ⊎ Through (after_extensions t) ts → spelled s.file (t ∷ ts)
     go (inl w) =
-        let a = key (codes "EXTENSION") (s.single the_name ∷ s.extensions ∷ []) ts w.1 in
-        let n = one the_name (s.extensions ∷ []) a.0 a.2 in
+        let a = key (codes "EXTENSION") (s.single the.Name ∷ s.extensions ∷ []) ts w.1 in
+        let n = one the.Name (s.extensions ∷ []) a.0 a.2 in
         let more = last instructions s.extensions n.rest n.means in
         let name = n.that in
         let e0 = w.0 in let e1 = a.1 in let e2 = n.whole in let e3 = name.1 in
@@ -70,10 +70,10 @@ sound_file t ts h = go (if_word t (codes "FAULT") (Some (s.keyword (codes "EXTEN
 sound_slices : (t : Lexeme) (ts : List Lexeme) → Through (next s.slices t) ts → spelled s.slices (t ∷ ts)
 unfolding That
 sound_slices t ts h =
-    let w = where_word t (codes "SLICE") (s.single the_name ∷ s.keyword (codes "AFFECTS") ∷ s.single the_name ∷ s.slice_start ∷ s.keyword (codes "WITH") ∷ s.mode ∷ s.modes ∷ s.slices ∷ []) ts h in
-    let n = one the_name (s.keyword (codes "AFFECTS") ∷ s.single the_name ∷ s.slice_start ∷ s.keyword (codes "WITH") ∷ s.mode ∷ s.modes ∷ s.slices ∷ []) ts w.1 in
-    let a = key (codes "AFFECTS") (s.single the_name ∷ s.slice_start ∷ s.keyword (codes "WITH") ∷ s.mode ∷ s.modes ∷ s.slices ∷ []) n.rest n.means in
-    let m = one the_name (s.slice_start ∷ s.keyword (codes "WITH") ∷ s.mode ∷ s.modes ∷ s.slices ∷ []) a.0 a.2 in
+    let w = where_word t (codes "SLICE") (s.single the.Name ∷ s.keyword (codes "AFFECTS") ∷ s.single the.Name ∷ s.slice_start ∷ s.keyword (codes "WITH") ∷ s.mode ∷ s.modes ∷ s.slices ∷ []) ts h in
+    let n = one the.Name (s.keyword (codes "AFFECTS") ∷ s.single the.Name ∷ s.slice_start ∷ s.keyword (codes "WITH") ∷ s.mode ∷ s.modes ∷ s.slices ∷ []) ts w.1 in
+    let a = key (codes "AFFECTS") (s.single the.Name ∷ s.slice_start ∷ s.keyword (codes "WITH") ∷ s.mode ∷ s.modes ∷ s.slices ∷ []) n.rest n.means in
+    let m = one the.Name (s.slice_start ∷ s.keyword (codes "WITH") ∷ s.mode ∷ s.modes ∷ s.slices ∷ []) a.0 a.2 in
     let st = m.means in
     let b = key (codes "WITH") (s.mode ∷ s.modes ∷ s.slices ∷ []) st.1 st.4 in
     let p = b.2 in
@@ -111,14 +111,14 @@ sound_modes t ts h =
 sound_mode_rest : (t : Lexeme) (ts : List Lexeme) → Through (next s.mode_rest t) ts → spelled s.mode_rest (t ∷ ts)
 unfolding That
 sound_mode_rest t ts h =
-    let w = where_true (is_single the_name (mark_of t)) (s.mark ∷ s.single the_colon ∷ s.dynamics ∷ s.effect ∷ s.guard ∷ s.single the_semicolon ∷ []) ts h in
-    let x : That the_name t = that the_name t w.0 in
+    let w = where_true (is_single the.Name (mark_of t)) (s.mark ∷ s.single the.Colon ∷ s.dynamics ∷ s.effect ∷ s.guard ∷ s.single the.Semicolon ∷ []) ts h in
+    let x : That the.Name t = that the.Name t w.0 in
     let m = w.1 in
-    let c = one the_colon (s.dynamics ∷ s.effect ∷ s.guard ∷ s.single the_semicolon ∷ []) m.1 m.4 in
+    let c = one the.Colon (s.dynamics ∷ s.effect ∷ s.guard ∷ s.single the.Semicolon ∷ []) m.1 m.4 in
     let d = c.means in
     let e = d.4 in
     let g = e.4 in
-    let z = one the_semicolon [] g.1 g.4 in
+    let z = one the.Semicolon [] g.1 g.4 in
     let e0 = x.1 in let e1 = m.2 in let e2 = c.whole in let e3 : c.lexeme ≡ sign k.Colon = c.that in let e4 = d.2 in let e5 = e.2 in let e6 = g.2 in let e7 = z.whole in
     let e8 : z.lexeme ≡ sign k.Semicolon = z.that in let e9 : z.rest ≡ [] = z.means in
     let whole : word (codes "MODE") ∷ word x.0 ∷ (m.0 ++ sign k.Colon ∷ (d.0 ++ (e.0 ++ (g.0 ++ sign k.Semicolon ∷ [])))) ≡ word (codes "MODE") ∷ t ∷ ts = cc in
@@ -126,11 +126,11 @@ sound_mode_rest t ts h =
 
 sound_mark : (c : Mark) (t : Lexeme) (ts : List Lexeme) → Marked c t → Through (after_mark c) ts → IsMark (t ∷ ts)
 unfolding Marked Leads
-sound_mark s_open_brace t ts m h = subst (λ z. IsMark (z ∷ ts)) (sym m) (last instructions s.in_mark ts h)
+sound_mark marks.OpenBrace t ts m h = subst (λ z. IsMark (z ∷ ts)) (sym m) (last instructions s.in_mark ts h)
 sound_mark c t ts m h = absurd h
 
 -- a mark with one token more
-mark_more : (us : List Lexeme) (m : Option (List Text)) (t : Lexeme) (ts : List Lexeme) → SpellsMark us m → us ≡ sign k.OpenBrace ∷ ts → (mark_of t ≡ s_close_brace → ⊥) → IsMark (sign k.OpenBrace ∷ t ∷ ts)
+mark_more : (us : List Lexeme) (m : Option (List Text)) (t : Lexeme) (ts : List Lexeme) → SpellsMark us m → us ≡ sign k.OpenBrace ∷ ts → (mark_of t ≡ marks.CloseBrace → ⊥) → IsMark (sign k.OpenBrace ∷ t ∷ ts)
 mark_more us m t ts no_mark e h = cc
 mark_more us m t ts (a_mark {ts = xs} {xs = names} many) e h =
     let rest : xs ++ sign k.CloseBrace ∷ [] ≡ ts = cc in
@@ -138,7 +138,7 @@ mark_more us m t ts (a_mark {ts = xs} {xs = names} many) e h =
 
 closing : (c : Mark) (t : Lexeme) (ts : List Lexeme) → mark_of t ≡ c → Marked c t → Through (after_in_mark c) ts → IsMark (sign k.OpenBrace ∷ t ∷ ts)
 unfolding Marked Leads
-closing s_close_brace t ts e m h =
+closing marks.CloseBrace t ts e m h =
     let whole : sign k.OpenBrace ∷ sign k.CloseBrace ∷ [] ≡ sign k.OpenBrace ∷ t ∷ ts = cc in
     subst IsMark whole (Some [], a_mark {ts = []} no_more)
 closing c t ts e m h = let d = last instructions s.in_mark ts h in mark_more (sign k.OpenBrace ∷ ts) d.0 t ts d.1 refl (λ f. cc)
@@ -155,9 +155,9 @@ sound_dynamics t ts h =
 
 sound_int : (c : Mark) (t : Lexeme) (ts : List Lexeme) → Marked c t → Through (after_int c) ts → spelled s.int (t ∷ ts)
 unfolding Marked Leads That
-sound_int a_number t ts m h = let e = m.2 in let whole : num m.0 m.1 ∷ [] ≡ t ∷ ts = cc in subst (spelled s.int) whole (_, plain_int)
-sound_int s_minus t ts m h =
-    let n = one the_number [] ts h in
+sound_int marks.Number t ts m h = let e = m.2 in let whole : num m.0 m.1 ∷ [] ≡ t ∷ ts = cc in subst (spelled s.int) whole (_, plain_int)
+sound_int marks.Minus t ts m h =
+    let n = one the.Number [] ts h in
     let d = n.that in
     let e0 = n.whole in let e1 = d.2 in let e2 : n.rest ≡ [] = n.means in
     let whole : sign k.Minus ∷ num d.0 d.1 ∷ [] ≡ t ∷ ts = cc in
@@ -166,7 +166,7 @@ sound_int c t ts m h = absurd h
 
 sound_constant : (c : Mark) (t : Lexeme) (ts : List Lexeme) → Marked c t → Through (after_constant c) ts → spelled s.constant (t ∷ ts)
 unfolding Marked Leads
-sound_constant a_name t ts m h = let e = m.1 in let whole : word m.0 ∷ [] ≡ t ∷ ts = cc in subst (spelled s.constant) whole (_, const_name m.2)
+sound_constant marks.Name t ts m h = let e = m.1 in let whole : word m.0 ∷ [] ≡ t ∷ ts = cc in subst (spelled s.constant) whole (_, const_name m.2)
 sound_constant c t ts m h = let n = sound_int c t ts m h in (_, const_int n.1)
 
 sound_first_constant : (t : Lexeme) (ts : List Lexeme) → Through (next s.constant t) ts → spelled s.constant (t ∷ ts)
@@ -186,33 +186,33 @@ sound_arguments : (k : EffectKind) (ts : List Lexeme) → Means_of (arguments k)
 unfolding That
 sound_arguments (kind.Plain of) ts h = (plain of, refl, subst (λ z. SpellsArguments z (plain of)) (sym h) no_argument)
 sound_arguments (kind.OfConstant of) ts h =
-    let o = one the_open (s.constant ∷ s.single the_close ∷ []) ts h in
+    let o = one the.Open (s.constant ∷ s.single the.Close ∷ []) ts h in
     let m = o.means in
-    let c = one the_close [] m.1 m.4 in
+    let c = one the.Close [] m.1 m.4 in
     let e1 = o.whole in let e2 : o.lexeme ≡ sign k.Open = o.that in let e3 = m.2 in let e4 = c.whole in let e5 : c.lexeme ≡ sign k.Close = c.that in let e6 : c.rest ≡ [] = c.means in
     let whole : sign k.Open ∷ (m.0 ++ sign k.Close ∷ []) ≡ ts = cc in
     (_, refl, subst (λ z. SpellsArguments z (of_constant of m.3.0)) whole (a_constant m.3.1))
 sound_arguments (kind.OfExpression of) ts h =
-    let o = one the_open (expr ∷ s.single the_close ∷ []) ts h in
+    let o = one the.Open (expr ∷ s.single the.Close ∷ []) ts h in
     let m = o.means in
-    let c = one the_close [] m.1 m.4 in
+    let c = one the.Close [] m.1 m.4 in
     let e1 = o.whole in let e2 : o.lexeme ≡ sign k.Open = o.that in let e3 = m.2 in let e4 = c.whole in let e5 : c.lexeme ≡ sign k.Close = c.that in let e6 : c.rest ≡ [] = c.means in
     let whole : sign k.Open ∷ (m.0 ++ sign k.Close ∷ []) ≡ ts = cc in
     let made = accepted_spelled m.0 m.3 in
     (_, refl, subst (λ z. SpellsArguments z (of_expression of made.0)) whole (an_expression made.1))
 sound_arguments (kind.OfNumber of) ts h =
-    let o = one the_open (s.int ∷ s.single the_close ∷ []) ts h in
+    let o = one the.Open (s.int ∷ s.single the.Close ∷ []) ts h in
     let m = o.means in
-    let c = one the_close [] m.1 m.4 in
+    let c = one the.Close [] m.1 m.4 in
     let e1 = o.whole in let e2 : o.lexeme ≡ sign k.Open = o.that in let e3 = m.2 in let e4 = c.whole in let e5 : c.lexeme ≡ sign k.Close = c.that in let e6 : c.rest ≡ [] = c.means in
     let whole : sign k.Open ∷ (m.0 ++ sign k.Close ∷ []) ≡ ts = cc in
     (_, refl, subst (λ z. SpellsArguments z (of_number of m.3.0)) whole (a_number m.3.1))
 sound_arguments (kind.OfNumbers of) ts h =
-    let o = one the_open (s.int ∷ s.single the_comma ∷ s.int ∷ s.single the_close ∷ []) ts h in
+    let o = one the.Open (s.int ∷ s.single the.Comma ∷ s.int ∷ s.single the.Close ∷ []) ts h in
     let m = o.means in
-    let q = one the_comma (s.int ∷ s.single the_close ∷ []) m.1 m.4 in
+    let q = one the.Comma (s.int ∷ s.single the.Close ∷ []) m.1 m.4 in
     let n = q.means in
-    let c = one the_close [] n.1 n.4 in
+    let c = one the.Close [] n.1 n.4 in
     let e1 = o.whole in let e2 : o.lexeme ≡ sign k.Open = o.that in let e3 = m.2 in let e4 = q.whole in let e5 : q.lexeme ≡ sign k.Comma = q.that in
     let e6 = n.2 in let e7 = c.whole in let e8 : c.lexeme ≡ sign k.Close = c.that in let e9 : c.rest ≡ [] = c.means in
     let whole : sign k.Open ∷ (m.0 ++ sign k.Comma ∷ (n.0 ++ sign k.Close ∷ [])) ≡ ts = cc in

@@ -3,14 +3,14 @@ use Rattle.std.proofs.Common.{◌≡◌, ℕ, ◌+◌, Bool, true, false, List, 
 use Rattle.std.specs.Prelude.{◌&&◌, ◌||◌, codes, if◌then◌else◌}
 use Rattle.std.specs.Option.{option_map}
 use Rattle.smv_language.specs.Lexemes.{Lexeme}
-use Rattle.smv_expression_reader.specs.Recogniser.{Role, Frame, State, stuck, role_of, is_stuck, is_whole, start}
+use Rattle.smv_expression_reader.specs.Recogniser.{State, stuck, role_of, is_stuck, is_whole, start}
 use Rattle.smv_expression_reader.specs.Recogniser as machine
 use Rattle.smv_expression_reader.specs.PredictiveReader.{taken, step, all_empty}
 use Rattle.smv_expression_reader.specs.Places.{is_word}
 use Rattle.smv_expression_reader.specs.Marks.{mark_of}
 use Rattle.smv_expression_reader.specs.Views.{state_with}
 use Rattle.fault_instructions.specs.declared.effects.EffectKind.{EffectKind}
-use Rattle.fault_reader.specs.InstructionGrammar.{Single, Sym, is_single, formula, expr, live, where_so, after_extensions, after_constant, effect_in, arguments, instructions}
+use Rattle.fault_reader.specs.InstructionGrammar.{Sym, is_single, formula, expr, live, where_so, after_extensions, after_constant, effect_in, arguments, instructions}
 use Rattle.fault_reader.specs.InstructionGrammar as s
 use Rattle.fault_reader.specs.InstructionPlaces.{after_slices, after_modes, before_semicolon, before_guard, before_close, before_with, before_start, head_view, mode_view, argument_view, word_view, place_view, head_ends, mode_ends, word_ends, ends_at, Fits, stepped}
 use Rattle.smv_expression_reader.specs.Readings.{Goes}
@@ -24,6 +24,10 @@ use Rattle.fault_reader.specs.declared.place.WordPlace.{WordPlace}
 use Rattle.fault_reader.specs.declared.place.WordPlace.TheVariants as v
 use Rattle.fault_reader.specs.declared.place.InstructionPlace.{InstructionPlace}
 use Rattle.fault_reader.specs.declared.place.InstructionPlace.TheVariants as p
+use Rattle.smv_expression_reader.specs.declared.frames.OpenFrame.{OpenFrame as Frame}
+use Rattle.smv_expression_reader.specs.declared.machine.TokenRole.{TokenRole as Role}
+use Rattle.fault_reader.specs.declared.place.Single.{Single}
+use Rattle.fault_reader.specs.declared.place.Single.TheVariants as the
 
 -- a choice by a test, before other symbols
 taken_where : (b : Bool) (new rest : List Sym) → taken Sym instructions (where_so b new) rest None ≡ where_so b (new ++ rest)
@@ -45,18 +49,18 @@ pub keyword_step : (w : List ℕ) (rest : List Sym) (t : Lexeme) → step Sym in
 keyword_step w rest t = taken_where (is_word t w) [] rest
 
 pub extensions_step : (t : Lexeme) →
-    step Sym instructions (s.extensions ∷ []) t ≡ where_so (is_word t (codes "EXTENSION")) (s.keyword (codes "OF") ∷ s.keyword (codes "MODULE") ∷ s.single s.the_name ∷ after_slices)
-extensions_step t = taken_where (is_word t (codes "EXTENSION")) (s.keyword (codes "OF") ∷ s.keyword (codes "MODULE") ∷ s.single s.the_name ∷ s.slices ∷ s.extensions ∷ []) []
+    step Sym instructions (s.extensions ∷ []) t ≡ where_so (is_word t (codes "EXTENSION")) (s.keyword (codes "OF") ∷ s.keyword (codes "MODULE") ∷ s.single the.Name ∷ after_slices)
+extensions_step t = taken_where (is_word t (codes "EXTENSION")) (s.keyword (codes "OF") ∷ s.keyword (codes "MODULE") ∷ s.single the.Name ∷ s.slices ∷ s.extensions ∷ []) []
 
 pub a_slice_step : (t : Lexeme) → is_word t (codes "SLICE") ≡ true →
-    step Sym instructions after_slices t ≡ Some (s.single s.the_name ∷ s.keyword (codes "AFFECTS") ∷ s.single s.the_name ∷ s.slice_start ∷ s.keyword (codes "WITH") ∷ s.mode ∷ after_modes)
+    step Sym instructions after_slices t ≡ Some (s.single the.Name ∷ s.keyword (codes "AFFECTS") ∷ s.single the.Name ∷ s.slice_start ∷ s.keyword (codes "WITH") ∷ s.mode ∷ after_modes)
 a_slice_step t h =
-    taken_true (is_word t (codes "SLICE")) (s.single s.the_name ∷ s.keyword (codes "AFFECTS") ∷ s.single s.the_name ∷ s.slice_start ∷ s.keyword (codes "WITH") ∷ s.mode ∷ s.modes ∷ s.slices ∷ []) (s.extensions ∷ [])
+    taken_true (is_word t (codes "SLICE")) (s.single the.Name ∷ s.keyword (codes "AFFECTS") ∷ s.single the.Name ∷ s.slice_start ∷ s.keyword (codes "WITH") ∷ s.mode ∷ s.modes ∷ s.slices ∷ []) (s.extensions ∷ [])
     (step Sym instructions (s.extensions ∷ []) t) h
 
 pub no_slice_step : (t : Lexeme) → is_word t (codes "SLICE") ≡ false → step Sym instructions after_slices t ≡ step Sym instructions (s.extensions ∷ []) t
 no_slice_step t h =
-    taken_false (is_word t (codes "SLICE")) (s.single s.the_name ∷ s.keyword (codes "AFFECTS") ∷ s.single s.the_name ∷ s.slice_start ∷ s.keyword (codes "WITH") ∷ s.mode ∷ s.modes ∷ s.slices ∷ []) (s.extensions ∷ [])
+    taken_false (is_word t (codes "SLICE")) (s.single the.Name ∷ s.keyword (codes "AFFECTS") ∷ s.single the.Name ∷ s.slice_start ∷ s.keyword (codes "WITH") ∷ s.mode ∷ s.modes ∷ s.slices ∷ []) (s.extensions ∷ [])
     (step Sym instructions (s.extensions ∷ []) t) h
 
 pub a_start_step : (t : Lexeme) → is_word t (codes "INITIALLY") ≡ true → step Sym instructions before_start t ≡ Some (s.keyword (codes "ANY") ∷ before_with)
@@ -79,13 +83,13 @@ taken_if true x o rest = refl
 taken_if false x o rest = refl
 
 pub file_step : (t : Lexeme) →
-    step Sym instructions (s.file ∷ []) t ≡ (if is_word t (codes "FAULT") then Some (s.keyword (codes "EXTENSION") ∷ s.single s.the_name ∷ s.extensions ∷ []) else step Sym instructions (s.extensions ∷ []) t)
-file_step t = taken_if (is_word t (codes "FAULT")) (Some (s.keyword (codes "EXTENSION") ∷ s.single s.the_name ∷ s.extensions ∷ [])) (after_extensions t) []
+    step Sym instructions (s.file ∷ []) t ≡ (if is_word t (codes "FAULT") then Some (s.keyword (codes "EXTENSION") ∷ s.single the.Name ∷ s.extensions ∷ []) else step Sym instructions (s.extensions ∷ []) t)
+file_step t = taken_if (is_word t (codes "FAULT")) (Some (s.keyword (codes "EXTENSION") ∷ s.single the.Name ∷ s.extensions ∷ [])) (after_extensions t) []
 
 pub mode_rest_step : (rest : List Sym) (t : Lexeme) →
     step Sym instructions (s.mode_rest ∷ rest) t ≡
-    where_so (is_single s.the_name (mark_of t)) (s.mark ∷ s.single s.the_colon ∷ s.dynamics ∷ s.effect ∷ s.guard ∷ s.single s.the_semicolon ∷ rest)
-mode_rest_step rest t = taken_where (is_single s.the_name (mark_of t)) (s.mark ∷ s.single s.the_colon ∷ s.dynamics ∷ s.effect ∷ s.guard ∷ s.single s.the_semicolon ∷ []) rest
+    where_so (is_single the.Name (mark_of t)) (s.mark ∷ s.single the.Colon ∷ s.dynamics ∷ s.effect ∷ s.guard ∷ s.single the.Semicolon ∷ rest)
+mode_rest_step rest t = taken_where (is_single the.Name (mark_of t)) (s.mark ∷ s.single the.Colon ∷ s.dynamics ∷ s.effect ∷ s.guard ∷ s.single the.Semicolon ∷ []) rest
 
 pub dynamics_step : (rest : List Sym) (t : Lexeme) → step Sym instructions (s.dynamics ∷ rest) t ≡ where_so (is_word t (codes "Permanent") || is_word t (codes "Transient")) rest
 dynamics_step rest t = taken_where (is_word t (codes "Permanent") || is_word t (codes "Transient")) [] rest

@@ -7,33 +7,37 @@ use Rattle.smv_expression_reader.specs.Recogniser.{State, stuck, is_whole}
 use Rattle.smv_expression_reader.specs.Recogniser as machine
 use Rattle.smv_expression_reader.specs.Places.{is_word}
 use Rattle.smv_expression_reader.specs.PredictiveReader.{Means}
-use Rattle.smv_expression_reader.specs.Marks.{Mark, a_name, a_number, s_open, s_close, s_comma, s_semicolon, s_colon, mark_of}
+use Rattle.smv_expression_reader.specs.Marks.{mark_of}
 use Rattle.smv_expression_reader.proofs.Meanings.{Leads}
 use Rattle.smv_expression_reader.proofs.Accepted.{run_stuck}
 use Rattle.smv_expression_reader.proofs.Marks.{Marked, marked, mark_of_name, word_there}
-use Rattle.fault_reader.specs.InstructionGrammar.{Single, the_name, the_number, the_open, the_close, the_comma, the_colon, the_semicolon, Sym, is_single, spelled, live, where_so, instructions}
+use Rattle.fault_reader.specs.InstructionGrammar.{Sym, is_single, spelled, live, where_so, instructions}
 use Rattle.fault_reader.specs.InstructionGrammar as s
 use Rattle.smv_language.proofs.ValueLaws.{same_text_refl as same_as_it}
+use Rattle.smv_expression_reader.specs.declared.mark.Mark.{Mark}
+use Rattle.smv_expression_reader.specs.declared.mark.Mark.TheVariants as marks
+use Rattle.fault_reader.specs.declared.place.Single.{Single}
+use Rattle.fault_reader.specs.declared.place.Single.TheVariants as the
 
 -- single lexemes
 unfoldable pub That : Single → Lexeme → Type 0
-That the_name t = (x : List ℕ) × (t ≡ word x) × (is_reserved x ≡ false)
-That the_number t = (n : ℕ) × (d : List ℕ) × (t ≡ num n d)
-That the_open t = t ≡ sign k.Open
-That the_close t = t ≡ sign k.Close
-That the_comma t = t ≡ sign k.Comma
-That the_colon t = t ≡ sign k.Colon
-That the_semicolon t = t ≡ sign k.Semicolon
+That the.Name t = (x : List ℕ) × (t ≡ word x) × (is_reserved x ≡ false)
+That the.Number t = (n : ℕ) × (d : List ℕ) × (t ≡ num n d)
+That the.Open t = t ≡ sign k.Open
+That the.Close t = t ≡ sign k.Close
+That the.Comma t = t ≡ sign k.Comma
+That the.Colon t = t ≡ sign k.Colon
+That the.Semicolon t = t ≡ sign k.Semicolon
 
 that_marked : (w : Single) (c : Mark) (t : Lexeme) → Marked c t → is_single w c ≡ true → That w t
 unfolding Marked That
-that_marked the_name a_name t m h = m
-that_marked the_number a_number t m h = m
-that_marked the_open s_open t m h = m
-that_marked the_close s_close t m h = m
-that_marked the_comma s_comma t m h = m
-that_marked the_colon s_colon t m h = m
-that_marked the_semicolon s_semicolon t m h = m
+that_marked the.Name marks.Name t m h = m
+that_marked the.Number marks.Number t m h = m
+that_marked the.Open marks.Open t m h = m
+that_marked the.Close marks.Close t m h = m
+that_marked the.Comma marks.Comma t m h = m
+that_marked the.Colon marks.Colon t m h = m
+that_marked the.Semicolon marks.Semicolon t m h = m
 that_marked w c t m h = cc
 
 pub that : (w : Single) (t : Lexeme) → is_single w (mark_of t) ≡ true → That w t
@@ -41,13 +45,13 @@ that w t h = that_marked w (mark_of t) t (marked t) h
 
 pub is_that : (w : Single) (t : Lexeme) → That w t → is_single w (mark_of t) ≡ true
 unfolding That
-is_that the_name t m = ap (λ z. is_single the_name (mark_of z)) m.1 ∙ ap (is_single the_name) (mark_of_name m.0 m.2)
-is_that the_number t m = ap (λ z. is_single the_number (mark_of z)) m.2
-is_that the_open t m = ap (λ z. is_single the_open (mark_of z)) m
-is_that the_close t m = ap (λ z. is_single the_close (mark_of z)) m
-is_that the_comma t m = ap (λ z. is_single the_comma (mark_of z)) m
-is_that the_colon t m = ap (λ z. is_single the_colon (mark_of z)) m
-is_that the_semicolon t m = ap (λ z. is_single the_semicolon (mark_of z)) m
+is_that the.Name t m = ap (λ z. is_single the.Name (mark_of z)) m.1 ∙ ap (is_single the.Name) (mark_of_name m.0 m.2)
+is_that the.Number t m = ap (λ z. is_single the.Number (mark_of z)) m.2
+is_that the.Open t m = ap (λ z. is_single the.Open (mark_of z)) m
+is_that the.Close t m = ap (λ z. is_single the.Close (mark_of z)) m
+is_that the.Comma t m = ap (λ z. is_single the.Comma (mark_of z)) m
+is_that the.Colon t m = ap (λ z. is_single the.Colon (mark_of z)) m
+is_that the.Semicolon t m = ap (λ z. is_single the.Semicolon (mark_of z)) m
 
 pub is_the_word : (w : List ℕ) → is_word (word w) w ≡ true
 is_the_word w = same_as_it w

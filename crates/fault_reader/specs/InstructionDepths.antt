@@ -2,8 +2,7 @@
 use Rattle.std.specs.Prelude.{ℕ, List, [], ◌∷◌, ◌++◌, Option}
 use Rattle.smv_lexer.specs.declared.token.Token.{Token}
 use Rattle.smv_lexer.specs.Tokens.{HasTokens}
-use Rattle.smv_language.specs.ProgramTree.{Formula}
-use Rattle.smv_language.specs.Lexemes.{Lexeme, lexemes_of}
+use Rattle.smv_language.specs.Language.{Formula, Lexeme, lexemes_of}
 use Rattle.fault_instructions.specs.Instructions.{EffectTree, ModeTree, SliceTree, ExtensionTree, InstructionTree}
 use Rattle.fault_instructions.specs.SpellsInstructions.{SpellsArguments, no_argument, a_constant, an_expression, a_number}
 use Rattle.fault_instructions.specs.SpellsInstructions.{two_numbers, SpellsEffect, an_effect}

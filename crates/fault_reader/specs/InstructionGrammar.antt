@@ -2,11 +2,7 @@
 use Rattle.std.specs.Prelude.{◌≡◌, refl, ℤ, Bool, true, false, List, [], ◌∷◌, Option, Some, None, ◌||◌, codes, if◌then◌else◌}
 use Rattle.std.specs.Option.{option_map}
 use Rattle.smv_lexer.specs.declared.token.TokenKind.TheVariants as k
-use Rattle.smv_language.specs.ProgramTree.{Text, Formula}
-use Rattle.smv_language.specs.Values.{Value}
-use Rattle.smv_language.specs.Lexemes.{Lexeme, word, num, sign}
-use Rattle.smv_language.specs.Spells.{SpellsInt}
-use Rattle.smv_language.specs.SpellsProgram.{SpellsMany}
+use Rattle.smv_language.specs.Language.{Text, Formula, Value, Lexeme, word, num, sign, SpellsInt, SpellsMany}
 use Rattle.fault_instructions.specs.declared.instructions.Dynamics.{Dynamics}
 use Rattle.fault_instructions.specs.declared.instructions.Start.{Start}
 use Rattle.fault_instructions.specs.declared.effects.EffectKind.{EffectKind}
@@ -20,28 +16,21 @@ use Rattle.smv_expression_reader.specs.Recogniser as machine
 use Rattle.smv_expression_reader.specs.Complete.{completion}
 use Rattle.smv_expression_reader.specs.Places.{is_word}
 use Rattle.smv_expression_reader.specs.PredictiveReader.{Grammar}
-use Rattle.smv_expression_reader.specs.Marks.{Mark, a_name, a_number, s_open, s_close, s_open_brace, s_close_brace, s_comma, s_semicolon}
-use Rattle.smv_expression_reader.specs.Marks.{s_colon, s_minus, mark_of}
-
--- the lexemes that stand alone between others
-pub data Single : Type 0 where
-  the_name : Single
-  the_number : Single
-  the_open : Single
-  the_close : Single
-  the_comma : Single
-  the_colon : Single
-  the_semicolon : Single
+use Rattle.smv_expression_reader.specs.Marks.{mark_of}
+use Rattle.smv_expression_reader.specs.declared.mark.Mark.{Mark}
+use Rattle.smv_expression_reader.specs.declared.mark.Mark.TheVariants as marks
+use Rattle.fault_reader.specs.declared.place.Single.{Single}
+use Rattle.fault_reader.specs.declared.place.Single.TheVariants as the
 
 -- the mark is that of the lexeme
 abbrev pub is_single : Single → Mark → Bool
-is_single the_name a_name = true
-is_single the_number a_number = true
-is_single the_open s_open = true
-is_single the_close s_close = true
-is_single the_comma s_comma = true
-is_single the_colon s_colon = true
-is_single the_semicolon s_semicolon = true
+is_single the.Name marks.Name = true
+is_single the.Number marks.Number = true
+is_single the.Open marks.Open = true
+is_single the.Close marks.Close = true
+is_single the.Comma marks.Comma = true
+is_single the.Colon marks.Colon = true
+is_single the.Semicolon marks.Semicolon = true
 is_single _ _ = false
 
 -- the parts of a file that may still be expected
@@ -129,28 +118,28 @@ where_so false s = None
 
 -- what is still expected of extensions after a lexeme
 abbrev pub after_extensions : Lexeme → Option (List Sym)
-after_extensions t = where_so (is_word t (codes "EXTENSION")) (keyword (codes "OF") ∷ keyword (codes "MODULE") ∷ single the_name ∷ slices
+after_extensions t = where_so (is_word t (codes "EXTENSION")) (keyword (codes "OF") ∷ keyword (codes "MODULE") ∷ single the.Name ∷ slices
     ∷ extensions ∷ [])
 
 -- the same of a mark
 abbrev pub after_mark : Mark → Option (List Sym)
-after_mark s_open_brace = Some (in_mark ∷ [])
+after_mark marks.OpenBrace = Some (in_mark ∷ [])
 after_mark _ = None
 
 -- the same inside a mark, which its closing brace alone ends
 abbrev pub after_in_mark : Mark → Option (List Sym)
-after_in_mark s_close_brace = Some []
+after_in_mark marks.CloseBrace = Some []
 after_in_mark _ = Some (in_mark ∷ [])
 
 -- the same of a number with its sign
 abbrev pub after_int : Mark → Option (List Sym)
-after_int a_number = Some []
-after_int s_minus = Some (single the_number ∷ [])
+after_int marks.Number = Some []
+after_int marks.Minus = Some (single the.Number ∷ [])
 after_int _ = None
 
 -- the same of a constant that is no truth value
 abbrev pub after_constant : Mark → Option (List Sym)
-after_constant a_name = Some []
+after_constant marks.Name = Some []
 after_constant c = after_int c
 
 -- the effect whose word the lexeme is
@@ -160,10 +149,10 @@ effect_in t = first_kind (λ w. is_word t w) effect_kinds
 -- the arguments of an effect in parentheses, where it has some
 abbrev pub arguments : EffectKind → List Sym
 arguments (kind.Plain of) = []
-arguments (kind.OfConstant of) = single the_open ∷ constant ∷ single the_close ∷ []
-arguments (kind.OfExpression of) = single the_open ∷ expr ∷ single the_close ∷ []
-arguments (kind.OfNumber of) = single the_open ∷ int ∷ single the_close ∷ []
-arguments (kind.OfNumbers of) = single the_open ∷ int ∷ single the_comma ∷ int ∷ single the_close ∷ []
+arguments (kind.OfConstant of) = single the.Open ∷ constant ∷ single the.Close ∷ []
+arguments (kind.OfExpression of) = single the.Open ∷ expr ∷ single the.Close ∷ []
+arguments (kind.OfNumber of) = single the.Open ∷ int ∷ single the.Close ∷ []
+arguments (kind.OfNumbers of) = single the.Open ∷ int ∷ single the.Comma ∷ int ∷ single the.Close ∷ []
 
 -- the same of an effect
 abbrev pub after_effect : Lexeme → Option (List Sym)
@@ -174,16 +163,16 @@ abbrev pub next : Sym → Lexeme → Option (List Sym)
 next (single w) t = where_so (is_single w (mark_of t)) []
 next (keyword w) t = where_so (is_word t w) []
 next (formula st h) t = live (machine.step st (role_of t)) []
-next file t = if is_word t (codes "FAULT") then Some (keyword (codes "EXTENSION") ∷ single the_name ∷ extensions
+next file t = if is_word t (codes "FAULT") then Some (keyword (codes "EXTENSION") ∷ single the.Name ∷ extensions
     ∷ []) else after_extensions t
 next extensions t = after_extensions t
 next slices t =
-    where_so (is_word t (codes "SLICE")) (single the_name ∷ keyword (codes "AFFECTS") ∷ single the_name ∷ slice_start
+    where_so (is_word t (codes "SLICE")) (single the.Name ∷ keyword (codes "AFFECTS") ∷ single the.Name ∷ slice_start
     ∷ keyword (codes "WITH") ∷ mode ∷ modes ∷ slices ∷ [])
 next slice_start t = where_so (is_word t (codes "INITIALLY")) (keyword (codes "ANY") ∷ [])
 next mode t = where_so (is_word t (codes "MODE")) (mode_rest ∷ [])
 next modes t = where_so (is_word t (codes "MODE")) (mode_rest ∷ modes ∷ [])
-next mode_rest t = where_so (is_single the_name (mark_of t)) (mark ∷ single the_colon ∷ dynamics ∷ effect ∷ guard ∷ single the_semicolon
+next mode_rest t = where_so (is_single the.Name (mark_of t)) (mark ∷ single the.Colon ∷ dynamics ∷ effect ∷ guard ∷ single the.Semicolon
     ∷ [])
 next mark t = after_mark (mark_of t)
 next in_mark t = after_in_mark (mark_of t)
@@ -195,25 +184,25 @@ next guard t = where_so (is_word t (codes "WHEN")) (expr ∷ [])
 
 -- whether the lexeme may follow the part
 abbrev pub follow : Sym → Lexeme → Bool
-follow (formula st h) t = is_single the_semicolon (mark_of t) || is_single the_close (mark_of t)
+follow (formula st h) t = is_single the.Semicolon (mark_of t) || is_single the.Close (mark_of t)
 follow file t = false
 follow extensions t = false
 follow slices t = is_word t (codes "EXTENSION")
 follow slice_start t = is_word t (codes "WITH")
 follow modes t = is_word t (codes "SLICE") || is_word t (codes "EXTENSION")
-follow mark t = is_single the_colon (mark_of t)
-follow guard t = is_single the_semicolon (mark_of t)
+follow mark t = is_single the.Colon (mark_of t)
+follow guard t = is_single the.Semicolon (mark_of t)
 follow _ t = true
 
 -- a lexeme of this kind
 abbrev pub shortest_single : Single → Lexeme
-shortest_single the_name = word (codes "x")
-shortest_single the_number = num 0 []
-shortest_single the_open = sign k.Open
-shortest_single the_close = sign k.Close
-shortest_single the_comma = sign k.Comma
-shortest_single the_colon = sign k.Colon
-shortest_single the_semicolon = sign k.Semicolon
+shortest_single the.Name = word (codes "x")
+shortest_single the.Number = num 0 []
+shortest_single the.Open = sign k.Open
+shortest_single the.Close = sign k.Close
+shortest_single the.Comma = sign k.Comma
+shortest_single the.Colon = sign k.Colon
+shortest_single the.Semicolon = sign k.Semicolon
 
 -- a mode after its first word
 abbrev pub shortest_mode : List Lexeme

@@ -1,8 +1,7 @@
 -- What the second pass reads of instructions, part by part, and what it leaves.
 use Rattle.std.specs.Prelude.{Bool, true, false, not, List, Option, Some, None, codes, length, if◌then◌else◌}
-use Rattle.smv_language.specs.ProgramTree.{Text, Formula}
-use Rattle.smv_language.specs.Values.{Value, truth, number, symbol}
-use Rattle.smv_language.specs.Lexemes.{Lexeme}
+use Rattle.smv_language.specs.Language.{Text, Formula, Value, symbol, Lexeme}
+use Rattle.smv_language.specs.Values.{truth, number}
 use Rattle.fault_instructions.specs.declared.instructions.Dynamics.{Dynamics}
 use Rattle.fault_instructions.specs.declared.instructions.Dynamics.TheVariants.{Permanent, Transient}
 use Rattle.fault_instructions.specs.declared.instructions.Start.{Start}
@@ -16,40 +15,40 @@ use Rattle.fault_instructions.specs.declared.effects.EffectKind.TheVariants as k
 use Rattle.fault_instructions.specs.Effects.{effect_kinds, first_kind}
 use Rattle.fault_instructions.specs.Instructions.{EffectTree, plain, of_constant, of_expression, of_number, of_numbers}
 use Rattle.fault_instructions.specs.Instructions.{ModeTree, SliceTree, ExtensionTree, InstructionTree}
-use Rattle.smv_expression_reader.specs.Marks.{a_name, s_open, s_close, s_open_brace, s_close_brace, s_comma, s_semicolon, s_colon}
 use Rattle.smv_expression_reader.specs.SecondPass.{Read, got, none, and_then}
 use Rattle.smv_expression_reader.specs.SecondPass.{rest_of, has_next, expect_at, name_at, expr_at, each_at, some_at}
 use Rattle.smv_expression_reader.specs.SecondPass.{int_at, has_word, word_at, text_at, end_at}
+use Rattle.smv_expression_reader.specs.declared.mark.Mark.TheVariants as marks
 
 -- a truth value, a symbol or a number
 abbrev pub const_at : List Lexeme → Read Value
 const_at ts =
     if has_word (codes "TRUE") ts then got (truth true) (rest_of ts) else
     (if has_word (codes "FALSE") ts then got (truth false) (rest_of ts) else
-    (if has_next a_name ts then and_then (name_at ts) (λ x r. got (symbol x) r) else and_then (int_at ts) (λ n r. got (number n) r)))
+    (if has_next marks.Name ts then and_then (name_at ts) (λ x r. got (symbol x) r) else and_then (int_at ts) (λ n r. got (number n) r)))
 
 -- a constant in parentheses
 abbrev pub constant_from : ConstantEffect → List Lexeme → Read EffectTree
-constant_from of ts = and_then (expect_at s_open ts)
-    (λ _ r. and_then (const_at r) (λ c s. and_then (expect_at s_close s) (λ _ q. got (of_constant of c) q)))
+constant_from of ts = and_then (expect_at marks.Open ts)
+    (λ _ r. and_then (const_at r) (λ c s. and_then (expect_at marks.Close s) (λ _ q. got (of_constant of c) q)))
 
 -- an expression in parentheses
 abbrev pub expression_from : ExpressionEffect → List Lexeme → Read EffectTree
-expression_from of ts = and_then (expect_at s_open ts)
-    (λ _ r. and_then (expr_at r) (λ e s. and_then (expect_at s_close s) (λ _ q. got (of_expression of e) q)))
+expression_from of ts = and_then (expect_at marks.Open ts)
+    (λ _ r. and_then (expr_at r) (λ e s. and_then (expect_at marks.Close s) (λ _ q. got (of_expression of e) q)))
 
 -- a number in parentheses
 abbrev pub number_from : NumberEffect → List Lexeme → Read EffectTree
-number_from of ts = and_then (expect_at s_open ts)
-    (λ _ r. and_then (int_at r) (λ d s. and_then (expect_at s_close s) (λ _ q. got (of_number of d) q)))
+number_from of ts = and_then (expect_at marks.Open ts)
+    (λ _ r. and_then (int_at r) (λ d s. and_then (expect_at marks.Close s) (λ _ q. got (of_number of d) q)))
 
 -- two numbers in parentheses
 abbrev pub numbers_from : NumbersEffect → List Lexeme → Read EffectTree
 numbers_from of ts =
-    and_then (expect_at s_open ts)
+    and_then (expect_at marks.Open ts)
     (λ _ r. and_then (int_at r)
-    (λ d s. and_then (expect_at s_comma s)
-    (λ _ q. and_then (int_at q) (λ f y. and_then (expect_at s_close y) (λ _ z. got (of_numbers of d f) z)))))
+    (λ d s. and_then (expect_at marks.Comma s)
+    (λ _ q. and_then (int_at q) (λ f y. and_then (expect_at marks.Close y) (λ _ z. got (of_numbers of d f) z)))))
 
 -- what stands behind the word of an effect
 abbrev pub arguments_at : EffectKind → List Lexeme → Read EffectTree
@@ -83,7 +82,7 @@ guard_at ts = if has_word (codes "WHEN") ts then and_then (expr_at (rest_of ts))
 
 -- whether a mark goes on
 abbrev pub in_braces : List Lexeme → Bool
-in_braces ts = not (has_next s_close_brace ts)
+in_braces ts = not (has_next marks.CloseBrace ts)
 
 -- the texts of a mark's tokens
 abbrev pub texts_at : List Lexeme → Read (List Text)
@@ -91,8 +90,8 @@ texts_at ts = each_at in_braces text_at (length ts) ts
 
 -- a mark in braces, or none
 abbrev pub marked_at : List Lexeme → Read (Option (List Text))
-marked_at ts = if has_next s_open_brace ts then and_then (texts_at (rest_of ts))
-    (λ xs r. and_then (expect_at s_close_brace r) (λ _ s. got (Some xs) s)) else got None ts
+marked_at ts = if has_next marks.OpenBrace ts then and_then (texts_at (rest_of ts))
+    (λ xs r. and_then (expect_at marks.CloseBrace r) (λ _ s. got (Some xs) s)) else got None ts
 
 -- what stands before the effect of a mode
 pub record HeadTree : Type 0 where
@@ -110,7 +109,7 @@ head_at ts =
     and_then (word_at (codes "MODE") ts)
     (λ _ r. and_then (name_at r)
     (λ x s. and_then (marked_at s)
-    (λ m q. and_then (expect_at s_colon q) (λ _ y. and_then (dynamics_at y) (λ d z. got (head_tree x m d) z)))))
+    (λ m q. and_then (expect_at marks.Colon q) (λ _ y. and_then (dynamics_at y) (λ d z. got (head_tree x m d) z)))))
 
 -- the mode of a head, an effect and a guard
 abbrev pub mode_with : HeadTree → EffectTree → Option Formula → ModeTree
@@ -120,7 +119,7 @@ mode_with h e g = record { name = h.name; mark = h.mark; dynamics = h.dynamics; 
 abbrev pub mode_at : List Lexeme → Read ModeTree
 mode_at ts = and_then (head_at ts)
     (λ h r. and_then (effect_at r)
-    (λ e s. and_then (guard_at s) (λ g q. and_then (expect_at s_semicolon q) (λ _ z. got (mode_with h e g) z))))
+    (λ e s. and_then (guard_at s) (λ g q. and_then (expect_at marks.Semicolon q) (λ _ z. got (mode_with h e g) z))))
 
 -- one mode or more
 abbrev pub modes_at : List Lexeme → Read (List ModeTree)

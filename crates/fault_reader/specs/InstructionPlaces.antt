@@ -5,11 +5,9 @@ use Rattle.fault_instructions.specs.Instructions.{InstructionTree}
 use Rattle.fault_instructions.specs.SpellsInstructions.{SpellsInstructions}
 use Rattle.smv_expression_reader.specs.declared.reading.ReadExtent.{ReadExtent}
 use Rattle.smv_expression_reader.specs.declared.machine.Mode.{Mode}
-use Rattle.smv_expression_reader.specs.Recogniser.{Frame, is_stuck}
+use Rattle.smv_expression_reader.specs.Recogniser.{is_stuck}
 use Rattle.smv_expression_reader.specs.Views.{state_with}
 use Rattle.smv_expression_reader.specs.Readings.{stepped as grammar_stepped, expected_after as grammar_expected, ReadsTo}
-use Rattle.fault_reader.specs.declared.place.Single as c
-use Rattle.fault_reader.specs.declared.place.Single.TheVariants as w
 use Rattle.fault_reader.specs.declared.place.HeadPlace.{HeadPlace}
 use Rattle.fault_reader.specs.declared.place.HeadPlace.TheVariants as h
 use Rattle.fault_reader.specs.declared.place.ModePlace.{ModePlace}
@@ -20,9 +18,12 @@ use Rattle.fault_reader.specs.declared.place.WordPlace.{WordPlace}
 use Rattle.fault_reader.specs.declared.place.WordPlace.TheVariants as v
 use Rattle.fault_reader.specs.declared.place.InstructionPlace.{InstructionPlace}
 use Rattle.fault_reader.specs.declared.place.InstructionPlace.TheVariants as p
-use Rattle.fault_reader.specs.InstructionGrammar.{Single, Sym, single, keyword, the_name, the_number, the_open, the_close, the_comma}
-use Rattle.fault_reader.specs.InstructionGrammar.{the_colon, the_semicolon, file, extensions, slices, slice_start, mode, modes, mode_rest}
+use Rattle.fault_reader.specs.InstructionGrammar.{Sym, single, keyword}
+use Rattle.fault_reader.specs.InstructionGrammar.{file, extensions, slices, slice_start, mode, modes, mode_rest}
 use Rattle.fault_reader.specs.InstructionGrammar.{mark, in_mark, dynamics, effect, constant, int, guard, expr, live, instructions}
+use Rattle.smv_expression_reader.specs.declared.frames.OpenFrame.{OpenFrame as Frame}
+use Rattle.fault_reader.specs.declared.place.Single.{Single}
+use Rattle.fault_reader.specs.declared.place.Single.TheVariants as the
 
 -- the list spells some instructions
 abbrev pub IsInstructions : List Lexeme → Type 0
@@ -38,7 +39,7 @@ after_modes = modes ∷ after_slices
 
 -- what may stand behind a guard
 abbrev pub before_semicolon : List Sym
-before_semicolon = single the_semicolon ∷ after_modes
+before_semicolon = single the.Semicolon ∷ after_modes
 
 -- what may stand behind an effect
 abbrev pub before_guard : List Sym
@@ -46,11 +47,11 @@ before_guard = guard ∷ before_semicolon
 
 -- what may stand behind the last argument of an effect
 abbrev pub before_close : List Sym
-before_close = single the_close ∷ before_guard
+before_close = single the.Close ∷ before_guard
 
 -- what stands behind the mark of a mode
 abbrev pub before_colon : List Sym
-before_colon = single the_colon ∷ dynamics ∷ effect ∷ before_guard
+before_colon = single the.Colon ∷ dynamics ∷ effect ∷ before_guard
 
 -- what stands behind the head of a slice
 abbrev pub before_modes : List Sym
@@ -64,29 +65,19 @@ before_with = keyword (codes "WITH") ∷ before_modes
 abbrev pub before_start : List Sym
 before_start = slice_start ∷ before_with
 
--- each single token of the code, by its name in the grammar
-abbrev pub single_view : c.Single → Single
-single_view w.Name = the_name
-single_view w.Number = the_number
-single_view w.Open = the_open
-single_view w.Close = the_close
-single_view w.Comma = the_comma
-single_view w.Colon = the_colon
-single_view w.Semicolon = the_semicolon
-
 -- what is expected in a file outside modes
 abbrev pub head_view : HeadPlace → List Sym
 head_view h.File = file ∷ []
-head_view h.FileExtension = keyword (codes "EXTENSION") ∷ single the_name ∷ extensions ∷ []
-head_view h.FileName = single the_name ∷ extensions ∷ []
+head_view h.FileExtension = keyword (codes "EXTENSION") ∷ single the.Name ∷ extensions ∷ []
+head_view h.FileName = single the.Name ∷ extensions ∷ []
 head_view h.Extensions = extensions ∷ []
-head_view h.Of = keyword (codes "OF") ∷ keyword (codes "MODULE") ∷ single the_name ∷ after_slices
-head_view h.ModuleWord = keyword (codes "MODULE") ∷ single the_name ∷ after_slices
-head_view h.ModuleName = single the_name ∷ after_slices
+head_view h.Of = keyword (codes "OF") ∷ keyword (codes "MODULE") ∷ single the.Name ∷ after_slices
+head_view h.ModuleWord = keyword (codes "MODULE") ∷ single the.Name ∷ after_slices
+head_view h.ModuleName = single the.Name ∷ after_slices
 head_view h.Slices = after_slices
-head_view h.SliceName = single the_name ∷ keyword (codes "AFFECTS") ∷ single the_name ∷ before_start
-head_view h.Affects = keyword (codes "AFFECTS") ∷ single the_name ∷ before_start
-head_view h.Target = single the_name ∷ before_start
+head_view h.SliceName = single the.Name ∷ keyword (codes "AFFECTS") ∷ single the.Name ∷ before_start
+head_view h.Affects = keyword (codes "AFFECTS") ∷ single the.Name ∷ before_start
+head_view h.Target = single the.Name ∷ before_start
 head_view h.Start = before_start
 head_view h.AnyWord = keyword (codes "ANY") ∷ before_with
 head_view h.With = before_with
@@ -105,16 +96,16 @@ mode_view m.Guard = before_guard
 
 -- what is expected in the arguments of an effect
 abbrev pub argument_view : ArgumentPlace → List Sym
-argument_view a.ConstantOpen = single the_open ∷ constant ∷ before_close
-argument_view a.FollowedOpen = single the_open ∷ expr ∷ before_close
-argument_view a.NumberOpen = single the_open ∷ int ∷ before_close
-argument_view a.StepOpen = single the_open ∷ int ∷ single the_comma ∷ int ∷ before_close
+argument_view a.ConstantOpen = single the.Open ∷ constant ∷ before_close
+argument_view a.FollowedOpen = single the.Open ∷ expr ∷ before_close
+argument_view a.NumberOpen = single the.Open ∷ int ∷ before_close
+argument_view a.StepOpen = single the.Open ∷ int ∷ single the.Comma ∷ int ∷ before_close
 argument_view a.Constant = constant ∷ before_close
 argument_view a.Number = int ∷ before_close
-argument_view a.Digits = single the_number ∷ before_close
-argument_view a.Step = int ∷ single the_comma ∷ int ∷ before_close
-argument_view a.StepDigits = single the_number ∷ single the_comma ∷ int ∷ before_close
-argument_view a.Comma = single the_comma ∷ int ∷ before_close
+argument_view a.Digits = single the.Number ∷ before_close
+argument_view a.Step = int ∷ single the.Comma ∷ int ∷ before_close
+argument_view a.StepDigits = single the.Number ∷ single the.Comma ∷ int ∷ before_close
+argument_view a.Comma = single the.Comma ∷ int ∷ before_close
 argument_view a.Close = before_close
 
 -- what is expected where no expression has begun

@@ -4,7 +4,7 @@
 //! that is kept. A word of the grammar is expected only where no name is, and the other way round.
 ghost use Rattle.std.specs.Prelude.{◌≡◌, ◌||◌, ◌&&◌, ◌∷◌, ◌++◌, List, [], Some, None, false, codes, IfOk, IfSome};
 ghost use Rattle.smv_expression_reader.specs.Recogniser as machine;
-ghost use Rattle.smv_expression_reader.specs.Recogniser.{Frame, role_of};
+ghost use Rattle.smv_expression_reader.specs.Recogniser.{role_of};
 ghost use Rattle.smv_expression_reader.specs.Views.{state_with};
 ghost use Rattle.smv_expression_reader.specs.PredictiveReader.{step as grammar_step, taken};
 ghost use Rattle.smv_expression_reader.specs.Marks.{mark_of};
@@ -15,9 +15,10 @@ ghost use Rattle.fault_reader.specs.declared.place.ArgumentPlace.TheVariants as 
 ghost use Rattle.fault_reader.specs.InstructionGrammar.{Sym, where_so, live, arguments, after_constant, instructions as grammar};
 ghost use Rattle.fault_reader.specs.InstructionGrammar.{is_single as is_single_mark};
 ghost use Rattle.fault_reader.specs.InstructionGrammar as g;
-ghost use Rattle.fault_reader.specs.InstructionPlaces.{single_view, head_view, mode_view, argument_view, place_view, word_view, after_word};
+ghost use Rattle.fault_reader.specs.InstructionPlaces.{head_view, mode_view, argument_view, place_view, word_view, after_word};
 ghost use Rattle.fault_instructions.specs.Effects.{first_kind};
 ghost use Rattle.fault_reader.specs.InstructionPlaces.{begun_view, after_view, stepped, before_guard, before_close, before_semicolon, Fits};
+ghost use Rattle.smv_expression_reader.specs.declared.frames.OpenFrame.{OpenFrame as Frame};
 
 use base_values::OutOfMemory;
 use fault_instructions::{EffectKind, effect_kinds};
@@ -124,7 +125,7 @@ pub enum InstructionPlace {
 
 /// Whether the token has the mark that is wanted.
 fn is_single(single: Single, token: &TokenText) -> bool
-    ensures { result ≡ is_single_mark (single_view single) (mark_of token.now) }
+    ensures { result ≡ is_single_mark single (mark_of token.now) }
 {
     match (single, token.mark()) {
         (Single::Name, Mark::Name) => true,

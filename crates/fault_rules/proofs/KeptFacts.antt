@@ -5,10 +5,8 @@ use Rattle.std.specs.List.{list_any}
 use Rattle.std.proofs.lemmas.List.{append_assoc}
 use Rattle.smv_language.specs.declared.program.Member.{Member}
 use Rattle.smv_language.specs.declared.program.Member.TheVariants as member
-use Rattle.smv_language.specs.ProgramTree.{Text, DeclaredTree, boolean, range, members, instance, DeclTree, DefineTree, SectionTree, var, ivar, frozen as frozen_section, define, constants, assign, init, invar, trans, ModuleTree, ProgramTree, IsType}
-use Rattle.smv_language.specs.Texts.{same_text, is_among}
-use Rattle.smv_language.specs.Scope.{Place, Role, state, input, frozen_role, Kind, a_formal, a_variable, a_define, an_instance, undeclared, find_module, kind_in, kind_in_decls, kind_in_defines, kind_in_sections, kind_after_formals, formal_from, kind_declared, kind_at, module_at, module_of_kind}
-use Rattle.smv_language.specs.Trace.{IsInstance, Each, AtSome, in_domain}
+use Rattle.smv_language.specs.Language.{Text, DeclaredTree, boolean, range, members, instance, DeclTree, DefineTree, SectionTree, var, ivar, frozen as frozen_section, define, constants, assign, init, invar, trans, ModuleTree, ProgramTree, IsType, same_text, is_among, Place, Role, state, input, frozen_role, Kind, a_formal, a_variable, an_instance, undeclared, find_module, kind_in, kind_in_decls, kind_in_defines, kind_in_sections, kind_after_formals, formal_from, kind_declared, kind_at, module_at, module_of_kind, IsInstance, Each, AtSome, in_domain, opposite}
+use Rattle.smv_language.specs.Scope.{a_define}
 use Rattle.fault_instructions.specs.Instructions.{EffectTree, ModeTree, SliceTree}
 use Rattle.fault_instructions.specs.AddedNames.{ModeState, own_name, mode_variable, mode_symbol}
 use Rattle.fault_instructions.specs.AllowedEffects.{constant_fault, is_of_kind, demand_fault}
@@ -25,7 +23,6 @@ use Rattle.fault_rules.proofs.ProgramNames.{among_not}
 use Rattle.fault_rules.proofs.KeptItems.{among_left, among_right, among_map, IsKeptSlice, ModeAfter, mode_at}
 use Rattle.std.proofs.lemmas.Bool.{or_parts as or_false}
 use Rattle.smv_language.proofs.ProgramLaws.{found_named}
-use Rattle.smv_language.specs.Values.{opposite}
 use Rattle.fault_instructions.specs.EffectForms.{Demand, no_demand, one_of_its, truth_values, two_values, a_range}
 use Rattle.fault_instructions.specs.Effects.{row, fault_of}
 

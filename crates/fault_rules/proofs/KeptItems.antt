@@ -3,8 +3,7 @@
 use Rattle.std.proofs.Common.{◌≡◌, ◌⊎◌, inl, inr, Bool, true, false, List, [], ◌∷◌, ◌++◌, None, map, refl, sym, ◌∙◌, subst}
 use Rattle.std.specs.Prelude.{if◌then◌else◌, flat_map}
 use Rattle.std.proofs.lemmas.List.{append_assoc, append-nil}
-use Rattle.smv_language.specs.ProgramTree.{Text, ProgramTree}
-use Rattle.smv_language.specs.Texts.{same_text}
+use Rattle.smv_language.specs.Language.{Text, ProgramTree, same_text}
 use Rattle.smv_language.proofs.ValueLaws.{same_text_equal}
 use Rattle.fault_instructions.specs.Instructions.{ModeTree, SliceTree, ExtensionTree, slices_from}
 use Rattle.fault_instructions.specs.Weavable.{Among}

@@ -6,8 +6,7 @@ use Rattle.std.specs.Cmp.Lexicographic.{pointwise}
 use Rattle.std.specs.Map.{lookup}
 use Rattle.std.proofs.lemmas.List.{drop_more}
 use Rattle.indexmap.specs.IndexMap.{insert_entry}
-use Rattle.smv_language.specs.ProgramTree.{Text}
-use Rattle.smv_language.specs.Texts.{same_text, is_among, first_with}
+use Rattle.smv_language.specs.Language.{Text, same_text, is_among, first_with}
 use Rattle.smv_language.proofs.ValueLaws.{both_true, same_text_equal}
 use Rattle.fault_rules.specs.KeyedLists.{with_text, with_texts, with_entry, with_entries, is_pair_among, with_pair, with_pairs}
 use Rattle.smv_language.proofs.BorrowedTexts.{same_bytes}

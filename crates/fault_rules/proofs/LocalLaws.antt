@@ -4,15 +4,13 @@ use Rattle.std.specs.Prelude.{if◌then◌else◌, flat_map, is_some, ◌||◌}
 use Rattle.std.specs.List.{list_any}
 use Rattle.smv_language.specs.declared.program.Member.{Member}
 use Rattle.smv_language.specs.declared.program.Member.TheVariants as member
-use Rattle.smv_language.specs.ProgramTree.{Text, DeclaredTree, boolean, range, members, instance, DeclTree, DefineTree, SectionTree, var, ivar, frozen as frozen_section, define, constants, assign, init, invar, trans, ModuleTree, ProgramTree}
-use Rattle.smv_language.specs.Texts.{same_text, is_among, first_with}
-use Rattle.smv_language.specs.Scope.{Role, state, input, frozen_role, Kind, a_define, find_module, kind_in, kind_in_decls, kind_in_defines, kind_in_sections, kind_after_formals, formal_from, kind_declared, kind_at, is_symbol_of_type, is_symbol_of_members, is_missing}
+use Rattle.smv_language.specs.Language.{Text, DeclaredTree, boolean, range, members, instance, DeclTree, DefineTree, SectionTree, var, ivar, frozen as frozen_section, define, constants, assign, init, invar, trans, ModuleTree, ProgramTree, same_text, is_among, first_with, Role, state, input, frozen_role, Kind, find_module, kind_in, kind_in_decls, kind_in_defines, kind_in_sections, kind_after_formals, formal_from, kind_declared, kind_at, is_symbol_of_type, is_symbol_of_members, is_missing, opposite}
+use Rattle.smv_language.specs.Scope.{a_define}
 use Rattle.fault_rules.specs.Rules.{is_name_of_decls, is_name_of_defines, is_name_of_section, is_name_of_module, is_program_name}
 use Rattle.fault_rules.specs.KeyedLists.{with_texts, with_entries}
 use Rattle.fault_rules.specs.Locals.{LocalTree, formal, other, seen_kind, declared_local, formal_entry, define_entry, section_locals, locals_of, scopes_of, local_in}
 use Rattle.fault_rules.specs.Names.{member_names, type_names, decl_names, define_name, section_names, module_names, program_names}
 use Rattle.fault_rules.proofs.KeyedLaws.{first_entries, among_texts}
-use Rattle.smv_language.specs.Values.{opposite}
 use Rattle.smv_language.proofs.AmongLaws.{among_joined}
 
 module _ (x : Text) (rest : List (Text × LocalTree)) where

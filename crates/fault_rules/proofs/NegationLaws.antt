@@ -7,10 +7,9 @@ use Rattle.std.proofs.lemmas.List.Elements.{All-cons, All-nil, All-head, All-tai
 use Rattle.smv_language.specs.declared.program.Member.{Member}
 use Rattle.smv_language.specs.declared.program.Member.TheVariants as member
 use Rattle.smv_language.specs.declared.program.Module.{Module}
-use Rattle.smv_language.specs.Texts.{same_text}
-use Rattle.smv_language.specs.ProgramTree.{Text, DeclaredTree, boolean, range, members, instance, DeclTree, DefineTree, SectionTree, var, ivar, frozen as frozen_section, define, constants, assign, init, invar, trans, module_tree}
-use Rattle.smv_language.specs.Values.{Value, truth, number, symbol}
-use Rattle.smv_language.specs.Scope.{Role, state, input, frozen_role, Kind, a_define, kind_declared, kind_in_decls, kind_in_defines, kind_in_sections, kind_after_formals, formal_from}
+use Rattle.smv_language.specs.Language.{same_text, Text, DeclaredTree, boolean, range, members, instance, DeclTree, DefineTree, SectionTree, var, ivar, frozen as frozen_section, define, constants, assign, init, invar, trans, module_tree, Value, symbol, Role, state, input, frozen_role, Kind, kind_declared, kind_in_decls, kind_in_defines, kind_in_sections, kind_after_formals, formal_from}
+use Rattle.smv_language.specs.Values.{truth, number}
+use Rattle.smv_language.specs.Scope.{a_define}
 use Rattle.fault_instructions.specs.declared.instructions.ModeRule.{ModeRule}
 use Rattle.fault_instructions.specs.declared.instructions.Slice.{Slice}
 use Rattle.fault_instructions.specs.declared.instructions.Extension.{Extension}

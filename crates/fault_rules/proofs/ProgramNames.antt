@@ -2,9 +2,7 @@
 use Rattle.std.proofs.Common.{◌≡◌, inl, inr, Bool, true, false, List, [], ◌∷◌, refl, ◌∙◌, subst}
 use Rattle.std.specs.Prelude.{◌||◌}
 use Rattle.std.specs.List.{list_any}
-use Rattle.smv_language.specs.ProgramTree.{Text, DeclTree, DefineTree, SectionTree, var, ivar, frozen as frozen_section, define, constants, assign, init, invar, trans, ModuleTree, ProgramTree}
-use Rattle.smv_language.specs.Texts.{same_text, is_among}
-use Rattle.smv_language.specs.Scope.{Role, state, input, frozen_role, Kind, undeclared, kind_in, kind_in_decls, kind_in_defines, kind_in_sections, is_symbol, is_symbol_of_sections, is_symbol_of_decls, is_symbol_of_type}
+use Rattle.smv_language.specs.Language.{Text, DeclTree, DefineTree, SectionTree, var, ivar, frozen as frozen_section, define, constants, assign, init, invar, trans, ModuleTree, ProgramTree, same_text, is_among, Role, state, input, frozen_role, Kind, undeclared, kind_in, kind_in_decls, kind_in_defines, kind_in_sections, is_symbol, is_symbol_of_sections, is_symbol_of_decls, is_symbol_of_type}
 use Rattle.smv_language.proofs.ValueLaws.{same_text_refl}
 use Rattle.fault_instructions.specs.Weavable.{Among}
 use Rattle.fault_rules.specs.Rules.{is_name_of_decls, is_name_of_defines, is_name_of_section, is_name_of_module, is_program_name}

@@ -2,9 +2,8 @@
 use Rattle.std.proofs.Common.{◌≡◌, ℕ, suc, ◌+◌, ◌<◌, Bool, List, [], ◌∷◌, ◌++◌, Option, Some, None, map, length, drop, get_or, refl, sym, ◌∙◌, ap, subst, append_assoc, append-nil, length-append, arith}
 use Rattle.std.specs.Prelude.{◌||◌, ◌&&◌}
 use Rattle.std.specs.List.{list_any}
-use Rattle.smv_language.specs.ProgramTree.{Text, DeclaredTree, ProgramTree}
-use Rattle.smv_language.specs.Texts.{same_text, is_among}
-use Rattle.smv_language.specs.Scope.{Kind, a_formal, a_variable, a_define, an_instance, undeclared, state, input, frozen_role, find_module}
+use Rattle.smv_language.specs.Language.{Text, DeclaredTree, ProgramTree, same_text, is_among, Kind, a_formal, a_variable, an_instance, undeclared, state, input, frozen_role, find_module, opposite}
+use Rattle.smv_language.specs.Scope.{a_define}
 use Rattle.fault_instructions.specs.declared.instructions.ModeRule.{ModeRule}
 use Rattle.fault_instructions.specs.declared.instructions.Slice.{Slice}
 use Rattle.fault_instructions.specs.declared.instructions.Extension.{Extension}
@@ -27,7 +26,6 @@ use Rattle.fault_rules.specs.declared.items.SliceNames.{SliceNames}
 use Rattle.fault_rules.proofs.KeyedLaws.{among_with, among_texts, among_pairs, texts_more, pairs_more, map_push}
 use Rattle.smv_language.proofs.ListLaws.{flat_end, drop_here, map_length}
 use Rattle.smv_language.proofs.BoolLaws.{or_false, or_assoc}
-use Rattle.smv_language.specs.Values.{opposite}
 use Rattle.smv_language.proofs.AmongLaws.{among_joined}
 
 -- items after others

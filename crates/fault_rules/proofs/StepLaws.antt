@@ -9,8 +9,7 @@ use Rattle.std.proofs.lemmas.List.Sums.{position_or_len_is}
 use Rattle.std.proofs.lemmas.Map.Keys.{apart_from_distinct}
 use Rattle.std.specs.Cmp.{IsEquivalence}
 use Rattle.std.proofs.lemmas.Cmp.{and_equiv, on_equiv, nat_eq_equiv}
-use Rattle.smv_language.specs.ProgramTree.{Text}
-use Rattle.smv_language.specs.Texts.{same_text, is_among}
+use Rattle.smv_language.specs.Language.{Text, same_text, is_among}
 use Rattle.smv_language.proofs.ValueLaws.{both_true, same_text_equal, same_text_refl}
 use Rattle.base_values.proofs.BoolLaws.{bool_same}
 use Rattle.base_values.proofs.ListLaws.{all_more}

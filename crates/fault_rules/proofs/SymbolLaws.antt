@@ -1,8 +1,7 @@
 -- That symbols may be asked for after the name of their slice, before those of earlier modes are added.
 use Rattle.std.proofs.Common.{◌≡◌, ℕ, suc, ◌+◌, ◌<◌, length, drop, get_or, arith, Bool, true, false, List, [], ◌∷◌, ◌++◌, Option, Some, None, map, refl, sym, ◌∙◌, ap}
 use Rattle.std.specs.Prelude.{◌||◌, codes}
-use Rattle.smv_language.specs.ProgramTree.{Text, program_tree, declared_tree}
-use Rattle.smv_language.specs.Texts.{same_text, is_among}
+use Rattle.smv_language.specs.Language.{Text, program_tree, declared_tree, same_text, is_among}
 use Rattle.fault_instructions.specs.declared.instructions.ModeRule.{ModeRule}
 use Rattle.fault_instructions.specs.Instructions.{ModeTree, mode_tree}
 use Rattle.smv_language.proofs.ListLaws.{drop_here}

@@ -1,9 +1,6 @@
 -- Where no item breaks a rule, and the rest is judged, a program and instructions are such as a weave takes.
 use Rattle.std.proofs.Common.{◌≡◌, ◌≢◌, ◌⊎◌, inl, inr, Bool, true, false, ◌&&◌, List, [], ◌∷◌, ◌++◌, Some, refl, sym, ◌∙◌, ap, subst}
-use Rattle.smv_language.specs.ProgramTree.{Text, DeclaredTree, ModuleTree, ProgramTree}
-use Rattle.smv_language.specs.Texts.{same_text}
-use Rattle.smv_language.specs.Scope.{Place, state, a_variable, find_module, kind_in, kind_at}
-use Rattle.smv_language.specs.Trace.{IsInstance}
+use Rattle.smv_language.specs.Language.{Text, DeclaredTree, ModuleTree, ProgramTree, same_text, Place, state, a_variable, find_module, kind_in, kind_at, IsInstance, opposite}
 use Rattle.smv_language.proofs.ValueLaws.{same_text_refl}
 use Rattle.fault_instructions.specs.Instructions.{ModeTree, SliceTree, InstructionTree, slices_of}
 use Rattle.fault_instructions.specs.AddedNames.{ModeState, own_name, mode_variable, mode_symbol}
@@ -19,7 +16,6 @@ use Rattle.fault_rules.specs.Prerequisites.{IsJudged, IsJudgedMode}
 use Rattle.fault_rules.proofs.ProgramNames.{any_false, undeclared_there, no_symbol}
 use Rattle.fault_rules.proofs.KeptItems.{among_left, among_right, among_map, among_flat, all_slices, slice_in_file, IsKeptSlice, StandsAfter, kept_at, two_slices, extensions_kept, ModeAfter, mode_at, two_modes}
 use Rattle.fault_rules.proofs.KeptFacts.{SliceKept, slice_facts, ModeKept, mode_facts, IsFree, free, state_among, symbol_kept, not_nominal, state_type, finite_type, free_symbols, effect_allowed, instance_found}
-use Rattle.smv_language.specs.Values.{opposite}
 
 abbrev slice_of : OwnedSlice → SliceTree
 slice_of o = o.slice

@@ -1,8 +1,7 @@
 -- The limits of faults and of modes.
 use Rattle.std.specs.Prelude.{ℕ, suc, ◌+◌, ◌*◌, nat_le, nat_lt, Bool, false, ◌||◌, List, [], ◌∷◌, Option, Some, None, length, if◌then◌else◌}
 use Rattle.base_values.specs.declared.limits.TheConstants.{MOST_FAULTS, MOST_MODES}
-use Rattle.smv_language.specs.ProgramTree.{Text}
-use Rattle.smv_language.specs.Texts.{same_text}
+use Rattle.smv_language.specs.Language.{Text, same_text}
 use Rattle.fault_rules.specs.Sites.{OwnedSlice, Site, an_extension, a_slice, a_mode}
 use Rattle.fault_rules.specs.declared.fault.InstructionRule.{InstructionRule}
 use Rattle.fault_rules.specs.declared.fault.InstructionRule.TheVariants.{TooManyFaults}

@@ -1,8 +1,6 @@
 -- The first broken rule, item by item, and what the items so far have left behind.
 use Rattle.std.specs.Prelude.{◌≡◌, ◌≢◌, ℕ, ◌+◌, Bool, ◌||◌, List, [], ◌∷◌, ◌++◌, Option, Some, None, map, flat_map, length}
-use Rattle.smv_language.specs.ProgramTree.{Text, DeclaredTree, ProgramTree, program_tree, declared_tree}
-use Rattle.smv_language.specs.Scope.{find_module}
-use Rattle.smv_language.specs.Texts.{same_text, is_among}
+use Rattle.smv_language.specs.Language.{Text, DeclaredTree, ProgramTree, program_tree, declared_tree, find_module, same_text, is_among}
 use Rattle.fault_instructions.specs.declared.instructions.Slice.{Slice}
 use Rattle.fault_instructions.specs.Instructions.{ModeTree, SliceTree, ExtensionTree, slice_tree}
 use Rattle.fault_instructions.specs.AddedNames.{own_name, mode_variable, mode_symbol}

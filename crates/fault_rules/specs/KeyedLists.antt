@@ -1,8 +1,7 @@
 -- Texts and entries in the order in which each text was first put.
 use Rattle.std.specs.Prelude.{Bool, List, [], ◌∷◌, ◌++◌, is_some, ◌&&◌, if◌then◌else◌}
 use Rattle.std.specs.List.{list_any}
-use Rattle.smv_language.specs.ProgramTree.{Text}
-use Rattle.smv_language.specs.Texts.{same_text, is_among, first_with}
+use Rattle.smv_language.specs.Language.{Text, same_text, is_among, first_with}
 
 -- texts, and one more where it is not among them
 abbrev pub with_text : List Text → Text → List Text

@@ -1,15 +1,14 @@
 -- What names are in their modules, as far as instructions ask.
 use Rattle.std.specs.Prelude.{List, [], ◌++◌, Option, Some, None, map, flat_map}
-use Rattle.smv_language.specs.ProgramTree.{Text, DeclaredTree, boolean, range, members, instance, DeclTree, DefineTree, SectionTree, var}
-use Rattle.smv_language.specs.ProgramTree.{ivar, frozen, define, constants, assign, init, invar, trans, ModuleTree, ProgramTree}
-use Rattle.smv_language.specs.ProgramTree.{declared_tree}
-use Rattle.smv_language.specs.Scope.{state, input, frozen_role, Kind, a_formal, a_variable, a_define, an_instance, undeclared}
+use Rattle.smv_language.specs.Language.{Text, DeclaredTree, boolean, range, members, instance, DeclTree, DefineTree, SectionTree, var, ivar}
+use Rattle.smv_language.specs.Language.{frozen, define, constants, assign, init, invar, trans, ModuleTree, ProgramTree, declared_tree}
+use Rattle.smv_language.specs.Language.{state, input, frozen_role, Kind, a_formal, a_variable, an_instance, undeclared, first_with}
+use Rattle.smv_language.specs.Scope.{a_define}
 use Rattle.fault_rules.specs.KeyedLists.{with_entries}
 use Rattle.fault_rules.specs.declared.modules.LocalName.{LocalName}
 use Rattle.fault_rules.specs.declared.modules.LocalName.TheVariants as local
 use Rattle.fault_rules.specs.declared.modules.ModuleScope.{ModuleScope}
 use Rattle.fault_rules.specs.declared.modules.KnownProgram.{KnownProgram}
-use Rattle.smv_language.specs.Texts.{first_with}
 
 -- a formal, a variable of a VAR section, or something else that is declared
 pub data LocalTree : Type 0 where

@@ -1,8 +1,6 @@
 -- What the weave needs of a program and instructions beside its own rules: the rules of flattening and of kinds.
 use Rattle.std.specs.Prelude.{◌≡◌}
-use Rattle.smv_language.specs.ProgramTree.{Text, DeclaredTree, ModuleTree, ProgramTree}
-use Rattle.smv_language.specs.Scope.{Place, Role, a_variable, kind_in}
-use Rattle.smv_language.specs.Trace.{IsInstance, Each}
+use Rattle.smv_language.specs.Language.{Text, DeclaredTree, ModuleTree, ProgramTree, Place, Role, a_variable, kind_in, IsInstance, Each}
 use Rattle.fault_instructions.specs.Instructions.{ModeTree, SliceTree, InstructionTree, slices_of}
 use Rattle.fault_instructions.specs.Types.{IsUniform}
 use Rattle.fault_instructions.specs.Weavable.{Among, IsReadableEffect, IsLawfulInstance, IsLawfulGuard, IsWeavable}

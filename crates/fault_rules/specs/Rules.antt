@@ -3,11 +3,11 @@ use Rattle.std.specs.Prelude.{Bool, true, false, ◌||◌, ◌&&◌, List, [], �
 use Rattle.std.specs.List.{list_any}
 use Rattle.smv_language.specs.declared.program.Member.{Member}
 use Rattle.smv_language.specs.declared.program.Member.TheVariants as member
-use Rattle.smv_language.specs.ProgramTree.{Text, DeclaredTree, boolean, range, members, instance, DeclTree, DefineTree, SectionTree, var}
-use Rattle.smv_language.specs.ProgramTree.{ivar, frozen, define, constants, assign, init, invar, trans, ModuleTree, ProgramTree}
-use Rattle.smv_language.specs.Texts.{same_text, is_among}
-use Rattle.smv_language.specs.Scope.{state, input, frozen_role, Kind, a_formal, a_variable, a_define, an_instance, undeclared, find_module, is_missing}
-use Rattle.smv_language.specs.Scope.{kind_at, is_symbol_of_type}
+use Rattle.smv_language.specs.Language.{Text, DeclaredTree, boolean, range, members, instance, DeclTree, DefineTree, SectionTree, var, ivar}
+use Rattle.smv_language.specs.Language.{frozen, define, constants, assign, init, invar, trans, ModuleTree, ProgramTree, same_text, is_among}
+use Rattle.smv_language.specs.Language.{state, input, frozen_role, Kind, a_formal, a_variable, an_instance, undeclared, find_module}
+use Rattle.smv_language.specs.Language.{is_missing, kind_at, is_symbol_of_type, opposite}
+use Rattle.smv_language.specs.Scope.{a_define}
 use Rattle.fault_instructions.specs.Instructions.{ModeTree}
 use Rattle.fault_instructions.specs.AddedNames.{own_name, mode_variable, mode_symbol}
 use Rattle.fault_instructions.specs.Effects.{fault_of}
@@ -17,7 +17,6 @@ use Rattle.fault_rules.specs.Sites.{OwnedSlice, Site, an_extension, a_slice, a_m
 use Rattle.fault_rules.specs.declared.fault.InstructionRule.{InstructionRule}
 use Rattle.fault_rules.specs.declared.fault.InstructionRule.TheVariants.{NoSuchModule, NoSuchVariable, NotAStateVariable, DoubleSlice}
 use Rattle.fault_rules.specs.declared.fault.InstructionRule.TheVariants.{DoubleMode, VariableTaken, Effect, NameTaken}
-use Rattle.smv_language.specs.Values.{opposite}
 
 -- what the target of a slice is in the slice's module
 abbrev pub target_kind : ProgramTree → OwnedSlice → Kind

@@ -1,7 +1,6 @@
 -- Whether the symbol of a mode is taken, asked of the names that begin with the name of its slice.
 use Rattle.std.specs.Prelude.{◌≡◌, ℕ, ◌+◌, Bool, ◌||◌, List, [], ◌∷◌, ◌++◌, Option, None, codes}
-use Rattle.smv_language.specs.ProgramTree.{Text, declared_tree}
-use Rattle.smv_language.specs.Texts.{is_among}
+use Rattle.smv_language.specs.Language.{Text, declared_tree, is_among}
 use Rattle.fault_instructions.specs.Instructions.{ModeTree}
 use Rattle.fault_instructions.specs.Effects.{fault_of}
 use Rattle.fault_rules.specs.Rules.{first_of, effect_rules}

@@ -1,9 +1,7 @@
 -- Causes of the code as definitions see them, and what is added for one.
 use Rattle.std.specs.Prelude.{suc, List, [], ◌∷◌, Option, Some, None, length}
 use Rattle.smv_language.specs.declared.expr.Op.TheVariants as op
-use Rattle.smv_language.specs.Tree.{Tree, binary}
-use Rattle.smv_language.specs.ProgramTree.{Path}
-use Rattle.smv_language.specs.Flat.{FlatLeaf, FlatModel}
+use Rattle.smv_language.specs.Language.{Tree, binary, Path, FlatLeaf, FlatModel}
 use Rattle.smv_flat_laws.specs.History.{Mode}
 use Rattle.fault_cause_laws.specs.Causes.{CommonCause}
 use Rattle.fault_cause_laws.specs.StagedModel.{joined, joined_after}

@@ -4,10 +4,7 @@ use Rattle.std.specs.Prelude.{if◌then◌else◌, map, flat_map, Contains, slic
 use Rattle.std.proofs.lemmas.List.{append_cancel_right}
 use Rattle.std.proofs.lemmas.List.Elements.{Contains-append_right}
 use Rattle.smv_language.specs.declared.program.Member.TheVariants as member
-use Rattle.smv_language.specs.ProgramTree.{Text, SectionTree, var, ivar, frozen, define, constants, assign, init, invar, trans, ModuleTree, ProgramTree}
-use Rattle.smv_language.specs.Texts.{same_text, is_among}
-use Rattle.smv_language.specs.Scope.{state, a_variable, kind_declared, kind_in_sections, kind_in, is_symbol, is_symbol_of_sections, is_symbol_of_members, is_symbol_of_decls}
-use Rattle.smv_language.specs.Trace.{AtSome}
+use Rattle.smv_language.specs.Language.{Text, SectionTree, var, ivar, frozen, define, constants, assign, init, invar, trans, ModuleTree, ProgramTree, same_text, is_among, state, a_variable, kind_declared, kind_in_sections, kind_in, is_symbol, is_symbol_of_sections, is_symbol_of_members, is_symbol_of_decls, AtSome}
 use Rattle.smv_language.proofs.ValueLaws.{same_text_refl}
 use Rattle.fault_instructions.specs.Instructions.{ModeTree, SliceTree, InstructionTree, is_target, is_affected}
 use Rattle.fault_instructions.specs.AddedNames.{ModeState}

@@ -1,16 +1,11 @@
 -- Readable expressions have the same values in the woven program, where the valuations agree on the variables.
 use Rattle.std.proofs.Common.{◌≡◌, ◌↔◌, ℕ, zero, suc, Bool, true, false, [], ◌∷◌, ◌++◌, Option, Some, None, refl, sym, ◌∙◌, ap, subst}
 use Rattle.std.specs.Prelude.{if◌then◌else◌}
-use Rattle.smv_language.specs.Tree.{Tree, Trees, Branches, truth as is_truth, number as is_number, leaf, not_of, negate, next_of, binary, choice, case_of, set_of, span, no_tree, tree_then, no_branch, branch_then}
-use Rattle.smv_language.specs.ProgramTree.{Text, Path, Formula, DeclaredTree, ModuleTree, ProgramTree}
-use Rattle.smv_language.specs.Values.{Value, Values}
-use Rattle.smv_language.specs.Evaluate.{Leaves, evaluate, evaluate_trees, evaluate_branches}
-use Rattle.smv_language.specs.Scope.{Place, Key, define_key, actual_key, Role, Kind, a_formal, a_variable, a_define, an_instance, undeclared, kind_in, kind_at, module_at, actual_of_kind, is_symbol, Meaning, a_variable_at, an_expression_at, an_instance_at, a_symbol, LookUp, plain_name, through_plain, through_actual, through_formal, by_kind, means_in}
-use Rattle.smv_language.specs.May.{Valuation, values_of_meaning, name_values, May}
-use Rattle.smv_language.specs.Trace.{IsVariable}
+use Rattle.smv_language.specs.Language.{Tree, Trees, Branches, leaf, not_of, negate, next_of, binary, choice, case_of, set_of, span, no_tree, tree_then, no_branch, branch_then, Text, Path, Formula, DeclaredTree, ModuleTree, ProgramTree, Value, Values, Leaves, evaluate, evaluate_trees, evaluate_branches, Place, Key, define_key, actual_key, Role, Kind, a_formal, a_variable, an_instance, undeclared, kind_in, kind_at, module_at, actual_of_kind, is_symbol, Meaning, a_variable_at, an_expression_at, an_instance_at, LookUp, plain_name, through_plain, through_actual, through_formal, by_kind, means_in, Valuation, values_of_meaning, name_values, May, IsVariable, AllLeaves, AllLeavesOfTrees, AllLeavesOfBranches}
+use Rattle.smv_language.specs.Tree.{truth as is_truth, number as is_number}
+use Rattle.smv_language.specs.Scope.{a_define, a_symbol}
 use Rattle.fault_instructions.specs.Instructions.{InstructionTree}
 use Rattle.fault_weave.specs.WovenProgram.{woven, tree_map_both, trees_map_both, branches_map_both}
-use Rattle.smv_language.specs.Laws.{AllLeaves, AllLeavesOfTrees, AllLeavesOfBranches}
 use Rattle.fault_instructions.specs.Weavable.{NoNext, NoNextInTrees, NoNextInBranches, IsWeavable, IsReadable, HasMeaning}
 use Rattle.fault_weave.proofs.Meanings.{same_meaning}
 

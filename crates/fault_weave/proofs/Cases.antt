@@ -1,11 +1,8 @@
 -- The case over the modes of a slice gives the branch of the mode that stands.
 use Rattle.std.proofs.Common.{◌≡◌, inl, inr, Bool, true, false, List, [], ◌∷◌, Some, None, refl, sym, ap, subst}
 use Rattle.std.specs.Prelude.{if◌then◌else◌}
-use Rattle.smv_language.specs.ProgramTree.{Text, Path, Formula}
-use Rattle.smv_language.specs.Values.{truth, one}
-use Rattle.smv_language.specs.Texts.{same_text}
-use Rattle.smv_language.specs.Evaluate.{Leaves, evaluate, evaluate_branches, gives_choice}
-use Rattle.smv_language.specs.Trace.{Each}
+use Rattle.smv_language.specs.Language.{Text, Path, Formula, one, same_text, Leaves, evaluate, evaluate_branches, gives_choice, Each}
+use Rattle.smv_language.specs.Values.{truth}
 use Rattle.smv_language.proofs.ValueLaws.{same_text_refl}
 use Rattle.fault_instructions.specs.Instructions.{ModeTree}
 use Rattle.fault_instructions.specs.AddedNames.{ModeState}

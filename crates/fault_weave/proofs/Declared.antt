@@ -1,10 +1,8 @@
 -- The declaration of a variable, found, and the symbols of its type.
 use Rattle.std.proofs.Common.{◌≡◌, ◌⊎◌, inl, inr, Bool, true, false, List, [], ◌∷◌, refl, sym, ap, subst}
 use Rattle.std.specs.Prelude.{if◌then◌else◌, ◌||◌}
-use Rattle.smv_language.specs.ProgramTree.{Text, DeclaredTree, boolean, range, members, instance, DeclTree, DefineTree, SectionTree, var, ivar, frozen, define, constants, assign, init, invar, trans, ModuleTree, ProgramTree}
-use Rattle.smv_language.specs.Texts.{same_text, is_among}
-use Rattle.smv_language.specs.Scope.{Role, state, input, frozen_role, Kind, a_variable, a_define, kind_declared, kind_in_decls, kind_in_defines, kind_in_sections, formal_from, kind_in, is_symbol, is_symbol_of_sections, is_symbol_of_decls, is_symbol_of_type}
-use Rattle.smv_language.specs.Trace.{Each}
+use Rattle.smv_language.specs.Language.{Text, DeclaredTree, boolean, range, members, instance, DeclTree, DefineTree, SectionTree, var, ivar, frozen, define, constants, assign, init, invar, trans, ModuleTree, ProgramTree, same_text, is_among, Role, state, input, frozen_role, Kind, a_variable, kind_declared, kind_in_decls, kind_in_defines, kind_in_sections, formal_from, kind_in, is_symbol, is_symbol_of_sections, is_symbol_of_decls, is_symbol_of_type, Each}
+use Rattle.smv_language.specs.Scope.{a_define}
 use Rattle.fault_instructions.specs.KindTypes.{type_of_kind}
 use Rattle.fault_instructions.specs.Weavable.{Among}
 use Rattle.fault_instructions.proofs.AmongLaws.{each_all}

@@ -2,12 +2,9 @@
 use Rattle.std.proofs.Common.{◌≡◌, Bool, true, false, [], ◌∷◌, Option, Some, None, refl, inl, inr}
 use Rattle.std.specs.Prelude.{codes, pos}
 use Rattle.smv_language.specs.declared.program.Moment.TheVariants.{First, After}
-use Rattle.smv_language.specs.Tree.{truth as is_truth, leaf}
-use Rattle.smv_language.specs.ProgramTree.{Text, Formula, boolean, range, var, assign, ProgramTree, ModuleTree}
-use Rattle.smv_language.specs.Values.{Value, truth, number, one}
-use Rattle.smv_language.specs.Texts.{same_text}
-use Rattle.smv_language.specs.Scope.{Place, module_at, module_of_kind, kind_in}
-use Rattle.smv_language.specs.Trace.{IsInstance, Each}
+use Rattle.smv_language.specs.Language.{leaf, Text, Formula, boolean, range, var, assign, ProgramTree, ModuleTree, Value, one, same_text, Place, module_at, module_of_kind, kind_in, IsInstance, Each}
+use Rattle.smv_language.specs.Tree.{truth as is_truth}
+use Rattle.smv_language.specs.Values.{truth, number}
 use Rattle.fault_instructions.specs.declared.instructions.Dynamics.TheVariants.{Permanent}
 use Rattle.fault_instructions.specs.declared.instructions.Start.TheVariants.{Nominal, Any}
 use Rattle.fault_weave.specs.Faults.{HasFaults}

@@ -3,12 +3,7 @@ use Rattle.std.proofs.Common.{◌≡◌, ◌⊎◌, inl, inr, ◌↔◌, ℕ, su
 use Rattle.std.specs.Prelude.{IsTrue}
 use Rattle.smv_language.specs.declared.program.Member.{Member}
 use Rattle.smv_language.specs.declared.program.Member.TheVariants as member
-use Rattle.smv_language.specs.ProgramTree.{Text, Formula, DeclaredTree, boolean, range, members, instance, ModuleTree, ProgramTree, IsType}
-use Rattle.smv_language.specs.Values.{Value, symbol, Values, one, has}
-use Rattle.smv_language.specs.Evaluate.{evaluate}
-use Rattle.smv_language.specs.Scope.{Place, Role, state, Kind, a_variable, an_instance, undeclared, kind_declared, kind_in_sections, kind_in, kind_at, module_of_kind, module_at, is_symbol, is_symbol_of_members, is_symbol_of_type}
-use Rattle.smv_language.specs.May.{Valuation, name_values, May}
-use Rattle.smv_language.specs.Trace.{Each, IsInstance}
+use Rattle.smv_language.specs.Language.{Text, Formula, DeclaredTree, boolean, range, members, instance, ModuleTree, ProgramTree, IsType, Value, symbol, Values, one, has, evaluate, Place, Role, state, Kind, a_variable, an_instance, undeclared, kind_declared, kind_in_sections, kind_in, kind_at, module_of_kind, module_at, is_symbol, is_symbol_of_members, is_symbol_of_type, Valuation, name_values, May, Each, IsInstance, same_text}
 use Rattle.smv_language.proofs.Monotone.{evaluate_below, name_values_more, same_values}
 use Rattle.fault_instructions.specs.Instructions.{SliceTree, InstructionTree, slices_of}
 use Rattle.fault_instructions.specs.AddedNames.{ModeState}
@@ -19,7 +14,6 @@ use Rattle.fault_instructions.specs.Weavable.{Among, IsFreeMember, SymbolsAreFre
 use Rattle.fault_instructions.specs.Types.{IsKnown}
 use Rattle.fault_weave.proofs.WovenKinds.{kind_or, kind_woven, Adds, IsAddedBy, added_or_not}
 use Rattle.fault_weave.proofs.Meanings.{module_woven, symbol_stays, kind_kept, Kept}
-use Rattle.smv_language.specs.Texts.{same_text}
 use Rattle.smv_language.proofs.ValueLaws.{same_text_refl}
 use Rattle.fault_weave.proofs.Declared.{or_true, variable_symbol}
 use Rattle.fault_instructions.specs.EffectLaw.{SliceLeaves}

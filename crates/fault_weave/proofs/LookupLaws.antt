@@ -3,12 +3,11 @@ use Rattle.std.proofs.Common.{◌≡◌, ℕ, ◌+◌, ◌<◌, suc, Bool, true,
 use Rattle.std.specs.Prelude.{if◌then◌else◌, ◌&&◌, ◌||◌}
 use Rattle.std.specs.List.{list_any}
 use Rattle.std.proofs.lemmas.List.{drop_more}
-use Rattle.smv_language.specs.Texts.{same_text}
+use Rattle.smv_language.specs.Language.{same_text, Text, DeclaredTree, boolean, range, members, instance, DeclTree, DefineTree, SectionTree, var, ivar, frozen, define, constants, assign, init, invar, trans, decl_tree, define_tree, section_tree, Role, state, input, frozen_role, Kind, kind_declared, kind_in_decls, kind_in_defines, kind_in_sections, formal_from, kind_after_formals}
 use Rattle.smv_language.specs.declared.program.Decl.{Decl}
 use Rattle.smv_language.specs.declared.program.Define.{Define}
 use Rattle.smv_language.specs.declared.program.Section.{Section}
-use Rattle.smv_language.specs.ProgramTree.{Text, DeclaredTree, boolean, range, members, instance, DeclTree, DefineTree, SectionTree, var, ivar, frozen, define, constants, assign, init, invar, trans, decl_tree, define_tree, section_tree}
-use Rattle.smv_language.specs.Scope.{Role, state, input, frozen_role, Kind, a_define, kind_declared, kind_in_decls, kind_in_defines, kind_in_sections, formal_from, kind_after_formals}
+use Rattle.smv_language.specs.Scope.{a_define}
 use Rattle.fault_instructions.specs.declared.instructions.Slice.{Slice}
 use Rattle.fault_instructions.specs.declared.instructions.Extension.{Extension}
 use Rattle.fault_instructions.specs.Instructions.{SliceTree, ExtensionTree, slice_tree, extension_tree, slices_from, is_target}

@@ -1,10 +1,8 @@
 -- Names mean in the woven program what they mean in the program.
 use Rattle.std.proofs.Common.{◌≡◌, ◌⊎◌, inl, inr, ℕ, zero, suc, Bool, true, false, List, [], ◌∷◌, ◌++◌, Option, Some, None, refl, sym, ◌∙◌, ap, subst}
 use Rattle.std.specs.Prelude.{map, option_map, ◌||◌, if◌then◌else◌, codes}
-use Rattle.smv_language.specs.ProgramTree.{Text, Path, Formula, SectionTree, var, ivar, frozen, define, constants, assign, init, invar, trans, ModuleTree, ProgramTree, IsType}
-use Rattle.smv_language.specs.Scope.{Place, Key, actual_key, Kind, a_formal, a_variable, a_define, an_instance, undeclared, kind_in_sections, kind_in, kind_at, module_of_kind, module_at, actual_of_kind, is_symbol, is_symbol_of_sections, is_symbol_of_decls, Meaning, a_symbol, LookUp, plain_name, through_plain, through_actual, through_formal, by_kind, means_in}
-use Rattle.smv_language.specs.Texts.{is_among}
-use Rattle.smv_language.specs.Trace.{IsInstance}
+use Rattle.smv_language.specs.Language.{Text, Path, Formula, SectionTree, var, ivar, frozen, define, constants, assign, init, invar, trans, ModuleTree, ProgramTree, IsType, Place, Key, actual_key, Kind, a_formal, a_variable, an_instance, undeclared, kind_in_sections, kind_in, kind_at, module_of_kind, module_at, actual_of_kind, is_symbol, is_symbol_of_sections, is_symbol_of_decls, Meaning, LookUp, plain_name, through_plain, through_actual, through_formal, by_kind, means_in, is_among, IsInstance}
+use Rattle.smv_language.specs.Scope.{a_define, a_symbol}
 use Rattle.fault_instructions.specs.Instructions.{SliceTree, InstructionTree, slices_of, is_affected}
 use Rattle.fault_instructions.specs.AddedNames.{own_name, mode_variable}
 use Rattle.fault_weave.specs.WovenProgram.{woven_section, added_sections, woven_module, woven}

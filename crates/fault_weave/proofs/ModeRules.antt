@@ -1,7 +1,6 @@
 -- The rule sections of a mode, for a condition that asks nothing of an INIT.
 use Rattle.std.specs.Prelude.{◌↔◌, Option, Some, None}
-use Rattle.smv_language.specs.ProgramTree.{Text, Formula, SectionTree, init}
-use Rattle.smv_language.specs.Trace.{Each}
+use Rattle.smv_language.specs.Language.{Text, Formula, SectionTree, init, Each}
 use Rattle.fault_instructions.specs.declared.instructions.Start.{Start}
 use Rattle.fault_instructions.specs.declared.instructions.Start.TheVariants.{Nominal, Any}
 use Rattle.fault_instructions.specs.declared.effects.EffectRule.{EffectRule}

@@ -1,10 +1,7 @@
 -- The cut is one to one, up to what the two sides speak of, and onto.
 use Rattle.std.proofs.Common.{◌≡◌, ◌⊎◌, inl, inr, List, [], ◌∷◌, refl, sym, ◌∙◌, subst}
-use Rattle.smv_language.specs.ProgramTree.{ModuleTree, ProgramTree}
-use Rattle.smv_language.specs.Values.{symbol}
-use Rattle.smv_language.specs.Scope.{Place, Kind, a_formal, a_variable, a_define, an_instance, undeclared, kind_in, kind_in_sections}
-use Rattle.smv_language.specs.May.{Valuation}
-use Rattle.smv_language.specs.Trace.{IsInstance, Each, EachBoth}
+use Rattle.smv_language.specs.Language.{ModuleTree, ProgramTree, symbol, Place, Kind, a_formal, a_variable, an_instance, undeclared, kind_in, kind_in_sections, Valuation, IsInstance, Each, EachBoth}
+use Rattle.smv_language.specs.Scope.{a_define}
 use Rattle.fault_instructions.specs.Instructions.{SliceTree, InstructionTree, slices_of}
 use Rattle.fault_weave.specs.ExtensionTraces.{Moment}
 use Rattle.fault_instructions.specs.AddedNames.{mode_symbol}

@@ -2,10 +2,8 @@
 use Rattle.std.proofs.Common.{◌≡◌, ℕ, List, [], ◌∷◌, ◌≤◌, length, map, take, refl, ◌∙◌, ap}
 use Rattle.std.proofs.lemmas.List.{take_all}
 use Rattle.smv_language.specs.declared.expr.Expr.{Expr}
-use Rattle.smv_language.specs.Tree.{Tree, tree_then, branch_then, trees_from, branches_from}
-use Rattle.smv_language.specs.ProgramTree.{Text, Path}
+use Rattle.smv_language.specs.Language.{Tree, tree_then, branch_then, trees_from, branches_from, Text, Path, tree_of, trees_of, branches_of, branch_trees}
 use Rattle.std.specs.Prelude.{Bool}
-use Rattle.smv_language.specs.ExpressionTree.{tree_of, trees_of, branches_of, branch_trees}
 use Rattle.fault_weave.specs.WovenProgram.{rename, tree_map_both, trees_map_both, branches_map_both}
 
 -- a name of several parts stays

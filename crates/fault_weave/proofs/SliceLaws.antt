@@ -3,9 +3,8 @@ use Rattle.std.proofs.Common.{◌≡◌, ℕ, ◌+◌, ◌<◌, Bool, true, fals
 use Rattle.std.specs.Prelude.{flat_map, if◌then◌else◌}
 use Rattle.std.proofs.lemmas.List.{append_assoc, append-nil, drop_more}
 use Rattle.std.proofs.lemmas.Grind.{flat_map-append}
-use Rattle.smv_language.specs.Texts.{same_text}
-use Rattle.smv_language.specs.Tree.{Tree, truth, case_of, branch_then, branches_from}
-use Rattle.smv_language.specs.ProgramTree.{Text, Path, Formula, SectionTree}
+use Rattle.smv_language.specs.Language.{same_text, Tree, case_of, branch_then, branches_from, Text, Path, Formula, SectionTree}
+use Rattle.smv_language.specs.Tree.{truth}
 use Rattle.fault_instructions.specs.declared.instructions.Extension.{Extension}
 use Rattle.fault_instructions.specs.Instructions.{ModeTree, SliceTree, ExtensionTree, extension_tree, slices_from}
 use Rattle.fault_instructions.specs.Templates.{stands}

@@ -2,12 +2,8 @@
 use Rattle.std.proofs.Common.{◌≡◌, ◌≢◌, ◌⊎◌, inl, inr, Bool, true, false, List, [], ◌∷◌, ◌++◌, Option, Some, None, refl, sym, ◌∙◌, ap, subst, eq-eqb}
 use Rattle.std.specs.Prelude.{IsTrue, map, codes, nat_eq, if◌then◌else◌, ◌||◌}
 use Rattle.smv_language.specs.declared.program.Member.TheVariants as member
-use Rattle.smv_language.specs.ProgramTree.{Text, Formula, DeclaredTree, ModuleTree, ProgramTree}
-use Rattle.smv_language.specs.Values.{Value, truth, number, symbol}
-use Rattle.smv_language.specs.Texts.{same_text}
-use Rattle.smv_language.specs.Scope.{Place, Role, a_variable, undeclared, kind_in, module_at}
-use Rattle.smv_language.specs.May.{Valuation, May}
-use Rattle.smv_language.specs.Trace.{Each, EachPair, AtSome, AtFirst, IsInstance, IsVariable, in_domain, is_member, DomainSection, IsMoment, IsTrace}
+use Rattle.smv_language.specs.Language.{Text, Formula, DeclaredTree, ModuleTree, ProgramTree, Value, symbol, same_text, Place, Role, a_variable, undeclared, kind_in, module_at, Valuation, May, Each, EachPair, AtSome, AtFirst, IsInstance, IsVariable, in_domain, is_member, DomainSection, IsMoment, IsTrace}
+use Rattle.smv_language.specs.Values.{truth, number}
 use Rattle.smv_language.proofs.ValueLaws.{same_text_refl}
 use Rattle.fault_instructions.specs.Instructions.{ModeTree, SliceTree, InstructionTree, slices_of}
 use Rattle.fault_instructions.specs.AddedNames.{ModeState}

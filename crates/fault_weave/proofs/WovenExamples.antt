@@ -4,11 +4,10 @@ use Rattle.std.specs.Prelude.{codes, if◌then◌else◌}
 use Rattle.smv_language.specs.declared.expr.Op.TheVariants as op
 use Rattle.smv_language.specs.declared.program.Member.TheVariants as member
 use Rattle.smv_language.specs.declared.program.Moment.TheVariants.{Always, First, After}
-use Rattle.smv_language.specs.Tree.{truth as is_truth, next_of, binary, choice, case_of, set_of, no_tree, tree_then, no_branch, branch_then}
-use Rattle.smv_language.specs.ProgramTree.{Text, Formula, boolean, members, var, assign, init, trans, ModuleTree}
+use Rattle.smv_language.specs.Language.{next_of, binary, choice, case_of, set_of, no_tree, tree_then, no_branch, branch_then, Text, Formula, boolean, members, var, assign, init, trans, ModuleTree, same_text, Place, state, a_variable, an_instance, undeclared, kind_in, a_variable_at}
+use Rattle.smv_language.specs.Tree.{truth as is_truth}
 use Rattle.smv_language.specs.Values.{truth}
-use Rattle.smv_language.specs.Texts.{same_text}
-use Rattle.smv_language.specs.Scope.{Place, state, a_variable, a_define, an_instance, undeclared, kind_in, a_variable_at}
+use Rattle.smv_language.specs.Scope.{a_define}
 use Rattle.smv_language.proofs.ValueLaws.{same_text_refl}
 use Rattle.fault_instructions.specs.declared.instructions.Dynamics.TheVariants.{Permanent, Transient}
 use Rattle.fault_instructions.specs.declared.instructions.Start.TheVariants.{Nominal, Any}

@@ -3,12 +3,7 @@ use Rattle.std.proofs.Common.{◌≡◌, ◌↔◌, true, List, [], ◌∷◌, O
 use Rattle.std.specs.Prelude.{IsTrue, map, option_map, ◌||◌}
 use Rattle.smv_language.specs.declared.program.Member.{Member}
 use Rattle.smv_language.specs.declared.program.Member.TheVariants as member
-use Rattle.smv_language.specs.ProgramTree.{Text, DeclaredTree, boolean, range, members, instance, SectionTree, var, ivar, frozen, define, constants, assign, init, invar, trans, ModuleTree, ProgramTree, IsType}
-use Rattle.smv_language.specs.Values.{Value, symbol}
-use Rattle.smv_language.specs.Texts.{same_text}
-use Rattle.smv_language.specs.Scope.{Place, Role, state, input, frozen_role, a_variable, kind_declared, kind_in_sections, formal_from, kind_in, module_at, is_symbol_of_members}
-use Rattle.smv_language.specs.May.{Valuation, May}
-use Rattle.smv_language.specs.Trace.{Each, IsInstance, in_domain, is_member, Declares, FirstSection, EachSection, DomainSection}
+use Rattle.smv_language.specs.Language.{Text, DeclaredTree, boolean, range, members, instance, SectionTree, var, ivar, frozen, define, constants, assign, init, invar, trans, ModuleTree, ProgramTree, IsType, Value, symbol, same_text, Place, Role, state, input, frozen_role, a_variable, kind_declared, kind_in_sections, formal_from, kind_in, module_at, is_symbol_of_members, Valuation, May, Each, IsInstance, in_domain, is_member, Declares, FirstSection, EachSection, DomainSection}
 use Rattle.fault_instructions.specs.Instructions.{SliceTree, InstructionTree, slices_of, is_affected}
 use Rattle.fault_instructions.specs.AddedNames.{ModeState, own_name, mode_variable, mode_symbol}
 use Rattle.fault_weave.specs.ExtensionTraces as extended

@@ -2,13 +2,8 @@
 use Rattle.std.proofs.Common.{◌≡◌, ◌≢◌, ◌⊎◌, inl, inr, ◌↔◌, ℕ, suc, ◌+◌, arith, Bool, true, false, List, [], ◌∷◌, Option, Some, None, refl, sym, ◌∙◌, ap, subst}
 use Rattle.std.specs.Prelude.{ℤ, int_lt, ◌-ℤ◌, IsTrue, codes, ◌&&◌, ◌||◌, map, flat_map, if◌then◌else◌}
 use Rattle.smv_language.specs.declared.expr.Op.TheVariants as op
-use Rattle.smv_language.specs.Tree.{binary, choice, trees_from}
-use Rattle.smv_language.specs.ProgramTree.{Text, Formula, ModuleTree, ProgramTree}
-use Rattle.smv_language.specs.Values.{Value, truth, number, symbol, Values, no_value, one, either, has, same_value, opposite}
-use Rattle.smv_language.specs.Evaluate.{evaluate, evaluate_trees, gives_either, gives_choice}
-use Rattle.smv_language.specs.Scope.{Place}
-use Rattle.smv_language.specs.May.{Valuation, name_values, May}
-use Rattle.smv_language.specs.Trace.{Each, AtSome, IsInstance, InDomains, in_domain, StepSection, FirstSection}
+use Rattle.smv_language.specs.Language.{binary, choice, trees_from, Text, Formula, ModuleTree, ProgramTree, Value, symbol, Values, no_value, one, either, has, same_value, opposite, evaluate, evaluate_trees, gives_either, gives_choice, Place, Valuation, name_values, May, Each, AtSome, IsInstance, InDomains, in_domain, StepSection, FirstSection}
+use Rattle.smv_language.specs.Values.{truth, number}
 use Rattle.smv_language.proofs.Monotone.{evaluate_below, raised}
 use Rattle.fault_instructions.specs.declared.instructions.Dynamics.{Dynamics}
 use Rattle.fault_instructions.specs.declared.instructions.Dynamics.TheVariants.{Permanent, Transient}

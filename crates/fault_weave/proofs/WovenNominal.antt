@@ -3,12 +3,8 @@ use Rattle.std.proofs.Common.{◌≡◌, inl, ◌↔◌, ℕ, zero, suc, Bool, t
 use Rattle.std.specs.Prelude.{map, if◌then◌else◌}
 use Rattle.smv_language.specs.declared.program.Moment.{Moment as When}
 use Rattle.smv_language.specs.declared.program.Moment.TheVariants.{Always, First, After}
-use Rattle.smv_language.specs.ProgramTree.{Text, Path, Formula, DeclaredTree, boolean, range, members, instance, SectionTree, var, ivar, frozen, define, constants, assign, init, invar, trans, ModuleTree, ProgramTree}
-use Rattle.smv_language.specs.Values.{Value, truth, one}
-use Rattle.smv_language.specs.Evaluate.{evaluate}
-use Rattle.smv_language.specs.Scope.{Place, Role, state, input, frozen_role, a_variable, kind_declared, kind_in, kind_at, module_at, means_in}
-use Rattle.smv_language.specs.May.{Valuation, name_values, Reading, reading, MayRead, May}
-use Rattle.smv_language.specs.Trace.{Keeps, Each, EachPair, AtFirst, IsInstance, Declares, FirstAssigned, EachAssigned, NextAssigned, FirstSection, EachSection, StepSection, DomainSection, IsFirst, IsMoment, IsStep, IsTrace, EachBoth}
+use Rattle.smv_language.specs.Language.{Text, Path, Formula, DeclaredTree, boolean, range, members, instance, SectionTree, var, ivar, frozen, define, constants, assign, init, invar, trans, ModuleTree, ProgramTree, Value, one, evaluate, Place, Role, state, input, frozen_role, a_variable, kind_declared, kind_in, kind_at, module_at, means_in, Valuation, name_values, Reading, reading, MayRead, May, Keeps, Each, EachPair, AtFirst, IsInstance, Declares, FirstAssigned, EachAssigned, NextAssigned, FirstSection, EachSection, StepSection, DomainSection, IsFirst, IsMoment, IsStep, IsTrace, EachBoth}
+use Rattle.smv_language.specs.Values.{truth}
 use Rattle.smv_language.proofs.Monotone.{Extends, evaluate_below, name_values_more}
 use Rattle.fault_instructions.specs.Instructions.{ModeTree, SliceTree, InstructionTree, slices_of, is_affected}
 use Rattle.fault_instructions.specs.declared.instructions.Start.{Start}

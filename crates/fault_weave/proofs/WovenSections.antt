@@ -3,12 +3,8 @@ use Rattle.std.proofs.Common.{◌≡◌, ◌↔◌, ℕ, suc, Bool, true, false,
 use Rattle.std.specs.Prelude.{if◌then◌else◌}
 use Rattle.smv_language.specs.declared.program.Moment.{Moment as When}
 use Rattle.smv_language.specs.declared.program.Moment.TheVariants.{Always, First, After}
-use Rattle.smv_language.specs.ProgramTree.{Text, Path, Formula, SectionTree, var, ivar, frozen, define, constants, assign, init, invar, trans, ModuleTree, ProgramTree, boolean, range, members, instance, DeclaredTree}
-use Rattle.smv_language.specs.Values.{Value, truth, one}
-use Rattle.smv_language.specs.Evaluate.{evaluate}
-use Rattle.smv_language.specs.Scope.{Place, frozen_role, kind_declared, kind_in, a_variable}
-use Rattle.smv_language.specs.May.{Valuation, name_values, Reading, reading, MayRead, May}
-use Rattle.smv_language.specs.Trace.{Keeps, IsInstance, FirstAssigned, EachAssigned, NextAssigned, FirstSection, EachSection, StepSection}
+use Rattle.smv_language.specs.Language.{Text, Path, Formula, SectionTree, var, ivar, frozen, define, constants, assign, init, invar, trans, ModuleTree, ProgramTree, boolean, range, members, instance, DeclaredTree, Value, one, evaluate, Place, frozen_role, kind_declared, kind_in, a_variable, Valuation, name_values, Reading, reading, MayRead, May, Keeps, IsInstance, FirstAssigned, EachAssigned, NextAssigned, FirstSection, EachSection, StepSection}
+use Rattle.smv_language.specs.Values.{truth}
 use Rattle.smv_language.proofs.Monotone.{Extends, evaluate_below, name_values_more}
 use Rattle.fault_instructions.specs.Instructions.{SliceTree, InstructionTree, slices_of, is_affected}
 use Rattle.fault_weave.specs.ExtensionTraces as extended

@@ -1,12 +1,8 @@
 -- What the added sections of a slice say at an instance.
 use Rattle.std.proofs.Common.{◌≡◌, ◌≢◌, inl, inr, ◌↔◌, ℕ, suc, Bool, true, false, List, [], ◌∷◌, Option, Some, None, refl, sym, ◌∙◌, ap, subst}
 use Rattle.std.specs.Prelude.{IsTrue, codes, ◌||◌}
-use Rattle.smv_language.specs.ProgramTree.{Text, ModuleTree, ProgramTree}
-use Rattle.smv_language.specs.Values.{Value, truth, symbol, Values, one, has, same_value, opposite}
-use Rattle.smv_language.specs.Evaluate.{evaluate}
-use Rattle.smv_language.specs.Scope.{Place, kind_in}
-use Rattle.smv_language.specs.May.{Valuation, name_values, May}
-use Rattle.smv_language.specs.Trace.{Each, AtSome, IsInstance, in_domain, EachSection}
+use Rattle.smv_language.specs.Language.{Text, ModuleTree, ProgramTree, Value, symbol, Values, one, has, same_value, opposite, evaluate, Place, kind_in, Valuation, name_values, May, Each, AtSome, IsInstance, in_domain, EachSection}
+use Rattle.smv_language.specs.Values.{truth}
 use Rattle.smv_language.proofs.ValueLaws.{same_text_refl}
 use Rattle.fault_instructions.specs.declared.effects.EffectRule.{EffectRule}
 use Rattle.fault_instructions.specs.declared.effects.EffectRule.TheVariants.{NotOwn, AsBefore, AsEntered, Falling}

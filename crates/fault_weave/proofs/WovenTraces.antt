@@ -1,12 +1,8 @@
 -- The traces of the woven program are the extended traces.
 use Rattle.std.proofs.Common.{◌≡◌, inl, inr, ◌↔◌, Bool, true, List, [], ◌∷◌, Some, None, refl, sym, ◌∙◌, subst}
 use Rattle.std.specs.Prelude.{IsTrue}
-use Rattle.smv_language.specs.ProgramTree.{Text, SectionTree, var, ivar, frozen, define, constants, assign, init, invar, trans, ModuleTree, ProgramTree}
-use Rattle.smv_language.specs.Values.{Value, truth, opposite}
-use Rattle.smv_language.specs.Texts.{same_text}
-use Rattle.smv_language.specs.Scope.{Place, kind_in}
-use Rattle.smv_language.specs.May.{Valuation, May}
-use Rattle.smv_language.specs.Trace.{Each, EachPair, AtSome, AtFirst, IsInstance, in_domain, FirstSection, EachSection, StepSection, DomainSection, IsFirst, InDomains, IsMoment, IsStep, IsTrace}
+use Rattle.smv_language.specs.Language.{Text, SectionTree, var, ivar, frozen, define, constants, assign, init, invar, trans, ModuleTree, ProgramTree, Value, opposite, same_text, Place, kind_in, Valuation, May, Each, EachPair, AtSome, AtFirst, IsInstance, in_domain, FirstSection, EachSection, StepSection, DomainSection, IsFirst, InDomains, IsMoment, IsStep, IsTrace}
+use Rattle.smv_language.specs.Values.{truth}
 use Rattle.smv_language.proofs.ValueLaws.{same_text_refl}
 use Rattle.fault_instructions.specs.Instructions.{ModeTree, SliceTree, InstructionTree, slices_of, is_affected}
 use Rattle.fault_instructions.specs.AddedNames.{ModeState}

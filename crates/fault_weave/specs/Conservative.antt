@@ -1,10 +1,7 @@
 -- What a woven program means: its traces are the extended traces, and its faultless ones those of the program.
 use Rattle.std.specs.Prelude.{◌≡◌, ◌↔◌, List, Some, None, Contains}
-use Rattle.smv_language.specs.ProgramTree.{Text, DeclaredTree, ModuleTree, ProgramTree}
-use Rattle.smv_language.specs.Values.{symbol}
-use Rattle.smv_language.specs.Scope.{Place, Role}
-use Rattle.smv_language.specs.May.{Valuation}
-use Rattle.smv_language.specs.Trace.{IsInstance, IsVariable, IsTrace, Each, AtSome, EachBoth}
+use Rattle.smv_language.specs.Language.{Text, DeclaredTree, ModuleTree, ProgramTree, symbol, Place, Role, Valuation, IsInstance, IsVariable}
+use Rattle.smv_language.specs.Language.{IsTrace, Each, AtSome, EachBoth}
 use Rattle.fault_instructions.specs.Instructions.{InstructionTree, SliceTree, slices_of}
 use Rattle.fault_instructions.specs.AddedNames.{ModeState, own_name, mode_variable, mode_symbol}
 use Rattle.fault_weave.specs.ExtensionTraces.{Moment, IsExtended}

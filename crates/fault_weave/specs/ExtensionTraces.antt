@@ -2,13 +2,11 @@
 use Rattle.std.specs.Prelude.{◌≡◌, Bool, true, List, [], ◌∷◌, Some, None, if◌then◌else◌}
 use Rattle.smv_language.specs.declared.program.Moment.{Moment as When}
 use Rattle.smv_language.specs.declared.program.Moment.TheVariants.{Always, First, After}
-use Rattle.smv_language.specs.ProgramTree.{Text, Path, Formula, DeclaredTree, boolean, DeclTree, SectionTree, var, ivar, frozen, assign}
-use Rattle.smv_language.specs.ProgramTree.{init, invar, trans, ModuleTree, ProgramTree}
-use Rattle.smv_language.specs.Values.{Value, truth, one, opposite}
-use Rattle.smv_language.specs.Texts.{same_text}
-use Rattle.smv_language.specs.Scope.{Place, Kind, a_variable, kind_in}
-use Rattle.smv_language.specs.May.{Valuation, Reading, reading, MayRead, May}
-use Rattle.smv_language.specs.Trace.{IsInstance, Declares, Keeps, Each, EachPair, AtSome, AtFirst, AtLast}
+use Rattle.smv_language.specs.Language.{Text, Path, Formula, DeclaredTree, boolean, DeclTree, SectionTree, var, ivar, frozen, assign, init}
+use Rattle.smv_language.specs.Language.{invar, trans, ModuleTree, ProgramTree, Value, one, opposite, same_text, Place, Kind, a_variable}
+use Rattle.smv_language.specs.Language.{kind_in, Valuation, Reading, reading, MayRead, May, IsInstance, Declares, Keeps, Each, EachPair}
+use Rattle.smv_language.specs.Language.{AtSome, AtFirst, AtLast}
+use Rattle.smv_language.specs.Values.{truth}
 use Rattle.fault_instructions.specs.Instructions.{InstructionTree, SliceTree, slices_of, is_affected}
 use Rattle.fault_instructions.specs.Effects.{Allows}
 use Rattle.fault_instructions.specs.AddedNames.{ModeState}

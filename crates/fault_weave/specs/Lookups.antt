@@ -1,10 +1,9 @@
 -- What look-ups in a module find: the type of the variable that a name declares, which is the boolean type
 -- where the name declares something else, and whether a slice affects a variable.
 use Rattle.std.specs.Prelude.{Bool, ◌&&◌, List, [], ◌∷◌, Option, Some, None, if◌then◌else◌}
-use Rattle.smv_language.specs.Texts.{same_text}
+use Rattle.smv_language.specs.Language.{same_text, Text, DeclaredTree, boolean, range, members, instance, DeclTree, DefineTree, SectionTree}
+use Rattle.smv_language.specs.Language.{var, ivar, frozen, define, constants, assign, init, invar, trans}
 use Rattle.fault_instructions.specs.Instructions.{ExtensionTree, is_target}
-use Rattle.smv_language.specs.ProgramTree.{Text, DeclaredTree, boolean, range, members, instance, DeclTree, DefineTree, SectionTree, var}
-use Rattle.smv_language.specs.ProgramTree.{ivar, frozen, define, constants, assign, init, invar, trans}
 
 -- the type of a variable; an instance counts as boolean
 abbrev pub variable_type : DeclaredTree → DeclaredTree

@@ -4,8 +4,7 @@ use Rattle.fault_instructions.specs.declared.instructions.Dynamics.{Dynamics}
 use Rattle.fault_instructions.specs.declared.instructions.Dynamics.TheVariants.{Permanent, Transient}
 use Rattle.fault_instructions.specs.declared.instructions.Start.{Start}
 use Rattle.fault_instructions.specs.declared.instructions.Start.TheVariants.{Nominal, Any}
-use Rattle.smv_language.specs.ProgramTree.{Text, Formula}
-use Rattle.smv_language.specs.Trace.{AtSome}
+use Rattle.smv_language.specs.Language.{Text, Formula, AtSome}
 use Rattle.fault_instructions.specs.Instructions.{ModeTree}
 use Rattle.fault_instructions.specs.AddedNames.{ModeState}
 

@@ -4,17 +4,16 @@ use Rattle.smv_language.specs.declared.expr.Op.TheVariants as op
 use Rattle.smv_language.specs.declared.program.Member.{Member}
 use Rattle.smv_language.specs.declared.program.Member.TheVariants as member
 use Rattle.smv_language.specs.declared.program.Moment.TheVariants.{Always, First, After}
-use Rattle.smv_language.specs.Tree.{Tree, Trees, Branches, truth as is_truth, number as is_number, leaf, not_of, negate, next_of, binary}
-use Rattle.smv_language.specs.Tree.{choice, case_of, set_of, span, no_tree, tree_then, no_branch, branch_then, trees_from}
-use Rattle.smv_language.specs.ProgramTree.{Text, Path, Formula, DeclaredTree, members, DeclTree, AssignmentTree, SectionTree, var, ivar}
-use Rattle.smv_language.specs.ProgramTree.{frozen as frozen_section, define, constants, assign, init, invar, trans, ModuleTree, ProgramTree}
-use Rattle.smv_language.specs.Scope.{kind_in}
+use Rattle.smv_language.specs.Language.{Tree, Trees, Branches, leaf, not_of, negate, next_of, binary, choice, case_of, set_of, span}
+use Rattle.smv_language.specs.Language.{no_tree, tree_then, no_branch, branch_then, trees_from, Text, Path, Formula, DeclaredTree, members}
+use Rattle.smv_language.specs.Language.{DeclTree, AssignmentTree, SectionTree, var, ivar, frozen as frozen_section, define, constants}
+use Rattle.smv_language.specs.Language.{assign, init, invar, trans, ModuleTree, ProgramTree, kind_in, same_text}
+use Rattle.smv_language.specs.Tree.{truth as is_truth, number as is_number}
 use Rattle.fault_instructions.specs.declared.instructions.Dynamics.{Dynamics}
 use Rattle.fault_instructions.specs.declared.instructions.Dynamics.TheVariants.{Permanent, Transient}
 use Rattle.fault_instructions.specs.declared.instructions.Start.{Start}
 use Rattle.fault_instructions.specs.declared.instructions.Start.TheVariants.{Nominal, Any}
 use Rattle.fault_instructions.specs.Instructions.{EffectTree, ModeTree, SliceTree, ExtensionTree, InstructionTree, slices_of, is_affected}
-use Rattle.smv_language.specs.Texts.{same_text}
 use Rattle.fault_instructions.specs.AddedNames.{own_name, mode_variable, mode_symbol}
 use Rattle.fault_instructions.specs.Templates.{named, branch, stands, rules, first_rules}
 use Rattle.fault_instructions.specs.KindTypes.{type_of_kind}

@@ -1,11 +1,7 @@
 -- What a slice adds at an instance breaks no rule.
 use Rattle.std.proofs.Common.{◌≡◌, ℕ, Bool, true, false, List, [], ◌∷◌, flat_map, refl, sym, ap, ◌∙◌, subst}
 use Rattle.smv_language.specs.declared.expr.Op.TheVariants as op
-use Rattle.smv_language.specs.Tree.{Tree, leaf, next_of, binary}
-use Rattle.smv_language.specs.Laws.{AllLeaves}
-use Rattle.smv_language.specs.ProgramTree.{Text, Path, Formula, DeclaredTree, SectionTree, var, ivar, frozen, define, constants, assign, init, invar, trans, ModuleTree, ProgramTree}
-use Rattle.smv_language.specs.Scope.{Place, Role, state, kind_in}
-use Rattle.smv_language.specs.Trace.{Each, IsInstance, IsVariable}
+use Rattle.smv_language.specs.Language.{Tree, leaf, next_of, binary, AllLeaves, Text, Path, Formula, DeclaredTree, SectionTree, var, ivar, frozen, define, constants, assign, init, invar, trans, ModuleTree, ProgramTree, Place, Role, state, kind_in, Each, IsInstance, IsVariable, FlatLeaf, flat_variable, FlatModel}
 use Rattle.fault_instructions.specs.Instructions.{ModeTree, SliceTree, InstructionTree, slices_of}
 use Rattle.fault_instructions.specs.AddedNames.{mode_variable}
 use Rattle.fault_instructions.specs.Templates.{rules}
@@ -17,7 +13,6 @@ use Rattle.fault_instructions.proofs.AmongLaws.{each_all}
 use Rattle.fault_rules.specs.Sites.{item_sites}
 use Rattle.fault_rules.specs.Rules.{broken_at}
 use Rattle.fault_rules.specs.FirstBroken.{AllKept}
-use Rattle.smv_language.specs.Flat.{FlatLeaf, flat_variable, FlatModel}
 use Rattle.smv_flat_laws.specs.Items.{Item, items_of_section}
 use Rattle.smv_flat_laws.specs.Rules.{IsWalkable}
 use Rattle.smv_flat_laws.specs.Model.{plain, now_among, next_among, IsFlatOf}

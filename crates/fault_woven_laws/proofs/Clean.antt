@@ -5,9 +5,8 @@ use Rattle.smv_language.specs.declared.expr.Op.{Op}
 use Rattle.smv_language.specs.declared.expr.Op.TheVariants as op
 use Rattle.smv_language.specs.declared.program.Member.{Member}
 use Rattle.smv_language.specs.declared.program.Member.TheVariants as member
-use Rattle.smv_language.specs.Tree.{Branches, truth as is_truth, number as is_number, not_of, negate, binary, choice, trees_from}
-use Rattle.smv_language.specs.ProgramTree.{Text, Path, Formula, DeclaredTree, boolean, range, members, instance}
-use Rattle.smv_language.specs.Trace.{Each, value_of_member}
+use Rattle.smv_language.specs.Language.{Branches, not_of, negate, binary, choice, trees_from, Text, Path, Formula, DeclaredTree, boolean, range, members, instance, Each, value_of_member}
+use Rattle.smv_language.specs.Tree.{truth as is_truth, number as is_number}
 use Rattle.smv_flat_laws.specs.NameResolution.{leaves_in, branches_leaves, trees_leaves, has_next, branches_have_next, trees_have_next}
 use Rattle.smv_flat_laws.proofs.Conditions.{each_join}
 use Rattle.fault_instructions.specs.declared.instructions.Dynamics.{Dynamics}

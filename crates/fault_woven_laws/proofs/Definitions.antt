@@ -1,11 +1,8 @@
 -- What names and definitions of a program are judged as in its flat model and in that of the woven program.
 use Rattle.std.proofs.Common.{◌≡◌, ℕ, zero, suc, ◌<◌, ◌≤◌, arith, Bool, false, List, [], ◌∷◌, Option, Some, None, refl, sym, ap, ◌∙◌, subst}
 use Rattle.std.specs.Prelude.{slice_get}
-use Rattle.smv_language.specs.Tree.{Tree}
-use Rattle.smv_language.specs.Laws.{AllLeaves}
-use Rattle.smv_language.specs.ProgramTree.{Text, Path, Formula, DeclaredTree, ModuleTree, ProgramTree, IsType}
-use Rattle.smv_language.specs.Scope.{Place, Role, Key, define_key, actual_key, Kind as NameKind, a_formal, a_variable, a_define, an_instance, undeclared, kind_in, kind_at as name_kind_at, kind_in_sections, module_at, actual_of_kind, Meaning, a_variable_at, an_expression_at, an_instance_at, a_symbol, Means}
-use Rattle.smv_language.specs.Trace.{Each, IsInstance, IsVariable}
+use Rattle.smv_language.specs.Language.{Tree, AllLeaves, Text, Path, Formula, DeclaredTree, ModuleTree, ProgramTree, IsType, Place, Role, Key, define_key, actual_key, Kind as NameKind, a_formal, a_variable, an_instance, undeclared, kind_in, kind_at as name_kind_at, kind_in_sections, module_at, actual_of_kind, Meaning, a_variable_at, an_expression_at, an_instance_at, Means, Each, IsInstance, IsVariable, FlatLeaf, flat_variable, flat_symbol, flat_definition, FlatFormula, FlatModel}
+use Rattle.smv_language.specs.Scope.{a_define, a_symbol}
 use Rattle.fault_instructions.specs.Instructions.{SliceTree, InstructionTree, slices_of}
 use Rattle.fault_weave.specs.WovenProgram.{added_sections, woven}
 use Rattle.fault_instructions.specs.KindTypes.{type_of_kind}
@@ -13,7 +10,6 @@ use Rattle.fault_instructions.specs.Weavable.{Among, IsLawfulSlice, IsWeavable}
 use Rattle.fault_weave.proofs.WovenKinds.{kind_or, IsPlain, added_plain}
 use Rattle.fault_weave.proofs.Meanings.{Kept, kind_kept, module_woven, same_meaning}
 use Rattle.fault_weave.proofs.LeafValues.{kind_at_woven, read_variable}
-use Rattle.smv_language.specs.Flat.{FlatLeaf, flat_variable, flat_symbol, flat_definition, FlatFormula, FlatModel}
 use Rattle.smv_flat_laws.specs.NameResolution.{leaves_in, Definition, StandsFor, IsLeafOf, Resolver, IsSound, IsResolved, IsBefore}
 use Rattle.smv_flat_laws.specs.Rules.{expression_of_kind, expression_in, expression_of, IsWalkable}
 use Rattle.smv_flat_laws.specs.Model.{IsVariableNumber, IsDefinitionOf, IsFlatOf}

@@ -2,11 +2,8 @@
 use Rattle.std.proofs.Common.{◌≡◌, ◌⊎◌, inl, inr, Bool, true, false, List, [], ◌∷◌, ◌++◌, map, flat_map, Some, ℤ, int_lt, refl, ap, sym, ◌∙◌, subst}
 use Rattle.smv_language.specs.declared.program.Member.{Member}
 use Rattle.smv_language.specs.declared.program.Member.TheVariants as member
-use Rattle.smv_language.specs.Laws.{AllLeaves, AllLeavesOfTrees}
-use Rattle.smv_language.specs.ProgramTree.{Text, Path, DeclaredTree, boolean, range, members, instance}
-use Rattle.smv_language.specs.Texts.{same_text}
-use Rattle.smv_language.specs.Values.{Value, truth, number, symbol, same_int}
-use Rattle.smv_language.specs.Trace.{Each, is_member, in_domain, value_of_member}
+use Rattle.smv_language.specs.Language.{AllLeaves, AllLeavesOfTrees, Text, Path, DeclaredTree, boolean, range, members, instance, same_text, Value, symbol, same_int, Each, is_member, in_domain, value_of_member}
+use Rattle.smv_language.specs.Values.{truth, number}
 use Rattle.smv_language.proofs.ValueLaws.{both_true, same_text_equal, same_int_equal}
 use Rattle.fault_instructions.specs.Templates.{value_tree, member_trees, domain_tree}
 use Rattle.smv_type_laws.specs.Intervals.{Interval, just, fits_number, fits}

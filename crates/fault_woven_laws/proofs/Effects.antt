@@ -2,11 +2,8 @@
 use Rattle.std.proofs.Common.{◌≡◌, Bool, true, false, [], ◌∷◌, Option, Some, None, ℤ, ◌+ℤ◌, ◌-ℤ◌, refl, ap, ◌∙◌}
 use Rattle.std.specs.Prelude.{◌&&◌, IsTrue}
 use Rattle.smv_language.specs.declared.expr.Op.TheVariants as op
-use Rattle.smv_language.specs.Tree.{next_of, binary}
-use Rattle.smv_language.specs.Laws.{AllLeaves}
-use Rattle.smv_language.specs.ProgramTree.{Text, Path, Formula, DeclaredTree, boolean, range, members, instance, SectionTree, init, invar, trans}
-use Rattle.smv_language.specs.Values.{number, at_most, is_between}
-use Rattle.smv_language.specs.Trace.{Each, in_domain}
+use Rattle.smv_language.specs.Language.{next_of, binary, AllLeaves, Text, Path, Formula, DeclaredTree, boolean, range, members, instance, SectionTree, init, invar, trans, at_most, is_between, Each, in_domain}
+use Rattle.smv_language.specs.Values.{number}
 use Rattle.smv_language.proofs.ValueLaws.{both_true}
 use Rattle.fault_instructions.specs.declared.instructions.Start.{Start}
 use Rattle.fault_instructions.specs.declared.instructions.Start.TheVariants.{Nominal, Any}

@@ -2,10 +2,8 @@
 use Rattle.std.proofs.Common.{arith, ◌≡◌, refl, [], ◌∷◌, Some, pos, codes}
 use Rattle.smv_language.specs.declared.expr.Op.TheVariants as op
 use Rattle.smv_language.specs.declared.program.Member.TheVariants as member
-use Rattle.smv_language.specs.ProgramTree.{range, members}
-use Rattle.smv_language.specs.Scope.{state}
-use Rattle.smv_language.specs.Tree.{Tree, leaf, number, binary}
-use Rattle.smv_language.specs.Flat.{FlatLeaf, flat_variable, FlatModel}
+use Rattle.smv_language.specs.Language.{range, members, state, Tree, leaf, binary, FlatLeaf, flat_variable, FlatModel}
+use Rattle.smv_language.specs.Tree.{number}
 use Rattle.smv_flat_laws.specs.History.{Mode, with_history}
 use Rattle.smv_type_laws.specs.ExpressionKinds.{not_boolean}
 use Rattle.smv_type_laws.specs.Models.{top_fault}

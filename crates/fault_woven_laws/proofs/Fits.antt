@@ -4,11 +4,8 @@ use Rattle.std.specs.Prelude.{nat_lt}
 use Rattle.std.proofs.lemmas.Bool.{ltb-false, false_from_ne_true as not_true}
 use Rattle.std.proofs.lemmas.List.{length-append}
 use Rattle.base_values.specs.declared.limits.TheConstants.{MOST_TOP_COST}
-use Rattle.smv_language.specs.Tree.{Tree, Trees, Branches, truth as is_truth, number as is_number, leaf, not_of, negate, next_of, binary, choice, case_of, set_of, span, no_tree, tree_then, no_branch, branch_then}
-use Rattle.smv_language.specs.Leaves.{tree_map, trees_map, branches_map}
-use Rattle.smv_language.specs.ProgramTree.{Path, Formula, ProgramTree}
-use Rattle.smv_language.specs.Scope.{Place}
-use Rattle.smv_language.specs.Flat.{FlatLeaf, FlatVariable, FlatModel}
+use Rattle.smv_language.specs.Language.{Tree, Trees, Branches, leaf, not_of, negate, next_of, binary, choice, case_of, set_of, span, no_tree, tree_then, no_branch, branch_then, tree_map, trees_map, branches_map, Path, Formula, ProgramTree, Place, FlatLeaf, FlatVariable, FlatModel}
+use Rattle.smv_language.specs.Tree.{truth as is_truth, number as is_number}
 use Rattle.smv_flat_laws.specs.History.{Mode, bit_variables, with_history}
 use Rattle.smv_flat_laws.specs.NameResolution.{leaves_in, has_next, trees_have_next, branches_have_next, Resolver, IsSound, IsResolved}
 use Rattle.smv_flat_laws.specs.Rules.{next_here, input_here, IsAccepted, GivesInput}

@@ -1,11 +1,7 @@
 -- A model breaks no rule where its variables, its definitions and the conditions at its instances do not.
 use Rattle.std.proofs.Common.{◌≡◌, ◌↔◌, ℕ, arith, false, List, [], ◌∷◌, ◌++◌, flat_map, Some, refl, sym, ap, ◌∙◌, subst}
 use Rattle.std.specs.Prelude.{slice_get}
-use Rattle.smv_language.specs.Tree.{Tree}
-use Rattle.smv_language.specs.ProgramTree.{ModuleTree, ProgramTree}
-use Rattle.smv_language.specs.Scope.{Place, find_module}
-use Rattle.smv_language.specs.Trace.{Each, IsInstance, EachBoth}
-use Rattle.smv_language.specs.Flat.{FlatLeaf, FlatInstance, FlatVariable, FlatFormula, FlatModel}
+use Rattle.smv_language.specs.Language.{Tree, ModuleTree, ProgramTree, Place, find_module, Each, IsInstance, EachBoth, FlatLeaf, FlatInstance, FlatVariable, FlatFormula, FlatModel}
 use Rattle.smv_flat_laws.specs.Items.{Item, NumberedItem, items_of, items_named, instances_of}
 use Rattle.smv_flat_laws.specs.NameResolution.{Resolver}
 use Rattle.smv_flat_laws.specs.Rules.{IsWalkable}

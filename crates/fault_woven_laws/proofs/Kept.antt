@@ -3,10 +3,7 @@ use Rattle.std.proofs.Common.{◌≡◌, ◌⊎◌, inl, inr, ℕ, Bool, true, f
 use Rattle.std.specs.Prelude.{if◌then◌else◌}
 use Rattle.smv_language.specs.declared.program.Moment.{Moment}
 use Rattle.smv_language.specs.declared.program.Moment.TheVariants.{Always, First, After}
-use Rattle.smv_language.specs.Tree.{Tree}
-use Rattle.smv_language.specs.ProgramTree.{Text, Path, Formula, DeclaredTree, boolean, range, members, instance, ModuleTree, ProgramTree, IsType}
-use Rattle.smv_language.specs.Scope.{Place, state, a_variable, kind_declared, kind_at as name_kind_at, module_at}
-use Rattle.smv_language.specs.Trace.{Each, IsInstance, IsVariable}
+use Rattle.smv_language.specs.Language.{Tree, Text, Path, Formula, DeclaredTree, boolean, range, members, instance, ModuleTree, ProgramTree, IsType, Place, state, a_variable, kind_declared, kind_at as name_kind_at, module_at, Each, IsInstance, IsVariable, FlatLeaf, flat_variable, FlatModel}
 use Rattle.fault_instructions.specs.Instructions.{SliceTree, InstructionTree, slices_of, is_affected}
 use Rattle.fault_instructions.specs.AddedNames.{own_name}
 use Rattle.fault_weave.specs.WovenProgram.{tree_map_both, rename, same_path, woven}
@@ -14,7 +11,6 @@ use Rattle.fault_instructions.specs.KindTypes.{type_of_kind}
 use Rattle.fault_instructions.specs.Weavable.{Among, IsLawfulSlice, IsWeavable}
 use Rattle.fault_weave.proofs.Added.{affected_slice}
 use Rattle.fault_weave.proofs.LeafValues.{own_variable}
-use Rattle.smv_language.specs.Flat.{FlatLeaf, flat_variable, FlatModel}
 use Rattle.smv_flat_laws.specs.Items.{Item, a_declaration, a_definition, an_assignment, some_constants, an_init, an_invar, a_trans}
 use Rattle.smv_flat_laws.specs.NameResolution.{IsResolved}
 use Rattle.smv_flat_laws.specs.Rules.{IsWalkable}

@@ -1,12 +1,8 @@
 -- The kinds of a program's names, by what resolves them in its flat model.
 use Rattle.std.proofs.Common.{◌≡◌, ℕ, zero, suc, ◌+◌, arith, Bool, false, List, [], ◌∷◌, ◌++◌, length, Option, Some, None, refl, sym, ap, ◌∙◌, subst}
 use Rattle.std.specs.Prelude.{slice_get, codes}
-use Rattle.smv_language.specs.Tree.{Tree, Trees, Branches, truth as is_truth, number as is_number, leaf, not_of, negate, next_of, binary, choice, case_of, set_of, span, no_tree, tree_then, no_branch, branch_then}
-use Rattle.smv_language.specs.Laws.{AllLeaves, AllLeavesOfTrees, AllLeavesOfBranches}
-use Rattle.smv_language.specs.ProgramTree.{Text, Path, Formula, DeclaredTree, ModuleTree, ProgramTree}
-use Rattle.smv_language.specs.Scope.{Place, Role, find_module}
-use Rattle.smv_language.specs.Trace.{Each, IsVariable}
-use Rattle.smv_language.specs.Flat.{FlatLeaf, flat_variable, flat_symbol, flat_definition, FlatVariable, FlatFormula, FlatModel}
+use Rattle.smv_language.specs.Language.{Tree, Trees, Branches, leaf, not_of, negate, next_of, binary, choice, case_of, set_of, span, no_tree, tree_then, no_branch, branch_then, AllLeaves, AllLeavesOfTrees, AllLeavesOfBranches, Text, Path, Formula, DeclaredTree, ModuleTree, ProgramTree, Place, Role, find_module, Each, IsVariable, FlatLeaf, flat_variable, flat_symbol, flat_definition, FlatVariable, FlatFormula, FlatModel}
+use Rattle.smv_language.specs.Tree.{truth as is_truth, number as is_number}
 use Rattle.smv_flat_laws.specs.Items.{Visit, visits, variables_of}
 use Rattle.smv_flat_laws.specs.NameResolution.{leaves_in, IsResolved, IsBefore}
 use Rattle.smv_flat_laws.specs.Rules.{IsWalkable}

@@ -2,9 +2,8 @@
 -- added variables and symbols.
 use Rattle.std.proofs.Common.{◌≡◌, inl, inr, ℕ, zero, suc, Bool, true, false, List, [], ◌∷◌, ◌++◌, Option, Some, None, refl, sym, ◌∙◌, ap, subst}
 use Rattle.std.specs.Prelude.{IsTrue, option_map, flat_map, if◌then◌else◌}
-use Rattle.smv_language.specs.ProgramTree.{Text, Path, Formula, DeclaredTree, boolean, range, members, instance, ModuleTree, ProgramTree, IsType}
-use Rattle.smv_language.specs.Texts.{same_text}
-use Rattle.smv_language.specs.Scope.{Place, state, input, frozen_role, Key, define_key, actual_key, Kind, a_formal, a_variable, a_define, an_instance, undeclared, kind_declared, kind_in_sections, kind_in, kind_at, module_at, actual_of_kind, is_symbol, Meaning, a_variable_at, an_expression_at, an_instance_at, a_symbol, LookUp, plain_name, through_plain, through_actual, through_formal, by_kind, means_in, Means}
+use Rattle.smv_language.specs.Language.{Text, Path, Formula, DeclaredTree, boolean, range, members, instance, ModuleTree, ProgramTree, IsType, same_text, Place, state, input, frozen_role, Key, define_key, actual_key, Kind, a_formal, a_variable, an_instance, undeclared, kind_declared, kind_in_sections, kind_in, kind_at, module_at, actual_of_kind, is_symbol, Meaning, a_variable_at, an_expression_at, an_instance_at, LookUp, plain_name, through_plain, through_actual, through_formal, by_kind, means_in, Means}
+use Rattle.smv_language.specs.Scope.{a_define, a_symbol}
 use Rattle.smv_flat_laws.specs.Looks.{Look, at_actual, plain_of, step_formal, step_kind, step_of, step_on, look_after, ComesBack, MeansNothing}
 use Rattle.smv_flat_laws.specs.Rules.{HasNoValue, nothing, only_an_instance, expression_of_kind, expression_in, expression_of, Needs, Leads, is_input_kind, MeansInput, GivesInput}
 use Rattle.fault_instructions.specs.Instructions.{SliceTree, InstructionTree, slices_of}

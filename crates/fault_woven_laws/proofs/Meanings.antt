@@ -1,10 +1,9 @@
 -- An expression that is read over the program and over what is woven of it means the same in both.
 use Rattle.std.proofs.Common.{◌↔◌, []}
-use Rattle.smv_language.specs.May.{May}
+use Rattle.smv_language.specs.Language.{May, FlatMay}
 use Rattle.fault_weave.specs.WovenProgram.{woven}
 use Rattle.fault_instructions.specs.Weavable.{HasMeaning}
 use Rattle.fault_weave.proofs.Agreement.{may_agree}
-use Rattle.smv_language.specs.Flat.{FlatMay}
 use Rattle.smv_flat_laws.specs.NameResolution.{IsLeafOf, Resolver, IsSound, IsResolved}
 use Rattle.smv_type_laws.specs.Laws.{values_by_number}
 use Rattle.smv_type_laws.proofs.AnyResolver.{may_by}

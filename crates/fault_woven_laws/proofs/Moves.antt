@@ -1,10 +1,7 @@
 -- What the cases of a slice are judged as: how its mode moves, and what is read.
 use Rattle.std.proofs.Common.{◌≡◌, true, false, map, List, [], ◌∷◌, Option, Some, None, refl}
 use Rattle.smv_language.specs.declared.expr.Op.TheVariants as op
-use Rattle.smv_language.specs.Tree.{Branches, binary, choice, case_of, no_branch, branch_then, trees_from}
-use Rattle.smv_language.specs.Laws.{AllLeaves, AllLeavesOfTrees, AllLeavesOfBranches}
-use Rattle.smv_language.specs.ProgramTree.{Text, Path, Formula, DeclaredTree}
-use Rattle.smv_language.specs.Trace.{Each}
+use Rattle.smv_language.specs.Language.{Branches, binary, choice, case_of, no_branch, branch_then, trees_from, AllLeaves, AllLeavesOfTrees, AllLeavesOfBranches, Text, Path, Formula, DeclaredTree, Each}
 use Rattle.fault_instructions.specs.declared.instructions.Dynamics.{Dynamics}
 use Rattle.fault_instructions.specs.declared.instructions.Dynamics.TheVariants.{Permanent, Transient}
 use Rattle.fault_instructions.specs.declared.instructions.Start.{Start}

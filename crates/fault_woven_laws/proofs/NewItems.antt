@@ -6,12 +6,8 @@ use Rattle.smv_language.specs.declared.program.Member.{Member}
 use Rattle.smv_language.specs.declared.program.Member.TheVariants as member
 use Rattle.smv_language.specs.declared.program.Moment.{Moment}
 use Rattle.smv_language.specs.declared.program.Moment.TheVariants.{Always, First, After}
-use Rattle.smv_language.specs.Tree.{binary}
-use Rattle.smv_language.specs.ProgramTree.{Text, Path, Formula, DeclaredTree, boolean, range, members, instance, ModuleTree, ProgramTree, IsType}
-use Rattle.smv_language.specs.Values.{Value, truth, number, symbol}
-use Rattle.smv_language.specs.Texts.{same_text}
-use Rattle.smv_language.specs.Scope.{Place, state, a_variable, undeclared, kind_in, kind_at, module_at, is_symbol, is_symbol_of_members}
-use Rattle.smv_language.specs.Trace.{Each, AtSome, IsInstance, in_domain, is_member}
+use Rattle.smv_language.specs.Language.{binary, Text, Path, Formula, DeclaredTree, boolean, range, members, instance, ModuleTree, ProgramTree, IsType, Value, symbol, same_text, Place, state, a_variable, undeclared, kind_in, kind_at, module_at, is_symbol, is_symbol_of_members, Each, AtSome, IsInstance, in_domain, is_member}
+use Rattle.smv_language.specs.Values.{truth, number}
 use Rattle.smv_language.proofs.ValueLaws.{same_text_refl, same_text_equal}
 use Rattle.smv_flat_laws.specs.Items.{a_declaration, an_assignment, an_init, a_trans}
 use Rattle.smv_flat_laws.specs.NameResolution.{leaves_in, has_next}

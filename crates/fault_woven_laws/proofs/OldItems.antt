@@ -3,9 +3,8 @@ use Rattle.std.proofs.Common.{◌≡◌, inl, inr, ℕ, suc, Bool, true, false, 
 use Rattle.std.specs.Prelude.{IsTrue, option_map, if◌then◌else◌}
 use Rattle.smv_language.specs.declared.program.Moment.{Moment}
 use Rattle.smv_language.specs.declared.program.Moment.TheVariants.{Always, First, After}
-use Rattle.smv_language.specs.ProgramTree.{Text, Path, Formula, DeclaredTree, boolean, range, members, instance, ModuleTree, ProgramTree, IsType}
-use Rattle.smv_language.specs.Scope.{Place, Role, state, Kind, a_formal, a_variable, a_define, an_instance, undeclared, kind_declared, kind_in, kind_at, module_at, find_module, plain_name, define_key, actual_key}
-use Rattle.smv_language.specs.Trace.{AtSome, IsInstance}
+use Rattle.smv_language.specs.Language.{Text, Path, Formula, DeclaredTree, boolean, range, members, instance, ModuleTree, ProgramTree, IsType, Place, Role, state, Kind, a_formal, a_variable, an_instance, undeclared, kind_declared, kind_in, kind_at, module_at, find_module, plain_name, define_key, actual_key, AtSome, IsInstance}
+use Rattle.smv_language.specs.Scope.{a_define}
 use Rattle.smv_flat_laws.specs.Items.{Item, a_declaration, a_definition, an_assignment, some_constants, an_init, an_invar, a_trans}
 use Rattle.smv_flat_laws.specs.NameResolution.{leaves_in}
 use Rattle.smv_flat_laws.specs.Rules.{HasNoValue, SomeHasNoValue, ActualHasNoMeaning, BreaksNames, may_be_assigned, is_target, ActualLoops, LoopsInside, BreaksLoops, leaves_under, is_later, breaks_next, GivesInput, inputs_judged, BreaksInputs, BreaksTarget}

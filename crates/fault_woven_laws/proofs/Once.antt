@@ -4,9 +4,7 @@ use Rattle.std.specs.Prelude.{IsTrue, if◌then◌else◌}
 use Rattle.std.proofs.lemmas.Grind.{flat_map-append}
 use Rattle.smv_language.specs.declared.program.Moment.{Moment}
 use Rattle.smv_language.specs.declared.program.Moment.TheVariants.{Always, First, After}
-use Rattle.smv_language.specs.ProgramTree.{Text, Path, AssignmentTree, ModuleTree, ProgramTree}
-use Rattle.smv_language.specs.Scope.{Place, state, a_variable, undeclared, kind_in, kind_at}
-use Rattle.smv_language.specs.Trace.{Each, AtSome, IsInstance}
+use Rattle.smv_language.specs.Language.{Text, Path, AssignmentTree, ModuleTree, ProgramTree, Place, state, a_variable, undeclared, kind_in, kind_at, Each, AtSome, IsInstance}
 use Rattle.smv_flat_laws.specs.Items.{Item, a_declaration, a_definition, an_assignment, some_constants, an_init, an_invar, a_trans, items_of}
 use Rattle.smv_flat_laws.specs.Rules.{may_be_assigned, is_target, at_one_time, Assigns, BreaksOnce}
 use Rattle.smv_flat_laws.proofs.Lists.{each_more, each_map}

@@ -1,12 +1,10 @@
 -- The kinds of single names, and of expressions with their occurrences renamed.
 use Rattle.std.proofs.Common.{◌≡◌, ℕ, zero, suc, Bool, true, false, [], ◌∷◌, Some, None, refl, ap, ◌∙◌, subst}
 use Rattle.std.specs.Prelude.{if◌then◌else◌}
-use Rattle.smv_language.specs.Tree.{Tree, Trees, Branches, truth as is_truth, number as is_number, leaf, not_of, negate, next_of, binary, choice, case_of, set_of, span, no_tree, tree_then, no_branch, branch_then}
-use Rattle.smv_language.specs.Laws.{AllLeaves, AllLeavesOfTrees, AllLeavesOfBranches}
-use Rattle.smv_language.specs.ProgramTree.{Text, DeclaredTree, ProgramTree}
-use Rattle.smv_language.specs.Scope.{Place, Role, a_variable, undeclared, kind_at as name_kind_at, module_at, Meaning, a_variable_at, a_symbol, means_in, is_symbol}
+use Rattle.smv_language.specs.Language.{Tree, Trees, Branches, leaf, not_of, negate, next_of, binary, choice, case_of, set_of, span, no_tree, tree_then, no_branch, branch_then, AllLeaves, AllLeavesOfTrees, AllLeavesOfBranches, Text, DeclaredTree, ProgramTree, Place, Role, a_variable, undeclared, kind_at as name_kind_at, module_at, Meaning, a_variable_at, means_in, is_symbol, FlatModel}
+use Rattle.smv_language.specs.Tree.{truth as is_truth, number as is_number}
+use Rattle.smv_language.specs.Scope.{a_symbol}
 use Rattle.fault_weave.specs.WovenProgram.{tree_map_both, trees_map_both, branches_map_both}
-use Rattle.smv_language.specs.Flat.{FlatModel}
 use Rattle.smv_flat_laws.specs.NameResolution.{StandsFor, IsLeafOf, Resolver, IsSound}
 use Rattle.smv_flat_laws.specs.Rules.{IsWalkable}
 use Rattle.smv_flat_laws.specs.Model.{IsFlatOf}

@@ -2,17 +2,12 @@
 use Rattle.std.proofs.Common.{◌≡◌, ◌⊎◌, inl, inr, ℕ, zero, suc, Bool, true, false, List, [], ◌∷◌, ◌++◌, map, flat_map, Option, Some, None, refl, sym, ap, ◌∙◌, subst}
 use Rattle.std.specs.Prelude.{slice_get, if◌then◌else◌}
 use Rattle.std.proofs.lemmas.Grind.{flat_map-append}
-use Rattle.smv_language.specs.Tree.{Tree, Trees, Branches, truth as is_truth, number as is_number, leaf, not_of, negate, next_of, binary, choice, case_of, set_of, span, no_tree, tree_then, no_branch, branch_then}
-use Rattle.smv_language.specs.Laws.{AllLeaves, AllLeavesOfTrees, AllLeavesOfBranches}
-use Rattle.smv_language.specs.Leaves.{tree_map, trees_map, branches_map}
-use Rattle.smv_language.specs.ProgramTree.{Text, Path, Formula, ModuleTree, ProgramTree}
-use Rattle.smv_language.specs.Texts.{is_among}
-use Rattle.smv_language.specs.Scope.{Place, Key, Meaning, a_variable_at, an_expression_at, an_instance_at, a_symbol}
-use Rattle.smv_language.specs.Trace.{Each, IsInstance, IsVariable}
+use Rattle.smv_language.specs.Language.{Tree, Trees, Branches, leaf, not_of, negate, next_of, binary, choice, case_of, set_of, span, no_tree, tree_then, no_branch, branch_then, AllLeaves, AllLeavesOfTrees, AllLeavesOfBranches, tree_map, trees_map, branches_map, Text, Path, Formula, ModuleTree, ProgramTree, is_among, Place, Key, Meaning, a_variable_at, an_expression_at, an_instance_at, Each, IsInstance, IsVariable, FlatLeaf, flat_variable, flat_symbol, flat_definition, FlatVariable, FlatFormula, FlatModel}
+use Rattle.smv_language.specs.Tree.{truth as is_truth, number as is_number}
+use Rattle.smv_language.specs.Scope.{a_symbol}
 use Rattle.fault_instructions.specs.Instructions.{InstructionTree, is_affected}
 use Rattle.fault_weave.specs.WovenProgram.{added_sections, woven_module, woven}
 use Rattle.fault_weave.proofs.WovenMoments.{all_instances}
-use Rattle.smv_language.specs.Flat.{FlatLeaf, flat_variable, flat_symbol, flat_definition, FlatVariable, FlatFormula, FlatModel}
 use Rattle.smv_flat_laws.specs.Items.{Item, a_declaration, a_definition, an_assignment, some_constants, an_init, an_invar, a_trans, items_of_section, items_of}
 use Rattle.smv_flat_laws.specs.Model.{first_appearances, symbols_of_item, symbols_of, Root, roots_of, IsDefinitionOf, symbols_of_module}
 use Rattle.smv_flat_laws.specs.NameResolution.{Definition, StandsFor, IsLeafOf, Resolver, IsSound, IsResolved}

@@ -1,9 +1,7 @@
 -- Where no item of instructions breaks a rule: the names that slices add are new, and slices of a module stand apart.
 use Rattle.std.proofs.Common.{◌≡◌, Bool, true, false, ◌&&◌, List, [], ◌∷◌, ◌++◌, map, refl, subst}
 use Rattle.std.specs.Prelude.{if◌then◌else◌}
-use Rattle.smv_language.specs.ProgramTree.{Text, ProgramTree}
-use Rattle.smv_language.specs.Texts.{same_text}
-use Rattle.smv_language.specs.Trace.{Each}
+use Rattle.smv_language.specs.Language.{Text, ProgramTree, same_text, Each}
 use Rattle.smv_language.proofs.ValueLaws.{same_text_refl, same_text_equal}
 use Rattle.smv_flat_laws.proofs.Lists.{each_of_map}
 use Rattle.fault_instructions.specs.Instructions.{SliceTree, ExtensionTree, InstructionTree, slices_from, slices_of}

@@ -4,12 +4,7 @@ use Rattle.std.proofs.Common.{◌≡◌, inl, inr, ℕ, suc, true, false, List, 
 use Rattle.std.specs.Prelude.{slice_get, if◌then◌else◌}
 use Rattle.smv_language.specs.declared.program.Member.{Member}
 use Rattle.smv_language.specs.declared.program.Member.TheVariants as member
-use Rattle.smv_language.specs.Tree.{Tree}
-use Rattle.smv_language.specs.Laws.{AllLeaves}
-use Rattle.smv_language.specs.ProgramTree.{Text, Path, Formula, DeclaredTree, ModuleTree, ProgramTree}
-use Rattle.smv_language.specs.Texts.{same_text}
-use Rattle.smv_language.specs.Scope.{Place, Role, state, a_variable, undeclared, kind_in, kind_at as name_kind_at, module_at, find_module, is_symbol, is_symbol_of_members, is_symbol_of_type}
-use Rattle.smv_language.specs.Trace.{Each, IsInstance, IsVariable}
+use Rattle.smv_language.specs.Language.{Tree, AllLeaves, Text, Path, Formula, DeclaredTree, ModuleTree, ProgramTree, same_text, Place, Role, state, a_variable, undeclared, kind_in, kind_at as name_kind_at, module_at, find_module, is_symbol, is_symbol_of_members, is_symbol_of_type, Each, IsInstance, IsVariable, FlatLeaf, FlatInstance, FlatVariable, FlatModel}
 use Rattle.smv_language.proofs.ValueLaws.{same_text_refl}
 use Rattle.fault_instructions.specs.Instructions.{ModeTree, SliceTree, InstructionTree, slices_of}
 use Rattle.fault_instructions.specs.AddedNames.{own_name, mode_variable, mode_symbol}
@@ -25,7 +20,6 @@ use Rattle.fault_rules.specs.Sites.{OwnedSlice, owned, Site, an_extension, a_sli
 use Rattle.fault_rules.specs.Rules.{target_kind, broken_at}
 use Rattle.fault_rules.specs.FirstBroken.{AllKept}
 use Rattle.fault_rules.proofs.KeptFacts.{mode_facts, instance_found}
-use Rattle.smv_language.specs.Flat.{FlatLeaf, FlatInstance, FlatVariable, FlatModel}
 use Rattle.smv_flat_laws.specs.Items.{instances_of}
 use Rattle.smv_flat_laws.specs.Rules.{IsWalkable}
 use Rattle.smv_flat_laws.specs.Model.{IsFlatOf}

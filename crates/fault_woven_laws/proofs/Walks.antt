@@ -2,10 +2,7 @@
 use Rattle.std.proofs.Common.{◌≡◌, ℕ, zero, suc, Bool, true, false, List, [], ◌∷◌, ◌++◌, length, map, flat_map, Option, Some, None, refl, sym, ◌∙◌, ap, subst}
 use Rattle.std.specs.Prelude.{codes, option_map, if◌then◌else◌}
 use Rattle.std.proofs.lemmas.Grind.{flat_map-append}
-use Rattle.smv_language.specs.ProgramTree.{Text, DeclaredTree, boolean, range, members, instance, ModuleTree, ProgramTree, IsType}
-use Rattle.smv_language.specs.Texts.{is_among}
-use Rattle.smv_language.specs.Scope.{Place, Role, find_module, is_missing}
-use Rattle.smv_language.specs.Trace.{Each}
+use Rattle.smv_language.specs.Language.{Text, DeclaredTree, boolean, range, members, instance, ModuleTree, ProgramTree, IsType, is_among, Place, Role, find_module, is_missing, Each}
 use Rattle.smv_flat_laws.specs.Items.{Item, a_declaration, a_definition, an_assignment, some_constants, an_init, an_invar, a_trans, NumberedItem, items_of, numbered_from, items_named, Visit, visits_inside, visits_of, walk_items, walk, visits, instances_of_visit, instances_of}
 use Rattle.smv_flat_laws.specs.Rules.{is_missing_instance, is_other_count, is_miscounted}
 use Rattle.smv_flat_laws.proofs.Reaches.{each_left, each_right}

@@ -1,10 +1,7 @@
 -- A woven program breaks no rule of flattening but its limits.
 use Rattle.std.proofs.Common.{◌≡◌, ℕ, true, false, List, [], ◌∷◌, ◌++◌, map, flat_map, Some, refl, sym, ◌∙◌, ap, subst}
 use Rattle.std.specs.Prelude.{slice_get, codes, option_map}
-use Rattle.smv_language.specs.ProgramTree.{ModuleTree, ProgramTree}
-use Rattle.smv_language.specs.Scope.{Place, find_module}
-use Rattle.smv_language.specs.Trace.{Each, IsInstance}
-use Rattle.smv_language.specs.Flat.{FlatInstance}
+use Rattle.smv_language.specs.Language.{ModuleTree, ProgramTree, Place, find_module, Each, IsInstance, FlatInstance}
 use Rattle.smv_flat_laws.specs.Items.{Item, NumberedItem, items_of, items_named, Visit, visits, instances_of}
 use Rattle.smv_flat_laws.specs.Rules.{no_such_module, wrong_count, module_loop, no_such_name, not_a_target, double_assign, define_loop, next_here, input_here, too_many, Site, a_visit, a_use, visit_sites, module_sites, use_sites, sites, Breaks, IsKept, IsWithin}
 use Rattle.smv_flat_laws.proofs.Reaches.{each_left, each_right}

@@ -1,16 +1,13 @@
 -- The one fault of kinds that a woven program's flat model may have.
 use Rattle.std.proofs.Common.{◌≡◌, ℕ, true, List, [], ◌∷◌, ap, subst}
-use Rattle.smv_language.specs.ProgramTree.{ProgramTree}
+use Rattle.smv_language.specs.Language.{ProgramTree, state, Each, AtSome, IsVariable, in_domain, FlatModel}
 use Rattle.smv_language.specs.Values.{number}
-use Rattle.smv_language.specs.Scope.{state}
-use Rattle.smv_language.specs.Trace.{Each, AtSome, IsVariable, in_domain}
 use Rattle.fault_instructions.specs.Instructions.{InstructionTree, slices_of}
 use Rattle.fault_instructions.specs.AddedNames.{mode_variable}
 use Rattle.fault_weave.specs.WovenProgram.{mode_type, woven}
 use Rattle.fault_instructions.specs.Weavable.{Among}
 use Rattle.fault_weave.proofs.Added.{among_contains}
 use Rattle.fault_weave.proofs.LeafValues.{mode_variable_kind}
-use Rattle.smv_language.specs.Flat.{FlatModel}
 use Rattle.smv_flat_laws.specs.History.{Mode, with_history}
 use Rattle.smv_flat_laws.proofs.Lists.{each_more}
 use Rattle.smv_type_laws.specs.ExpressionKinds.{KindRule, too_large}

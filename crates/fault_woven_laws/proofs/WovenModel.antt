@@ -3,10 +3,8 @@ use Rattle.std.proofs.Common.{◌≡◌, ◌≢◌, ◌⊎◌, inl, inr, ℕ, su
 use Rattle.std.specs.Prelude.{slice_get, codes}
 use Rattle.std.proofs.lemmas.Option.{slice_get_within}
 use Rattle.smv_language.specs.declared.expr.Op.TheVariants as op
-use Rattle.smv_language.specs.Tree.{leaf, next_of, binary}
-use Rattle.smv_language.specs.ProgramTree.{Text, Path, Formula, DeclaredTree, boolean, range, members, instance, ModuleTree, ProgramTree, IsType}
-use Rattle.smv_language.specs.Scope.{Place, Key, Role, state, input, frozen_role, Kind as NameKind, a_formal, a_variable, a_define, an_instance, undeclared, kind_in, kind_in_sections, kind_at as name_kind_at, module_at, plain_name}
-use Rattle.smv_language.specs.Trace.{Each, IsInstance, IsVariable}
+use Rattle.smv_language.specs.Language.{leaf, next_of, binary, Text, Path, Formula, DeclaredTree, boolean, range, members, instance, ModuleTree, ProgramTree, IsType, Place, Key, Role, state, input, frozen_role, Kind as NameKind, a_formal, a_variable, an_instance, undeclared, kind_in, kind_in_sections, kind_at as name_kind_at, module_at, plain_name, Each, IsInstance, IsVariable, flat_variable, FlatInstance, FlatVariable, FlatFormula, FlatModel}
+use Rattle.smv_language.specs.Scope.{a_define}
 use Rattle.fault_instructions.specs.declared.instructions.Start.{Start}
 use Rattle.fault_instructions.specs.declared.instructions.Start.TheVariants.{Nominal, Any}
 use Rattle.fault_instructions.specs.Instructions.{EffectTree, ModeTree, SliceTree, InstructionTree, slices_of, is_affected}
@@ -25,7 +23,6 @@ use Rattle.fault_weave.proofs.WovenMoments.{all_instances}
 use Rattle.fault_rules.specs.Sites.{owned, item_sites}
 use Rattle.fault_rules.specs.Rules.{broken_at}
 use Rattle.fault_rules.specs.FirstBroken.{AllKept}
-use Rattle.smv_language.specs.Flat.{flat_variable, FlatInstance, FlatVariable, FlatFormula, FlatModel}
 use Rattle.smv_flat_laws.specs.Items.{Item, a_declaration, a_definition, an_assignment, some_constants, an_init, an_invar, a_trans, NumberedItem, items_of_section, items_of, items_named, instances_of}
 use Rattle.smv_flat_laws.specs.NameResolution.{Definition, Resolver}
 use Rattle.smv_flat_laws.specs.Rules.{IsWalkable}

@@ -1,12 +1,8 @@
 -- The guards of modes and what they follow, at each instance of their module.
 use Rattle.std.proofs.Common.{◌≡◌, ◌⊎◌, ℕ, suc, Bool, true, false, List, [], ◌∷◌, ◌++◌, map, Some, refl, subst}
 use Rattle.std.specs.Prelude.{slice_get, if◌then◌else◌}
-use Rattle.smv_language.specs.ProgramTree.{Text, ProgramTree}
-use Rattle.smv_language.specs.Texts.{same_text}
-use Rattle.smv_language.specs.Scope.{Place}
-use Rattle.smv_language.specs.Trace.{Each}
+use Rattle.smv_language.specs.Language.{Text, ProgramTree, same_text, Place, Each, FlatInstance}
 use Rattle.smv_language.proofs.ValueLaws.{same_text_refl, same_text_equal}
-use Rattle.smv_language.specs.Flat.{FlatInstance}
 use Rattle.smv_flat_laws.specs.Items.{instances_of}
 use Rattle.smv_flat_laws.specs.Rules.{Rule}
 use Rattle.smv_flat_laws.proofs.Reaches.{each_left, each_right}

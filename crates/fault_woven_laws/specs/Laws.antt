@@ -1,14 +1,12 @@
 -- The laws of kinds of a woven program, as statements.
 use Rattle.std.specs.Prelude.{◌≡◌, ℕ, List, [], Some, slice_get}
-use Rattle.smv_language.specs.ProgramTree.{Text, ProgramTree}
-use Rattle.smv_language.specs.Trace.{Each}
+use Rattle.smv_language.specs.Language.{Text, ProgramTree, Each, FlatModel}
 use Rattle.fault_instructions.specs.Instructions.{InstructionTree}
 use Rattle.fault_weave.specs.WovenProgram.{woven}
 use Rattle.fault_instructions.specs.Weavable.{IsWeavable}
 use Rattle.fault_rules.specs.Sites.{item_sites}
 use Rattle.fault_rules.specs.Rules.{broken_at}
 use Rattle.fault_rules.specs.FirstBroken.{AllKept}
-use Rattle.smv_language.specs.Flat.{FlatModel}
 use Rattle.smv_flat_laws.specs.FlatTrace.{IsModeOf}
 use Rattle.smv_flat_laws.specs.History.{Mode, with_history}
 use Rattle.smv_flat_laws.specs.Model.{IsFlatOf}

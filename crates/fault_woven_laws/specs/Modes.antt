@@ -1,11 +1,9 @@
 -- The modes whose history a model is given.
 use Rattle.std.specs.Prelude.{◌≡◌, Some, slice_get}
-use Rattle.smv_language.specs.ProgramTree.{ProgramTree}
-use Rattle.smv_language.specs.Scope.{Place}
+use Rattle.smv_language.specs.Language.{ProgramTree, Place, FlatVariable, FlatModel}
 use Rattle.fault_instructions.specs.Instructions.{SliceTree, InstructionTree}
 use Rattle.fault_instructions.specs.AddedNames.{mode_variable}
 use Rattle.fault_weave.specs.Conservative.{IsSlice}
-use Rattle.smv_language.specs.Flat.{FlatVariable, FlatModel}
 use Rattle.smv_flat_laws.specs.History.{Mode}
 use Rattle.smv_flat_laws.specs.Model.{IsVariableNumber}
 use Rattle.smv_type_laws.specs.ExpressionKinds.{symbol_class}

@@ -1,7 +1,6 @@
 -- What a weave keeps of the rules of flattening, as statements.
 use Rattle.std.specs.Prelude.{◌≡◌, ℕ}
-use Rattle.smv_language.specs.ProgramTree.{ProgramTree}
-use Rattle.smv_language.specs.Trace.{Each}
+use Rattle.smv_language.specs.Language.{ProgramTree, Each}
 use Rattle.smv_flat_laws.specs.Items.{instances_of}
 use Rattle.smv_flat_laws.specs.Looks.{ActualsMean}
 use Rattle.smv_flat_laws.specs.Rules.{Rule, too_many, Site, sites, Breaks, IsFirstBroken, IsAccepted, IsWithin}

@@ -1,17 +1,12 @@
 -- What a weave keeps of a top event, as statements.
 use Rattle.std.specs.Prelude.{◌≡◌, ◌↔◌, Bool, false, List, [], None}
-use Rattle.smv_language.specs.Tree.{Tree}
-use Rattle.smv_language.specs.ProgramTree.{Formula, ProgramTree}
-use Rattle.smv_language.specs.Scope.{Place}
-use Rattle.smv_language.specs.Values.{Value}
-use Rattle.smv_language.specs.May.{Valuation, May}
+use Rattle.smv_language.specs.Language.{Tree, Formula, ProgramTree, Place, Value, Valuation, May, FlatLeaf, FlatModel, FlatMay, EachBoth}
 use Rattle.fault_instructions.specs.Instructions.{InstructionTree}
 use Rattle.fault_weave.specs.Conservative.{IsCutMoment}
 use Rattle.fault_weave.specs.ExtensionTraces.{Moment}
 use Rattle.fault_weave.specs.Faults.{Fault, HasFaults}
 use Rattle.fault_weave.specs.WovenProgram.{woven}
 use Rattle.fault_instructions.specs.Weavable.{IsReadable, IsWeavable}
-use Rattle.smv_language.specs.Flat.{FlatLeaf, FlatModel, FlatMay}
 use Rattle.smv_flat_laws.specs.History.{Mode, with_history}
 use Rattle.smv_flat_laws.specs.Model.{IsFlatOf}
 use Rattle.smv_flat_laws.specs.ResolvedAt.{IsResolvedAt}
@@ -21,7 +16,6 @@ use Rattle.smv_type_laws.specs.Models.{top_fault}
 use Rattle.cert_laws.specs.ExtendedTraces.{IsModeOfFault, IsExtensionModel}
 use Rattle.fault_woven_laws.specs.Tops.{HaveFlatModels, IsReadAs, IsJudgedAlike, IsTopOf}
 use Rattle.smv_flat_laws.specs.ValueRules.{KeepsValue}
-use Rattle.smv_language.specs.Trace.{EachBoth}
 
 -- an expression that breaks no rule of names breaks none over the woven program
 abbrev pub WovenKeepsValues : Type 0

@@ -1,7 +1,6 @@
 -- What the passes of a copy build together.
 use Rattle.std.proofs.Common.{◌≡◌, ℕ, ◌<◌, ◌≤◌, Bool, List, refl, sym, ◌∙◌, ap, subst, arith}
-use Rattle.smv_language.specs.Trace.{Each}
-use Rattle.smv_language.specs.Flat.{FlatModel}
+use Rattle.smv_language.specs.Language.{Each, FlatModel}
 use Rattle.sat_circuits.specs.Circuit.{Circuit, after}
 use Rattle.sat_circuits.specs.Meaning.{HasTruth}
 use Rattle.sat_encoding_laws.specs.Signals.{Signal}

@@ -2,10 +2,8 @@
 use Rattle.std.proofs.Common.{◌≡◌, ℕ, ℤ, pos, false, List, [], ◌∷◌, map, flat_map, Option, Some, None, refl, sym, ◌∙◌, ap}
 use Rattle.smv_language.specs.declared.program.Member.{Member}
 use Rattle.smv_language.specs.declared.program.Member.TheVariants as member
-use Rattle.smv_language.specs.ProgramTree.{Text, DeclaredTree, boolean, range, members, instance}
-use Rattle.smv_language.specs.Tree.{trees_from}
+use Rattle.smv_language.specs.Language.{Text, DeclaredTree, boolean, range, members, instance, trees_from, FlatModel}
 use Rattle.base_values.specs.declared.domain.Domain.TheVariants as domain
-use Rattle.smv_language.specs.Flat.{FlatModel}
 use Rattle.smv_type_laws.specs.Intervals.{Interval, just, hull}
 use Rattle.smv_type_laws.specs.ExpressionKinds.{number_class, symbol_class, mixed_enum, unless_class, hull_of}
 use Rattle.smv_type_laws.specs.DeclaredKinds.{member_kind, judged_declared}

@@ -2,12 +2,9 @@
 use Rattle.std.proofs.Common.{◌≡◌, ℕ, ◌+◌, ◌≤◌, Bool, true, false, not, ◌&&◌, List, [], ◌∷◌, ◌++◌, length, drop, map, Some, refl, sym, ◌∙◌, ap, subst, arith}
 use Rattle.std.specs.Prelude.{slice_get, if◌then◌else◌}
 use Rattle.std.specs.List.{list_any}
-use Rattle.smv_language.specs.Trace.{Each}
-use Rattle.smv_language.specs.Tree.{Tree}
-use Rattle.smv_language.specs.Flat.{FlatLeaf, FlatVariable, FlatFormula, FlatModel}
+use Rattle.smv_language.specs.Language.{Each, Tree, FlatLeaf, FlatVariable, FlatFormula, FlatModel, flat_tree, formula_tree, variable_tree}
 use Rattle.smv_flat_laws.specs.NameResolution.{leaves_in}
 use Rattle.smv_language.specs.declared.model.Formula.{Formula}
-use Rattle.smv_language.specs.ModelTree.{flat_tree, formula_tree, variable_tree}
 use Rattle.sat_clauses.specs.Literal.{Literal}
 use Rattle.sat_circuits.specs.Circuit.{Circuit, fold_gates}
 use Rattle.sat_circuits.specs.Gates.{constant_lit}

@@ -3,18 +3,15 @@ use Rattle.std.proofs.Common.{◌≡◌, ℕ, ◌+◌, ◌≤◌, Bool, true, fa
 use Rattle.std.specs.Prelude.{slice_get, sum_by, if◌then◌else◌}
 use Rattle.std.proofs.lemmas.List.{drop_all, map-append}
 use Rattle.std.proofs.lemmas.List.Sums.{sum_by-cons}
-use Rattle.smv_language.specs.ProgramTree.{declared_tree}
+use Rattle.smv_language.specs.Language.{declared_tree, FlatLeaf, FlatVariable, FlatFormula, FlatModel, variable_tree, model_tree, role_of, Tree}
 use Rattle.base_values.specs.declared.domain.Domain.{Domain}
-use Rattle.smv_language.specs.Flat.{FlatLeaf, FlatVariable, FlatFormula, FlatModel}
 use Rattle.smv_language.specs.declared.model.Variable.{Variable}
 use Rattle.smv_language.specs.declared.model.FlatModel.{FlatModel as Model}
-use Rattle.smv_language.specs.ModelTree.{variable_tree, model_tree, role_of}
 use Rattle.smv_type_laws.specs.Costs.{declared_width, role_width}
 use Rattle.smv_types.specs.Types.{variable_domain}
 use Rattle.sat_circuits.specs.Circuit.{Circuit, after, fold_gates}
 use Rattle.sat_circuits.specs.Gates.{constant_lit, or_gate}
 use Rattle.sat_clauses.specs.Literal.{Literal}
-use Rattle.smv_language.specs.Tree.{Tree}
 use Rattle.smv_type_laws.specs.Models.{judged_in}
 use Rattle.sat_expressions.specs.declared.names.NamedSignals.{NamedSignals}
 use Rattle.sat_expressions.specs.declared.part.ExpressionSignal.{ExpressionSignal}

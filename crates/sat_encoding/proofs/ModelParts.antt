@@ -2,13 +2,10 @@
 use Rattle.std.proofs.Common.{◌≡◌, ℕ, ◌+◌, ◌<◌, List, [], ◌∷◌, length, get_or, drop, map, Some, sym, ◌∙◌, ap, arith}
 use Rattle.std.specs.Prelude.{slice_get}
 use Rattle.std.proofs.lemmas.Option.{same_Some}
-use Rattle.smv_language.specs.Trace.{Each}
-use Rattle.smv_language.specs.ProgramTree.{declared_tree}
+use Rattle.smv_language.specs.Language.{Each, declared_tree, FlatFormula, FlatModel, variable_tree, model_tree}
 use Rattle.base_values.specs.declared.domain.Domain.{Domain}
-use Rattle.smv_language.specs.Flat.{FlatFormula, FlatModel}
 use Rattle.smv_language.specs.declared.model.Variable.{Variable}
 use Rattle.smv_language.specs.declared.model.FlatModel.{FlatModel as Model}
-use Rattle.smv_language.specs.ModelTree.{variable_tree, model_tree}
 use Rattle.smv_type_laws.specs.Costs.{declared_width}
 use Rattle.smv_type_laws.specs.Models.{judged_variables}
 use Rattle.smv_type_laws.proofs.Typed.{placed, parts_of}

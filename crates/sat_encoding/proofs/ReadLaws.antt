@@ -1,15 +1,14 @@
 -- Asked node by node, an expression has a name that passes the test where some name of it does.
 use Rattle.std.proofs.Common.{◌≡◌, Bool, ◌||◌, List, [], ◌∷◌, ◌++◌, refl, sym, ◌∙◌, ap}
 use Rattle.std.specs.List.{list_any}
-use Rattle.smv_language.specs.Tree.{Tree, Trees, Branches, truth, number, leaf, not_of, negate, next_of, binary, choice, case_of, set_of, span, no_tree, tree_then, no_branch, branch_then}
+use Rattle.smv_language.specs.Language.{Tree, Trees, Branches, leaf, not_of, negate, next_of, binary, choice, case_of, set_of, span, no_tree, tree_then, no_branch, branch_then, flat_tree, FlatLeaf}
+use Rattle.smv_language.specs.Tree.{truth, number}
 use Rattle.std.specs.declared.boxed.Box.{Box}
 use Rattle.std.specs.declared.alloc.Global.{Global}
 use Rattle.smv_language.specs.declared.expr.Expr.{Expr}
 use Rattle.smv_language.specs.declared.expr.Expr.TheVariants.{Choice}
 use Rattle.smv_language.specs.declared.model.Flat.{Flat}
-use Rattle.smv_language.specs.ModelTree.{flat_tree}
 use Rattle.sat_expressions.proofs.Forms.{form_choice}
-use Rattle.smv_language.specs.Flat.{FlatLeaf}
 use Rattle.smv_flat_laws.specs.NameResolution.{leaves_in, trees_leaves, branches_leaves}
 use Rattle.sat_encoding.specs.Reading.{tree_any, trees_any, branches_any}
 use Rattle.smv_types.proofs.ListLaws.{or_again as or_within, or_false}

@@ -2,16 +2,13 @@
 use Rattle.std.proofs.Common.{◌≡◌, ℕ, ◌+◌, ◌^◌, ◌<◌, ◌≤◌, Bool, true, false, ◌&&◌, List, [], ◌∷◌, ◌++◌, length, set, take, drop, Some, append_assoc, refl, sym, ◌∙◌, ap, subst, arith}
 use Rattle.std.specs.Prelude.{nat_lt, slice_get, if◌then◌else◌}
 use Rattle.std.proofs.lemmas.List.{take_more_set}
-use Rattle.smv_language.specs.ProgramTree.{Text}
+use Rattle.smv_language.specs.Language.{Text, Value, model_tree, role_of, FlatModel}
 use Rattle.smv_language.specs.declared.model.Variable.{Variable}
 use Rattle.smv_types.specs.Types.{variable_domain}
 use Rattle.sat_encoding_laws.specs.Inputs.{is_input}
 use Rattle.std.proofs.lemmas.Bool.{ltb-false}
-use Rattle.smv_language.specs.Values.{Value}
 use Rattle.base_values.specs.declared.value.Value.{Value as AValue}
 use Rattle.smv_language.specs.declared.model.FlatModel.{FlatModel as Model}
-use Rattle.smv_language.specs.ModelTree.{model_tree, role_of}
-use Rattle.smv_language.specs.Flat.{FlatModel}
 use Rattle.smv_type_laws.specs.Costs.{model_cost, state_bits, role_width}
 use Rattle.smv_type_laws.specs.Models.{IsTyped}
 use Rattle.sat_clauses.specs.Assignment.{Assignment}

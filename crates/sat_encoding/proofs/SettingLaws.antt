@@ -3,14 +3,11 @@ use Rattle.std.proofs.Common.{◌≡◌, ◌⊎◌, inl, inr, ℕ, ◌+◌, ◌<
 use Rattle.std.specs.Prelude.{if◌then◌else◌}
 use Rattle.std.proofs.lemmas.List.{get_or-set_same, get_or-set_other, length-set}
 use Rattle.std.proofs.lemmas.List.Sums.{sum_by-cons}
-use Rattle.smv_language.specs.ProgramTree.{Text, declared_tree}
-use Rattle.smv_language.specs.Scope.{Role, state, input, frozen_role}
-use Rattle.smv_language.specs.Trace.{Each}
+use Rattle.smv_language.specs.Language.{Text, declared_tree, Role, state, input, frozen_role, Each, variable_tree, role_of}
 use Rattle.smv_language.specs.Values as told
 use Rattle.base_values.specs.declared.value.Value.{Value}
 use Rattle.base_values.specs.declared.value.Value.TheVariants as value
 use Rattle.smv_language.specs.declared.model.Variable.{Variable}
-use Rattle.smv_language.specs.ModelTree.{variable_tree, role_of}
 use Rattle.smv_type_laws.specs.Costs.{declared_width, role_width}
 use Rattle.smv_types.specs.Types.{StandsFor, variable_domain}
 use Rattle.sat_clauses.specs.Assignment.{Assignment}

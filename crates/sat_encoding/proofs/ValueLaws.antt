@@ -7,15 +7,12 @@ use Rattle.std.proofs.lemmas.List.{get_or_past}
 use Rattle.std.proofs.Math.Nat.{pow-succ'}
 use Rattle.smv_language.specs.declared.program.Member.{Member}
 use Rattle.smv_language.specs.declared.program.Member.TheVariants as member
-use Rattle.smv_language.specs.ProgramTree.{Text, DeclaredTree, boolean, range, members, instance, declared_tree}
-use Rattle.smv_language.specs.Scope.{Role, state, input, frozen_role}
+use Rattle.smv_language.specs.Language.{Text, DeclaredTree, boolean, range, members, instance, declared_tree, Role, state, input, frozen_role, Each, in_domain, value_of_member, Value, symbol, one, variable_tree, role_of}
 use Rattle.base_values.specs.declared.value.Value.{Value as AValue}
-use Rattle.smv_language.specs.Trace.{Each, in_domain, value_of_member}
-use Rattle.smv_language.specs.Values.{Value, truth, number, symbol, one}
+use Rattle.smv_language.specs.Values.{truth, number}
 use Rattle.base_values.specs.declared.domain.Domain.TheVariants as domain
 use Rattle.smv_flat_laws.specs.FlatTrace.{AreInDomains}
 use Rattle.smv_language.specs.declared.model.Variable.{Variable}
-use Rattle.smv_language.specs.ModelTree.{variable_tree, role_of}
 use Rattle.smv_type_laws.specs.Intervals.{Interval, just, hull, fits, fits_number}
 use Rattle.smv_type_laws.specs.ExpressionKinds.{number_class, symbol_class, mixed_enum, unless_class}
 use Rattle.smv_type_laws.specs.DeclaredKinds.{member_kind, judged_declared}

@@ -1,9 +1,8 @@
 -- What the passes over a model build: the copies of its variables and definitions, and the lists.
 use Rattle.std.specs.Prelude.{◌≡◌, ℕ, ◌+◌, ◌≤◌, Bool, not, false, ◌&&◌, List, [], if◌then◌else◌}
-use Rattle.smv_language.specs.Flat.{FlatFormula, FlatModel}
+use Rattle.smv_language.specs.Language.{FlatFormula, FlatModel, model_tree}
 use Rattle.smv_type_laws.specs.Costs.{state_bits}
 use Rattle.smv_type_laws.specs.Models.{judged_in}
-use Rattle.smv_language.specs.ModelTree.{model_tree}
 use Rattle.sat_circuits.specs.Circuit.{Circuit}
 use Rattle.sat_circuits.specs.Gates.{constant_lit}
 use Rattle.sat_encoding_laws.specs.Widths.{symbol_width}

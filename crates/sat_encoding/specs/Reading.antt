@@ -1,9 +1,8 @@
 -- Which names an expression has, asked node by node.
 use Rattle.std.specs.Prelude.{Bool, false, ◌||◌}
-use Rattle.smv_language.specs.Tree.{Tree, Trees, Branches, truth, number, leaf, not_of, negate, next_of, binary, choice, case_of, set_of}
-use Rattle.smv_language.specs.Tree.{span, no_tree, tree_then, no_branch, branch_then}
-use Rattle.smv_language.specs.Flat.{FlatLeaf}
-use Rattle.smv_language.specs.ModelTree.{variable_tree}
+use Rattle.smv_language.specs.Language.{Tree, Trees, Branches, leaf, not_of, negate, next_of, binary, choice, case_of, set_of, span}
+use Rattle.smv_language.specs.Language.{no_tree, tree_then, no_branch, branch_then, FlatLeaf, variable_tree}
+use Rattle.smv_language.specs.Tree.{truth, number}
 use Rattle.std.specs.Prelude.{map}
 use Rattle.sat_encoding_laws.specs.Inputs.{names_input}
 use Rattle.sat_encoding.specs.declared.inputs.InputReads.{InputReads}

@@ -1,17 +1,15 @@
 -- Values as the code has them beside those of the definitions, their bits in an assignment, and what is read and set.
 use Rattle.std.specs.Prelude.{◌≡◌, ◌⊎◌, ℕ, zero, suc, ◌+◌, ◌≤◌, ◌<◌, nat_lt, nat_eq, not, ◌&&◌, min, ℤ, pos, negsuc, ◌+ℤ◌, Bool, true}
 use Rattle.std.specs.Prelude.{false, Option, Some, None, List, [], ◌∷◌, slice_index_or, slice_set, map, sum_by, if◌then◌else◌}
-use Rattle.smv_language.specs.ProgramTree.{Text}
+use Rattle.smv_language.specs.Language.{Text, FlatModel, role_of, variable_tree}
 use Rattle.smv_language.specs.Values as told
 use Rattle.base_values.specs.declared.value.Value.{Value}
 use Rattle.base_values.specs.declared.value.Value.TheVariants as value
 use Rattle.base_values.specs.declared.domain.Domain.{Domain}
 use Rattle.base_values.specs.declared.domain.Domain.TheVariants as domain
-use Rattle.smv_language.specs.Flat.{FlatModel}
 use Rattle.smv_flat_laws.specs.FlatTrace.{AreInDomains}
 use Rattle.smv_types.specs.Types.{StandsFor, variable_domain}
 use Rattle.smv_language.specs.declared.model.Variable.{Variable}
-use Rattle.smv_language.specs.ModelTree.{role_of, variable_tree}
 use Rattle.smv_type_laws.specs.Intervals.{Interval}
 use Rattle.smv_type_laws.specs.Costs.{state_bits, role_width}
 use Rattle.sat_clauses.specs.Assignment.{Assignment}

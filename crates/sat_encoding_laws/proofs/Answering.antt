@@ -2,9 +2,8 @@
 use Rattle.std.proofs.Common.{◌≡◌, ℕ, zero, Bool, true, false, cond, ◌++◌, List, [], ◌∷◌, Option, Some, None, refl, sym, ◌∙◌, ap, subst, arith}
 use Rattle.smv_language.specs.declared.expr.Op.{Op}
 use Rattle.smv_language.specs.declared.expr.Op.TheVariants as op
-use Rattle.smv_language.specs.ProgramTree.{Text}
-use Rattle.smv_language.specs.Values.{Value, truth, number, symbol, Values, one, has}
-use Rattle.smv_language.specs.Evaluate.{gives_one, gives_applied, gives_binary, gives_choice}
+use Rattle.smv_language.specs.Language.{Text, Value, symbol, Values, one, has, gives_one, gives_applied, gives_binary, gives_choice}
+use Rattle.smv_language.specs.Values.{truth, number}
 use Rattle.sat_clauses.specs.Models.{TotalAssignment}
 use Rattle.smv_type_laws.specs.Intervals.{Interval}
 use Rattle.smv_type_laws.specs.ExpressionKinds.{Class, truth_class, number_class, symbol_class, KindRule, Judged, where_kept, judged_binary}

@@ -3,11 +3,8 @@ use Rattle.std.proofs.Common.{◌≡◌, inl, inr, ℕ, zero, suc, ◌+◌, ◌-
 use Rattle.std.proofs.lemmas.Bool.{leb-true, le-leb, ltb-false, and_parts}
 use Rattle.std.specs.Prelude.{slice_get, filter}
 use Rattle.std.proofs.lemmas.List.{length-map}
-use Rattle.smv_language.specs.Tree.{Tree}
-use Rattle.smv_language.specs.ProgramTree.{DeclaredTree, boolean}
-use Rattle.smv_language.specs.Trace.{Each, AtSome, in_domain}
-use Rattle.smv_language.specs.Values.{Value, truth, number, symbol}
-use Rattle.smv_language.specs.Flat.{FlatLeaf, flat_variable, FlatVariable, FlatFormula, FlatModel, Holds, FlatMay}
+use Rattle.smv_language.specs.Language.{Tree, DeclaredTree, boolean, Each, AtSome, in_domain, Value, symbol, FlatLeaf, flat_variable, FlatVariable, FlatFormula, FlatModel, Holds, FlatMay}
+use Rattle.smv_language.specs.Values.{truth, number}
 use Rattle.smv_flat_laws.specs.FlatTrace.{AreInDomains}
 use Rattle.smv_type_laws.specs.ExpressionKinds.{truth_class, not_boolean, unless_class}
 use Rattle.smv_type_laws.specs.Models.{judged_in}

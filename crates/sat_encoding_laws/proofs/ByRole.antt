@@ -1,10 +1,7 @@
 -- The bits of the state are those of state and frozen variables, and those of the inputs of input variables.
 use Rattle.std.proofs.Common.{◌≡◌, true, false, List, [], ◌∷◌, ◌++◌, refl}
 use Rattle.std.specs.Prelude.{if◌then◌else◌}
-use Rattle.smv_language.specs.ProgramTree.{Text}
-use Rattle.smv_language.specs.Scope.{Role, state, input, frozen_role}
-use Rattle.smv_language.specs.Values.{Value}
-use Rattle.smv_language.specs.Flat.{FlatVariable}
+use Rattle.smv_language.specs.Language.{Text, Role, state, input, frozen_role, Value, FlatVariable}
 use Rattle.smv_flat_laws.specs.FlatTrace.{AreInDomains}
 use Rattle.smv_type_laws.specs.LeastValues.{by_role, with_inputs}
 use Rattle.sat_encoding_laws.specs.Bits.{value_bits, bits_of}

@@ -6,11 +6,7 @@ use Rattle.std.specs.Prelude.{slice_get, sum_by, All}
 use Rattle.std.specs.List.{AllByRecursion}
 use Rattle.smv_language.specs.declared.program.Member.{Member}
 use Rattle.smv_language.specs.declared.program.Member.TheVariants as member
-use Rattle.smv_language.specs.Tree.{Tree, trees_from}
-use Rattle.smv_language.specs.ProgramTree.{DeclaredTree, boolean, range, members, instance}
-use Rattle.smv_language.specs.Scope.{Role, state, input, frozen_role}
-use Rattle.smv_language.specs.Trace.{Each}
-use Rattle.smv_language.specs.Flat.{FlatLeaf, flat_variable, flat_symbol, flat_definition, FlatVariable, FlatFormula, FlatModel}
+use Rattle.smv_language.specs.Language.{Tree, trees_from, DeclaredTree, boolean, range, members, instance, Role, state, input, frozen_role, Each, FlatLeaf, flat_variable, flat_symbol, flat_definition, FlatVariable, FlatFormula, FlatModel}
 use Rattle.smv_type_laws.specs.DeclaredKinds.{judged_declared}
 use Rattle.smv_type_laws.specs.Costs.{state_bits, declared_width, role_width, width_of}
 use Rattle.sat_clauses.specs.Literal.{Literal}

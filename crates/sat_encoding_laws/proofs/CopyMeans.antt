@@ -1,9 +1,7 @@
 -- What the copies of a model say.
 use Rattle.std.proofs.Common.{◌≡◌, ℕ, ◌+◌, Bool, List, [], length, refl, sym, ◌∙◌, ap, arith}
 use Rattle.std.specs.Prelude.{slice_get}
-use Rattle.smv_language.specs.Trace.{Each}
-use Rattle.smv_language.specs.Values.{Value}
-use Rattle.smv_language.specs.Flat.{FlatModel, Holds}
+use Rattle.smv_language.specs.Language.{Each, Value, FlatModel, Holds}
 use Rattle.smv_flat_laws.specs.FlatTrace.{AreInDomains}
 use Rattle.smv_type_laws.proofs.Typed.{parts_of, conditions_decided}
 use Rattle.sat_clauses.specs.Models.{TotalAssignment, SameBelow}

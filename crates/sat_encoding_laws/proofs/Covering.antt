@@ -1,10 +1,8 @@
 -- An invariant that excludes the bad states of listed sets shows that they cover all traces.
 use Rattle.std.proofs.Common.{◌≡◌, ◌⊎◌, inl, inr, ℕ, ◌≤◌, Bool, true, false, List, [], ◌∷◌, ◌++◌, length, refl, sym, ap, ◌∙◌, subst}
 use Rattle.std.specs.Prelude.{Contains, filter}
-use Rattle.smv_language.specs.Tree.{Tree}
-use Rattle.smv_language.specs.Values.{Value, truth}
-use Rattle.smv_language.specs.Trace.{Each, EachPair, AtSome}
-use Rattle.smv_language.specs.Flat.{FlatLeaf, FlatModel, FlatMay}
+use Rattle.smv_language.specs.Language.{Tree, Value, Each, EachPair, AtSome, FlatLeaf, FlatModel, FlatMay}
+use Rattle.smv_language.specs.Values.{truth}
 use Rattle.smv_flat_laws.specs.History.{Mode, with_history, added}
 use Rattle.smv_flat_laws.specs.FlatTrace.{IsFlatMoment, IsFlatStep, IsFlatTrace, bits_after, told_from, IsOwnFormula}
 use Rattle.smv_flat_laws.proofs.HistoryTraces.{holds_longer, history_exactly, domains_length as as_many}

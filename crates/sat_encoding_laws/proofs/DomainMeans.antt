@@ -6,13 +6,9 @@ use Rattle.std.specs.Ordering.{int_eq}
 use Rattle.std.proofs.lemmas.Bool.Decides.{Decides-int_eq}
 use Rattle.smv_language.specs.declared.program.Member.{Member}
 use Rattle.smv_language.specs.declared.program.Member.TheVariants as member
-use Rattle.smv_language.specs.ProgramTree.{Text, DeclaredTree, boolean, range, members, instance}
-use Rattle.smv_language.specs.Tree.{trees_from}
-use Rattle.smv_language.specs.Trace.{Each, is_member, in_domain}
-use Rattle.smv_language.specs.Values.{Value, truth, number, symbol, same_int}
-use Rattle.smv_language.specs.Texts.{same_text}
+use Rattle.smv_language.specs.Language.{Text, DeclaredTree, boolean, range, members, instance, trees_from, Each, is_member, in_domain, Value, symbol, same_int, same_text, FlatModel}
+use Rattle.smv_language.specs.Values.{truth, number}
 use Rattle.smv_language.proofs.ValueLaws.{same_int_equal, same_text_equal, same_text_refl, no_truth}
-use Rattle.smv_language.specs.Flat.{FlatModel}
 use Rattle.sat_clauses.specs.Literal.{Literal}
 use Rattle.sat_clauses.specs.Models.{TotalAssignment, literal_value, IsBelow}
 use Rattle.sat_circuits.specs.Circuit.{Circuit, after}

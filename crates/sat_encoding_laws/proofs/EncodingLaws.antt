@@ -1,8 +1,7 @@
 -- The laws of encoding.
 use Rattle.std.proofs.Common.{false, refl}
-use Rattle.smv_language.specs.Tree.{Tree, Trees, Branches, truth as is_truth, number as is_number, leaf, not_of, negate, next_of, binary, choice, case_of, set_of, span, no_tree, tree_then, no_branch, branch_then}
-use Rattle.smv_language.specs.Laws.{AllLeaves, AllLeavesOfTrees, AllLeavesOfBranches}
-use Rattle.smv_language.specs.Flat.{FlatLeaf, leaves_at}
+use Rattle.smv_language.specs.Language.{Tree, Trees, Branches, leaf, not_of, negate, next_of, binary, choice, case_of, set_of, span, no_tree, tree_then, no_branch, branch_then, AllLeaves, AllLeavesOfTrees, AllLeavesOfBranches, FlatLeaf, leaves_at}
+use Rattle.smv_language.specs.Tree.{truth as is_truth, number as is_number}
 use Rattle.smv_type_laws.specs.Models.{kind_of_leaf}
 use Rattle.smv_type_laws.proofs.Typed.{model_holds}
 use Rattle.sat_circuits.proofs.Extension.{Means-weaker}

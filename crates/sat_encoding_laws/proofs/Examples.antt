@@ -1,10 +1,8 @@
 -- The lists of one boolean that is false first, and keeps its value.
 use Rattle.std.proofs.Common.{arith, ◌≡◌, ℕ, false, [], ◌∷◌, refl, codes}
 use Rattle.smv_language.specs.declared.expr.Op.TheVariants as op
-use Rattle.smv_language.specs.Tree.{Tree, leaf, truth, next_of, binary}
-use Rattle.smv_language.specs.ProgramTree.{boolean}
-use Rattle.smv_language.specs.Scope.{state}
-use Rattle.smv_language.specs.Flat.{FlatLeaf, flat_variable, FlatFormula, FlatModel}
+use Rattle.smv_language.specs.Language.{Tree, leaf, next_of, binary, boolean, state, FlatLeaf, flat_variable, FlatFormula, FlatModel}
+use Rattle.smv_language.specs.Tree.{truth}
 use Rattle.sat_clauses.specs.Literal.{Literal, plain, opposite}
 use Rattle.sat_circuits.specs.Circuit.{with_gate, after, fold_gates}
 use Rattle.sat_circuits.specs.Gates.{xor_gate}

@@ -3,10 +3,7 @@ use Rattle.std.proofs.Common.{◌≡◌, inr, ℕ, zero, suc, ◌<◌, ◌^◌, 
 use Rattle.std.specs.Prelude.{slice_get, flat_map}
 use Rattle.smv_language.specs.declared.program.Member.{Member}
 use Rattle.smv_language.specs.declared.program.Member.TheVariants as member
-use Rattle.smv_language.specs.ProgramTree.{Text, DeclaredTree, boolean, range, members, instance, ModuleTree, ProgramTree}
-use Rattle.smv_language.specs.Scope.{Kind, a_variable, formal_from, kind_after_formals, kind_in_sections}
-use Rattle.smv_language.specs.Trace.{Each, IsVariable}
-use Rattle.smv_language.specs.Flat.{FlatVariable, FlatModel}
+use Rattle.smv_language.specs.Language.{Text, DeclaredTree, boolean, range, members, instance, ModuleTree, ProgramTree, Kind, a_variable, formal_from, kind_after_formals, kind_in_sections, Each, IsVariable, FlatVariable, FlatModel}
 use Rattle.smv_flat_laws.specs.Items.{a_declaration, items_of, Visit, variable_declared}
 use Rattle.smv_flat_laws.specs.Rules.{IsAccepted}
 use Rattle.smv_flat_laws.specs.Model.{symbols_of_members, symbols_of_type, symbols_of_item, symbols_of, IsFlatOf}

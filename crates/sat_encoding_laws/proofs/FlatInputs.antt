@@ -4,12 +4,9 @@ use Rattle.std.specs.Prelude.{slice_get, IsTrue, flat_map}
 use Rattle.std.specs.List.{list_any}
 use Rattle.smv_language.specs.declared.program.Moment.{Moment}
 use Rattle.smv_language.specs.declared.program.Moment.TheVariants.{Always, First, After}
-use Rattle.smv_language.specs.Tree.{Tree, Trees, Branches, truth as is_truth, number as is_number, leaf, not_of, negate, next_of, binary, choice, case_of, set_of, span, no_tree, tree_then, no_branch, branch_then}
-use Rattle.smv_language.specs.Leaves.{tree_map, trees_map, branches_map}
-use Rattle.smv_language.specs.ProgramTree.{Text, Path, Formula, DeclaredTree, boolean, range, members, instance, ModuleTree, ProgramTree}
-use Rattle.smv_language.specs.Scope.{Place, Role, state, input, frozen_role, Kind, a_variable, a_formal, a_define, an_instance, undeclared, kind_declared, kind_at, module_at, Key, Meaning, a_variable_at, an_expression_at, a_symbol, an_instance_at, Means}
-use Rattle.smv_language.specs.Trace.{Each, AtSome, IsInstance, IsVariable, EachBoth}
-use Rattle.smv_language.specs.Flat.{FlatLeaf, flat_variable, flat_symbol, flat_definition, FlatInstance, FlatVariable, FlatFormula, FlatModel}
+use Rattle.smv_language.specs.Language.{Tree, Trees, Branches, leaf, not_of, negate, next_of, binary, choice, case_of, set_of, span, no_tree, tree_then, no_branch, branch_then, tree_map, trees_map, branches_map, Text, Path, Formula, DeclaredTree, boolean, range, members, instance, ModuleTree, ProgramTree, Place, Role, state, input, frozen_role, Kind, a_variable, a_formal, an_instance, undeclared, kind_declared, kind_at, module_at, Key, Meaning, a_variable_at, an_expression_at, an_instance_at, Means, Each, AtSome, IsInstance, IsVariable, EachBoth, FlatLeaf, flat_variable, flat_symbol, flat_definition, FlatInstance, FlatVariable, FlatFormula, FlatModel}
+use Rattle.smv_language.specs.Tree.{truth as is_truth, number as is_number}
+use Rattle.smv_language.specs.Scope.{a_define, a_symbol}
 use Rattle.smv_flat_laws.specs.Items.{Item, a_declaration, a_definition, an_assignment, some_constants, an_init, an_invar, a_trans, items_of, NumberedItem, visits, variables_of, items_named, instances_of}
 use Rattle.smv_flat_laws.specs.NameResolution.{leaves_in, Definition, StandsFor, IsLeafOf, IsResolved, IsBefore}
 use Rattle.smv_flat_laws.specs.Rules.{not_a_target, input_here, leaves_under, trees_leaves_under, branches_leaves_under, is_later, inputs_judged, may_be_assigned, is_target, names_of_item, is_name_again, BreaksInputs, BreaksTarget, a_use, module_sites, visit_sites, use_sites, IsKept, is_input_kind, MeansInput, GivesInput, Leads, expression_of, IsAccepted, IsWalkable}

@@ -3,9 +3,8 @@ use Rattle.std.proofs.Common.{◌≡◌, ℕ, zero, suc, ◌+◌, ◌-◌, ◌<�
 use Rattle.std.proofs.lemmas.List.{append_assoc}
 use Rattle.std.specs.Prelude.{slice_get, slice_index_or, Contains, if◌then◌else◌}
 use Rattle.std.specs.List.{range_with_len}
-use Rattle.smv_language.specs.Values.{Value, truth}
-use Rattle.smv_language.specs.Trace.{Each, AtSome, AtLast}
-use Rattle.smv_language.specs.Flat.{FlatModel}
+use Rattle.smv_language.specs.Language.{Value, Each, AtSome, AtLast, FlatModel}
+use Rattle.smv_language.specs.Values.{truth}
 use Rattle.smv_flat_laws.specs.History.{Mode}
 use Rattle.smv_flat_laws.specs.FlatTrace.{IsFlatTrace, stands_in_some, bits_after, told_from}
 use Rattle.smv_flat_laws.proofs.Lists.{length_end}

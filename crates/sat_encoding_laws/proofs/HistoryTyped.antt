@@ -2,8 +2,7 @@
 use Rattle.std.proofs.Common.{◌≡◌, ℕ, zero, suc, ◌+◌, ◌<◌, ◌≤◌, true, false, List, [], ◌∷◌, ◌++◌, length, None, Some, refl, ◌∙◌, ap, arith}
 use Rattle.std.specs.Prelude.{slice_get}
 use Rattle.smv_language.specs.declared.expr.Op.TheVariants as op
-use Rattle.smv_language.specs.Trace.{Each}
-use Rattle.smv_language.specs.Flat.{FlatLeaf, flat_variable, flat_symbol, flat_definition, FlatVariable, FlatFormula, FlatModel}
+use Rattle.smv_language.specs.Language.{Each, FlatLeaf, flat_variable, flat_symbol, flat_definition, FlatVariable, FlatFormula, FlatModel}
 use Rattle.smv_flat_laws.specs.History.{Mode, bit_variables, bits_at_first, bits_at_step, with_history}
 use Rattle.smv_type_laws.specs.ExpressionKinds.{Class, truth_class, symbol_class, Judged, judge, judged_binary}
 use Rattle.smv_type_laws.specs.DeclaredKinds.{judged_declared}

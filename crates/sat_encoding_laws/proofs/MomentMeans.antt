@@ -1,11 +1,8 @@
 -- What a copy of a model says: the domains, and the formulas that hold.
 use Rattle.std.proofs.Common.{◌≡◌, ℕ, ◌+◌, ◌≤◌, Bool, true, false, not, cond, ◌&&◌, List, [], ◌∷◌, Option, Some, refl, sym, ◌∙◌, ap, subst, arith}
 use Rattle.std.specs.Prelude.{IsTrue}
-use Rattle.smv_language.specs.ProgramTree.{Text, DeclaredTree, boolean, range, members, instance}
-use Rattle.smv_language.specs.Trace.{Each, in_domain}
-use Rattle.smv_language.specs.Values.{Value, truth, Values, one, has}
-use Rattle.smv_language.specs.Evaluate.{evaluate}
-use Rattle.smv_language.specs.Flat.{FlatLeaf, FlatVariable, FlatFormula, FlatModel, Holds, leaves_at}
+use Rattle.smv_language.specs.Language.{Text, DeclaredTree, boolean, range, members, instance, Each, in_domain, Value, Values, one, has, evaluate, FlatLeaf, FlatVariable, FlatFormula, FlatModel, Holds, leaves_at}
+use Rattle.smv_language.specs.Values.{truth}
 use Rattle.smv_type_laws.specs.ExpressionKinds.{truth_class, not_boolean, unless_class}
 use Rattle.smv_type_laws.specs.DeclaredKinds.{judged_declared}
 use Rattle.smv_type_laws.specs.Models.{judged_in, kind_of_leaf, broken_condition, breaches_at, condition_breaches, variable_breaches}

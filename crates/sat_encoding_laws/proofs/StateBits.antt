@@ -6,12 +6,9 @@ use Rattle.std.proofs.lemmas.List.{length-append, append_assoc, append-nil}
 use Rattle.std.proofs.lemmas.List.Sums.{sum_by-cons}
 use Rattle.std.specs.Prelude.{sum_by}
 use Rattle.smv_language.specs.declared.program.Member.TheVariants as member
-use Rattle.smv_language.specs.ProgramTree.{Text, DeclaredTree, boolean, range, members, instance}
-use Rattle.smv_language.specs.Scope.{Role, state, input, frozen_role}
-use Rattle.smv_language.specs.Trace.{Each, in_domain}
-use Rattle.smv_language.specs.Values.{Value, truth, number, symbol}
+use Rattle.smv_language.specs.Language.{Text, DeclaredTree, boolean, range, members, instance, Role, state, input, frozen_role, Each, in_domain, Value, symbol, FlatVariable}
+use Rattle.smv_language.specs.Values.{truth, number}
 use Rattle.smv_language.proofs.ValueLaws.{same_text_refl, at_most_from}
-use Rattle.smv_language.specs.Flat.{FlatVariable}
 use Rattle.smv_flat_laws.specs.FlatTrace.{AreInDomains}
 use Rattle.smv_type_laws.specs.DeclaredKinds.{judged_declared}
 use Rattle.smv_type_laws.specs.Intervals.{Interval}

@@ -1,9 +1,6 @@
 -- The clause lists of a model mean it.
 use Rattle.std.proofs.Common.{◌≡◌, ℕ, ◌+◌, Bool, true, false, not, cond, ◌&&◌, ◌++◌, List, [], ◌∷◌, length, refl, sym, ◌∙◌, subst, arith}
-use Rattle.smv_language.specs.Trace.{Each}
-use Rattle.smv_language.specs.Laws.{AllLeaves}
-use Rattle.smv_language.specs.Values.{Value}
-use Rattle.smv_language.specs.Flat.{FlatLeaf, FlatVariable, FlatFormula, FlatModel, Holds}
+use Rattle.smv_language.specs.Language.{Each, AllLeaves, Value, FlatLeaf, FlatVariable, FlatFormula, FlatModel, Holds}
 use Rattle.smv_flat_laws.specs.FlatTrace.{AreInDomains, IsFlatMoment, IsFlatStep}
 use Rattle.smv_type_laws.specs.Models.{judged_in}
 use Rattle.smv_type_laws.specs.Costs.{state_bits}

@@ -4,10 +4,8 @@ use Rattle.std.proofs.lemmas.Int.{ints, clamps}
 use Rattle.std.specs.Prelude.{slice_get}
 use Rattle.smv_language.specs.declared.program.Member.{Member}
 use Rattle.smv_language.specs.declared.program.Member.TheVariants as member
-use Rattle.smv_language.specs.ProgramTree.{Text, DeclaredTree, boolean, range, members, instance}
-use Rattle.smv_language.specs.Trace.{Each, is_member, in_domain}
-use Rattle.smv_language.specs.Values.{Value, truth, number, symbol, same_int, opposite as other}
-use Rattle.smv_language.specs.Texts.{same_text}
+use Rattle.smv_language.specs.Language.{Text, DeclaredTree, boolean, range, members, instance, Each, is_member, in_domain, Value, symbol, same_int, opposite as other, same_text}
+use Rattle.smv_language.specs.Values.{truth, number}
 use Rattle.smv_language.proofs.ValueLaws.{same_int_equal, same_text_equal, same_text_refl, no_truth, not_less}
 use Rattle.sat_clauses.specs.Literal.{Literal}
 use Rattle.sat_clauses.specs.Models.{TotalAssignment}

@@ -1,9 +1,8 @@
 -- A variable's signal has the value that its bits spell.
 use Rattle.std.proofs.Common.{◌≡◌, ◌⊎◌, inl, inr, ℕ, ◌+◌, ◌<◌, ◌≤◌, Bool, true, false, ℤ, pos, negsuc, List, [], Option, Some, None, refl, sym, ◌∙◌, ap, subst, arith}
 use Rattle.std.specs.Prelude.{slice_get}
-use Rattle.smv_language.specs.ProgramTree.{Text, DeclaredTree, boolean, range, members, instance}
-use Rattle.smv_language.specs.Trace.{in_domain}
-use Rattle.smv_language.specs.Values.{Value, truth, number, symbol, one}
+use Rattle.smv_language.specs.Language.{Text, DeclaredTree, boolean, range, members, instance, in_domain, Value, symbol, one}
+use Rattle.smv_language.specs.Values.{truth, number}
 use Rattle.sat_clauses.specs.States.{Agrees}
 use Rattle.sat_clauses.specs.Literal.{Literal, plain}
 use Rattle.sat_clauses.specs.Models.{TotalAssignment, literal_value}

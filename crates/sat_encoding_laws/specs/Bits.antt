@@ -1,8 +1,7 @@
 -- The bits of values: those of a state, and those of the inputs.
 use Rattle.std.specs.Prelude.{ℕ, zero, suc, ◌/◌, ◌%◌, ◌==◌, ℤ, pos, negsuc, Bool, true, false, not, List, [], ◌∷◌, ◌++◌, map, if◌then◌else◌}
-use Rattle.smv_language.specs.ProgramTree.{Text, DeclaredTree}
-use Rattle.smv_language.specs.Values.{Value, truth, number, symbol}
-use Rattle.smv_language.specs.Flat.{FlatVariable, FlatModel}
+use Rattle.smv_language.specs.Language.{Text, DeclaredTree, Value, symbol, FlatVariable, FlatModel}
+use Rattle.smv_language.specs.Values.{truth, number}
 use Rattle.smv_type_laws.specs.Costs.{symbol_number, declared_width}
 use Rattle.sat_encoding_laws.specs.Inputs.{is_input}
 

@@ -4,10 +4,8 @@ use Rattle.std.specs.Prelude.{◌≡◌, ◌≢◌, ℕ, Bool, false, List, [], 
 use Rattle.std.specs.List.{list_any}
 use Rattle.smv_language.specs.declared.program.Member.{Member}
 use Rattle.smv_language.specs.declared.program.Member.TheVariants as member
-use Rattle.smv_language.specs.ProgramTree.{Text, DeclaredTree, boolean, range, members, instance}
-use Rattle.smv_language.specs.Tree.{Tree}
-use Rattle.smv_language.specs.Trace.{Each}
-use Rattle.smv_language.specs.Flat.{FlatLeaf, FlatVariable, FlatModel}
+use Rattle.smv_language.specs.Language.{Text, DeclaredTree, boolean, range, members, instance, Tree, Each, FlatLeaf, FlatVariable}
+use Rattle.smv_language.specs.Language.{FlatModel}
 use Rattle.smv_flat_laws.specs.Rules.{leaves_under}
 use Rattle.smv_type_laws.specs.Laws.{IsKnown, ReadsOwn, IsClosed}
 use Rattle.smv_type_laws.specs.Models.{judged_in, broken_condition, IsTyped}

@@ -1,9 +1,6 @@
 -- The law of invariants over the clause lists of a model with history.
 use Rattle.std.specs.Prelude.{ℕ, Bool, List, Contains, length}
-use Rattle.smv_language.specs.Tree.{Tree}
-use Rattle.smv_language.specs.Values.{Value}
-use Rattle.smv_language.specs.Trace.{Each}
-use Rattle.smv_language.specs.Flat.{FlatLeaf, FlatModel}
+use Rattle.smv_language.specs.Language.{Tree, Value, Each, FlatLeaf, FlatModel}
 use Rattle.smv_flat_laws.specs.History.{Mode, with_history}
 use Rattle.smv_flat_laws.specs.FlatTrace.{IsFlatTrace, NamesOwn, IsModeOf}
 use Rattle.sat_clauses.specs.Literal.{Literal}

@@ -3,10 +3,8 @@
 -- `state_of` has the bits of the state and frozen variables of a valuation by number, `inputs_of` those of its input
 -- variables. A state is first, a step leads to it, or it is bad, where the lists can be made true with it (`States`).
 use Rattle.std.specs.Prelude.{◌≡◌, ℕ, ◌-◌, ◌≤◌, Bool, true, false, List, Option, Some, None, length, slice_get, filter}
-use Rattle.smv_language.specs.Tree.{Tree}
-use Rattle.smv_language.specs.Values.{Value, truth}
-use Rattle.smv_language.specs.Trace.{Each, AtSome}
-use Rattle.smv_language.specs.Flat.{FlatLeaf, FlatModel, FlatMay, Holds}
+use Rattle.smv_language.specs.Language.{Tree, Value, Each, AtSome, FlatLeaf, FlatModel, FlatMay, Holds}
+use Rattle.smv_language.specs.Values.{truth}
 use Rattle.smv_flat_laws.specs.FlatTrace.{AreInDomains, IsFlatMoment, IsFlatStep}
 use Rattle.sat_clauses.specs.Literal.{Literal}
 use Rattle.sat_clauses.specs.declared.system.System.{System}

@@ -1,10 +1,8 @@
 -- When a trace of a flat model reaches a top event, and which faults it has failed.
 use Rattle.std.specs.Prelude.{◌≡◌, ℕ, suc, ◌-◌, ◌<◌, ◌≤◌, ◌+◌, Bool, true, List, [], ◌∷◌, Some, IsTrue, length, slice_get, if◌then◌else◌}
-use Rattle.smv_language.specs.Tree.{Tree}
-use Rattle.smv_language.specs.Values.{Value, truth}
+use Rattle.smv_language.specs.Language.{Tree, Value, Each, AtLast, FlatLeaf, FlatModel, FlatMay}
+use Rattle.smv_language.specs.Values.{truth}
 use Rattle.std.specs.List.{range_with_len}
-use Rattle.smv_language.specs.Trace.{Each, AtLast}
-use Rattle.smv_language.specs.Flat.{FlatLeaf, FlatModel, FlatMay}
 use Rattle.smv_flat_laws.specs.History.{Mode}
 use Rattle.smv_flat_laws.specs.FlatTrace.{IsFlatTrace, stands_in_some, IsOwnName}
 use Rattle.smv_flat_laws.specs.NameResolution.{leaves_in}

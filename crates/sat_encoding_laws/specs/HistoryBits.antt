@@ -1,7 +1,6 @@
 -- Where the history bits of a model with history are.
 use Rattle.std.specs.Prelude.{◌≡◌, ◌+◌, ◌<◌, false, List, Some, length, slice_get}
-use Rattle.smv_language.specs.Trace.{Each}
-use Rattle.smv_language.specs.Flat.{FlatVariable, FlatModel}
+use Rattle.smv_language.specs.Language.{Each, FlatVariable, FlatModel}
 use Rattle.smv_flat_laws.specs.History.{Mode, with_history}
 use Rattle.smv_type_laws.specs.Costs.{state_bits}
 use Rattle.smv_type_laws.specs.ExpressionKinds.{symbol_class}

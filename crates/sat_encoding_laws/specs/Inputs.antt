@@ -1,9 +1,8 @@
 -- Which definitions and expressions of a model read an input.
 use Rattle.std.specs.Prelude.{Bool, true, false, Option, Some, None, List, [], ◌∷◌, ◌++◌, slice_get}
 use Rattle.std.specs.List.{list_any}
-use Rattle.smv_language.specs.Tree.{Tree}
-use Rattle.smv_language.specs.Scope.{Role, state, input, frozen_role}
-use Rattle.smv_language.specs.Flat.{FlatLeaf, flat_variable, flat_symbol, flat_definition, FlatVariable, FlatFormula, FlatModel}
+use Rattle.smv_language.specs.Language.{Tree, Role, state, input, frozen_role, FlatLeaf, flat_variable, flat_symbol, flat_definition}
+use Rattle.smv_language.specs.Language.{FlatVariable, FlatFormula, FlatModel}
 use Rattle.smv_flat_laws.specs.NameResolution.{leaves_in}
 use Rattle.base_values.specs.Marks.{is_set}
 

@@ -1,11 +1,7 @@
 -- The laws of encoding, as statements.
 use Rattle.std.specs.Prelude.{◌<◌, ◌≡◌, ◌≢◌, length, ℕ, ◌-◌, ◌^◌, ℤ, pos, neg_ℤ, ◌≤ℤ◌, ◌<ℤ◌, Bool, true, false, List, [], Some}
-use Rattle.smv_language.specs.Tree.{Tree}
-use Rattle.smv_language.specs.ProgramTree.{DeclaredTree, members, ProgramTree}
-use Rattle.smv_language.specs.Trace.{Each}
-use Rattle.smv_language.specs.Values.{Value, one}
-use Rattle.smv_language.specs.Evaluate.{evaluate}
-use Rattle.smv_language.specs.Flat.{FlatLeaf, FlatModel, leaves_at}
+use Rattle.smv_language.specs.Language.{Tree, DeclaredTree, members, ProgramTree, Each, Value, one, evaluate, FlatLeaf, FlatModel}
+use Rattle.smv_language.specs.Language.{leaves_at}
 use Rattle.smv_flat_laws.specs.FlatTrace.{AreInDomains}
 use Rattle.smv_flat_laws.specs.Model.{IsFlatOf}
 use Rattle.smv_flat_laws.specs.Rules.{IsAccepted}

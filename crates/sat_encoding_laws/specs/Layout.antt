@@ -1,9 +1,8 @@
 -- Which variables of the clause lists are the bits of a model's variables. Variable 1 is true; the state now begins at
 -- 2, then the next state, and then the inputs. Bits stand by variables in flat order, least significant first.
 use Rattle.std.specs.Prelude.{ℕ, zero, suc, ◌+◌, ◌*◌, ℤ, pos, negsuc, false, Option, Some, None, List, [], ◌∷◌, ◌++◌, map, sum_by}
-use Rattle.smv_language.specs.ProgramTree.{Text, DeclaredTree, boolean, range, members, instance}
-use Rattle.smv_language.specs.Scope.{Role, state, input, frozen_role}
-use Rattle.smv_language.specs.Flat.{FlatVariable, FlatModel}
+use Rattle.smv_language.specs.Language.{Text, DeclaredTree, boolean, range, members, instance, Role, state, input, frozen_role}
+use Rattle.smv_language.specs.Language.{FlatVariable, FlatModel}
 use Rattle.smv_type_laws.specs.Intervals.{Interval}
 use Rattle.smv_type_laws.specs.ExpressionKinds.{hull_of}
 use Rattle.smv_type_laws.specs.DeclaredKinds.{judged_declared}

@@ -1,9 +1,7 @@
 -- Which variables the lists of states use.
 use Rattle.std.specs.Prelude.{◌≡◌, ◌⊎◌, ℕ, ◌+◌, ◌-◌, ◌*◌, ◌<◌, ◌≤◌, ◌^◌, List, length, All}
 use Rattle.base_values.specs.declared.limits.TheConstants.{MOST_FAULTS, MOST_TOP_COST}
-use Rattle.smv_language.specs.Tree.{Tree}
-use Rattle.smv_language.specs.Trace.{Each}
-use Rattle.smv_language.specs.Flat.{FlatLeaf, FlatModel}
+use Rattle.smv_language.specs.Language.{Tree, Each, FlatLeaf, FlatModel}
 use Rattle.smv_type_laws.specs.Costs.{cost_of, model_cost, state_bits}
 use Rattle.sat_clauses.specs.Literal.{Literal}
 use Rattle.sat_clauses.specs.Models.{ClausesBelow}

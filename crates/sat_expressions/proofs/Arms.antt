@@ -8,17 +8,14 @@ use Rattle.smv_language.specs.declared.expr.Op.{Op}
 use Rattle.smv_language.specs.declared.expr.Op.TheVariants as op
 use Rattle.smv_language.specs.declared.expr.Expr.{Expr}
 use Rattle.smv_language.specs.declared.expr.Expr.TheVariants.{Truth, Number, Leaf, Not, Negate, Next, Binary, Choice, Case, SetOf, Span}
-use Rattle.smv_language.specs.Tree.{Tree, truth, number, leaf, not_of, negate, next_of, binary, case_of}
-use Rattle.smv_language.specs.ExpressionTree.{trees_of, branches_of}
-use Rattle.smv_language.specs.Leaves.{trees_map, branches_map}
+use Rattle.smv_language.specs.Language.{Tree, leaf, not_of, negate, next_of, binary, case_of, trees_of, branches_of, trees_map, branches_map, leaf_of, flat_tree, FlatLeaf}
+use Rattle.smv_language.specs.Tree.{truth, number}
 use Rattle.smv_language.specs.declared.model.Flat.{Flat}
-use Rattle.smv_language.specs.ModelTree.{leaf_of, flat_tree}
 use Rattle.sat_clauses.specs.Literal.{Literal, opposite}
 use Rattle.sat_circuits.specs.Circuit.{Circuit}
 use Rattle.sat_circuits.specs.Gates.{constant_lit, or_gate}
 use Rattle.sat_circuits.specs.Numbers.{number_word}
 use Rattle.sat_circuits.specs.Sums.{negate_gates}
-use Rattle.smv_language.specs.Flat.{FlatLeaf}
 use Rattle.smv_type_laws.specs.Models.{kind_of_leaf}
 use Rattle.smv_types.specs.Answers.{told_sort}
 use Rattle.sat_encoding_laws.specs.Signals.{bit, word, literal_in, word_in, as_bit, as_word, operator_gates, choice_gates}

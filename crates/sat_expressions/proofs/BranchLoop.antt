@@ -1,14 +1,9 @@
 -- The branches of a case, one after another.
 use Rattle.std.proofs.Common.{◌≡◌, ℕ, ◌+◌, ◌<◌, ◌≤◌, false, Some, None, List, [], ◌∷◌, ◌++◌, length, get_or, drop, refl, sym, ◌∙◌, ap, subst, arith}
 use Rattle.std.proofs.lemmas.List.{drop_more, drop_all, append_assoc, append-nil, length-drop}
-use Rattle.smv_language.specs.Trace.{Each}
-use Rattle.smv_language.specs.Tree.{Tree, Branches, no_branch, branch_then}
-use Rattle.smv_language.specs.ExpressionTree.{branches_of}
-use Rattle.smv_language.specs.Leaves.{branches_map}
+use Rattle.smv_language.specs.Language.{Each, Tree, Branches, no_branch, branch_then, branches_of, branches_map, FlatLeaf, leaf_of, flat_tree}
 use Rattle.smv_language.specs.declared.expr.Expr.{Expr}
-use Rattle.smv_language.specs.Flat.{FlatLeaf}
 use Rattle.smv_language.specs.declared.model.Flat.{Flat}
-use Rattle.smv_language.specs.ModelTree.{leaf_of, flat_tree}
 use Rattle.smv_type_laws.specs.ExpressionKinds.{judge_conditions, judge_values, broken_in, kinds_in}
 use Rattle.smv_type_laws.specs.Models.{judged_in, kind_of_leaf}
 use Rattle.smv_type_laws.proofs.Parts.{none_first, none_second}

@@ -2,9 +2,7 @@
 use Rattle.std.proofs.Common.{◌≡◌, ℕ, suc, ◌+◌, Bool, false, not, ◌&&◌, Option, Some, None, List, [], ◌∷◌, ◌++◌, length, refl, sym, ◌∙◌, ap, subst, arith}
 use Rattle.std.specs.Prelude.{flat_map}
 use Rattle.std.proofs.lemmas.List.{length-map}
-use Rattle.smv_language.specs.Trace.{Each}
-use Rattle.smv_language.specs.Tree.{Branches, no_branch, branch_then, case_of}
-use Rattle.smv_language.specs.Flat.{FlatLeaf}
+use Rattle.smv_language.specs.Language.{Each, Branches, no_branch, branch_then, case_of, FlatLeaf}
 use Rattle.smv_type_laws.specs.ExpressionKinds.{Kind, KindRule, truth_class, not_boolean, mismatch, set_here, case_end, rule_if, unless_class, unlike_first, first_class, hull_of, hull_from, joined, some_set, broken_in, kinds_in, judge_conditions, judge_values, ends_in_true}
 use Rattle.smv_type_laws.specs.Models.{judged_in, kind_of_leaf}
 use Rattle.smv_type_laws.proofs.Parts.{none_first, none_second}

@@ -6,12 +6,10 @@ use Rattle.smv_language.specs.declared.expr.Op.{Op}
 use Rattle.smv_language.specs.declared.expr.Expr.{Expr, fold-roll-Expr}
 use Rattle.smv_language.specs.declared.expr.Expr.TheVariants.{Truth, Number, Leaf, Not, Negate, Next, Binary, Choice, Case, SetOf, Span, rolls-Truth, rolls-Number, rolls-Leaf, rolls-Negate, rolls-Next, rolls-Binary, rolls-Choice, rolls-Span}
 use Rattle.smv_language.specs.declared.expr.Expr.TheOpen as open_
-use Rattle.smv_language.specs.Tree.{Tree, truth, number, leaf, not_of, negate, next_of, binary, choice, case_of, set_of, span}
-use Rattle.smv_language.specs.Leaves.{tree_map, trees_map, branches_map}
-use Rattle.smv_language.specs.ExpressionTree.{tree_of, trees_of, branches_of, node_tree}
+use Rattle.smv_language.specs.Language.{Tree, leaf, not_of, negate, next_of, binary, choice, case_of, set_of, span, tree_map, trees_map, branches_map, tree_of, trees_of, branches_of, node_tree, leaf_of, flat_tree}
+use Rattle.smv_language.specs.Tree.{truth, number}
 use Rattle.smv_language.proofs.WrittenLaws.{tree_of_case, tree_of_set, tree_of_not}
 use Rattle.smv_language.specs.declared.model.Flat.{Flat}
-use Rattle.smv_language.specs.ModelTree.{leaf_of, flat_tree}
 
 -- a node, and then its names
 pub form_truth : (e : Expr Flat) (b : Bool) → e ≡ Truth b → flat_tree e ≡ truth b

@@ -1,13 +1,9 @@
 -- The members of a set, one after another.
 use Rattle.std.proofs.Common.{◌≡◌, ℕ, ◌+◌, ◌<◌, ◌≤◌, false, List, [], ◌∷◌, length, get_or, drop, sym, ◌∙◌, ap, subst, arith}
 use Rattle.std.proofs.lemmas.List.{drop_more, drop_all}
-use Rattle.smv_language.specs.Tree.{Tree, Trees, no_tree, tree_then}
-use Rattle.smv_language.specs.ExpressionTree.{trees_of}
-use Rattle.smv_language.specs.Leaves.{trees_map}
+use Rattle.smv_language.specs.Language.{Tree, Trees, no_tree, tree_then, trees_of, trees_map, FlatLeaf, leaf_of, flat_tree}
 use Rattle.smv_language.specs.declared.expr.Expr.{Expr}
-use Rattle.smv_language.specs.Flat.{FlatLeaf}
 use Rattle.smv_language.specs.declared.model.Flat.{Flat}
-use Rattle.smv_language.specs.ModelTree.{leaf_of, flat_tree}
 use Rattle.smv_type_laws.specs.ExpressionKinds.{judge_trees, broken_in}
 use Rattle.smv_type_laws.specs.Models.{judged_in, kind_of_leaf}
 use Rattle.smv_type_laws.proofs.Parts.{none_first, none_second}

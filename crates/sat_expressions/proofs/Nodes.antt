@@ -4,9 +4,8 @@ use Rattle.std.specs.Prelude.{Result, IfOk}
 use Rattle.std.proofs.lemmas.Result.{IfOk-weaker}
 use Rattle.smv_language.specs.declared.expr.Op.{Op}
 use Rattle.smv_language.specs.declared.expr.Op.TheVariants as op
-use Rattle.smv_language.specs.ProgramTree.{Text}
-use Rattle.smv_language.specs.Tree.{Tree, Trees, truth, number, leaf, not_of, negate, next_of, binary, choice, set_of, span}
-use Rattle.smv_language.specs.Flat.{FlatLeaf, FlatModel}
+use Rattle.smv_language.specs.Language.{Text, Tree, Trees, leaf, not_of, negate, next_of, binary, choice, set_of, span, FlatLeaf, FlatModel}
+use Rattle.smv_language.specs.Tree.{truth, number}
 use Rattle.smv_type_laws.specs.Intervals.{Interval}
 use Rattle.smv_type_laws.specs.ExpressionKinds.{Kind, KindRule, Class, truth_class, number_class, symbol_class, Judged, where_kept, unless_class, not_boolean, mismatch, set_here, empty_range, rule_if, wide, joined, negative_interval, unlike_first, broken_in, kinds_in, judge_trees, judged_negative, judged_binary}
 use Rattle.smv_type_laws.specs.Models.{judged_in, kind_of_leaf}

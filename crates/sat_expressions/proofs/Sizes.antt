@@ -5,11 +5,8 @@ use Rattle.std.specs.declared.alloc.Global.{Global}
 use Rattle.smv_language.specs.declared.expr.Op.{Op}
 use Rattle.smv_language.specs.declared.expr.Expr.{Expr}
 use Rattle.smv_language.specs.declared.expr.Expr.TheVariants.{Not, Negate, Next, Binary, Choice, Case, SetOf}
-use Rattle.smv_language.specs.Tree.{size_of, trees_size, branches_size}
-use Rattle.smv_language.specs.ExpressionTree.{trees_of, branches_of}
-use Rattle.smv_language.specs.Leaves.{trees_map, branches_map}
+use Rattle.smv_language.specs.Language.{size_of, trees_size, branches_size, trees_of, branches_of, trees_map, branches_map, leaf_of, flat_tree}
 use Rattle.smv_language.specs.declared.model.Flat.{Flat}
-use Rattle.smv_language.specs.ModelTree.{leaf_of, flat_tree}
 use Rattle.sat_expressions.proofs.Forms.{form_not, form_negate, form_next, form_binary, form_choice, form_case, form_set}
 use Rattle.sat_expressions.proofs.Members.{members_more}
 use Rattle.sat_expressions.proofs.BranchLoop.{branches_more}

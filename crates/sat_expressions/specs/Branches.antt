@@ -1,8 +1,6 @@
 -- The branches of a case, in two passes: the conditions and values in written order, and then the choices.
 use Rattle.std.specs.Prelude.{◌≡◌, ℕ, ◌≤◌, ◌+◌, Bool, false, Option, Some, None, List, [], ◌∷◌, ◌++◌, length}
-use Rattle.smv_language.specs.Trace.{Each}
-use Rattle.smv_language.specs.Tree.{Branches, no_branch, branch_then}
-use Rattle.smv_language.specs.Flat.{FlatLeaf, FlatModel}
+use Rattle.smv_language.specs.Language.{Each, Branches, no_branch, branch_then, FlatLeaf, FlatModel}
 use Rattle.smv_type_laws.specs.ExpressionKinds.{Kind, judge_conditions, judge_values, broken_in, kinds_in}
 use Rattle.smv_type_laws.specs.Models.{kind_of_leaf}
 use Rattle.smv_types.specs.Answers.{told_sort}

@@ -1,8 +1,6 @@
 -- The names of a model as the code has them.
 use Rattle.std.specs.Prelude.{◌≡◌}
-use Rattle.smv_language.specs.Trace.{Each}
-use Rattle.smv_language.specs.Flat.{FlatLeaf, FlatModel}
-use Rattle.smv_language.specs.ModelTree.{model_tree}
+use Rattle.smv_language.specs.Language.{Each, FlatLeaf, FlatModel, model_tree}
 use Rattle.sat_circuits.specs.Circuit.{Circuit}
 use Rattle.sat_encoding_laws.specs.Widths.{symbol_width}
 use Rattle.sat_encoding_laws.specs.Expressions.{Names as TheNames}

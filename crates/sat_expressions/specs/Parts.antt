@@ -2,8 +2,7 @@
 use Rattle.std.specs.Prelude.{◌≡◌, ◌≤◌, Bool, false, None, []}
 use Rattle.smv_language.specs.declared.expr.Op.{Op}
 use Rattle.smv_language.specs.declared.expr.Op.TheVariants as op
-use Rattle.smv_language.specs.Tree.{Tree, Trees}
-use Rattle.smv_language.specs.Flat.{FlatLeaf, FlatModel}
+use Rattle.smv_language.specs.Language.{Tree, Trees, FlatLeaf, FlatModel}
 use Rattle.smv_type_laws.specs.ExpressionKinds.{judge_trees, broken_in}
 use Rattle.smv_type_laws.specs.Models.{judged_in, kind_of_leaf}
 use Rattle.smv_types.specs.Answers.{told_sort}

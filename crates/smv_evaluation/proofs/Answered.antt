@@ -1,10 +1,7 @@
 -- What the code answers for an expression is what the expression gives.
 use Rattle.std.proofs.Common.{◌≡◌, List, Some, refl, subst}
-use Rattle.smv_language.specs.ProgramTree.{Text}
-use Rattle.smv_language.specs.Tree.{Tree, Trees, Branches, truth as is_truth, number as is_number, leaf, not_of, negate, next_of, binary, choice, case_of, set_of, span, no_tree, tree_then, no_branch, branch_then}
-use Rattle.smv_language.specs.Laws.{AllLeaves, AllLeavesOfTrees, AllLeavesOfBranches}
-use Rattle.smv_language.specs.Values.{one}
-use Rattle.smv_language.specs.Evaluate.{Leaves, evaluate, evaluate_trees, evaluate_branches}
+use Rattle.smv_language.specs.Language.{Text, Tree, Trees, Branches, leaf, not_of, negate, next_of, binary, choice, case_of, set_of, span, no_tree, tree_then, no_branch, branch_then, AllLeaves, AllLeavesOfTrees, AllLeavesOfBranches, one, Leaves, evaluate, evaluate_trees, evaluate_branches, AreApart, told_value}
+use Rattle.smv_language.specs.Tree.{truth as is_truth, number as is_number}
 use Rattle.base_values.specs.declared.value.Value.{Value}
 use Rattle.base_values.specs.declared.value.Value.TheVariants.{Bool as truth, Num}
 use Rattle.smv_type_laws.specs.KindValues.{GivesSmall, IsSafe, AreSafe, AreSafeBranches}
@@ -14,8 +11,6 @@ use Rattle.smv_evaluation.specs.Evaluation.{on_left, on_right, asked_of, members
 use Rattle.smv_evaluation.specs.EvaluableModels.{IsNumbered}
 use Rattle.smv_evaluation.proofs.AskedLaws.{members_truth, either_is}
 use Rattle.smv_evaluation.proofs.Rows.{Answers, value_row, not_row, negative_row, binary_row, choice_row, span_row, union_row, no_member_row, no_branch_row}
-use Rattle.smv_language.specs.Texts.{AreApart}
-use Rattle.smv_language.specs.NumberedValues.{told_value}
 
 small_of : {L : Type 0} (now next : Leaves L) (t : Tree L) → IsSafe now next t → GivesSmall (evaluate now next t)
 small_of now next (is_truth b) s = s

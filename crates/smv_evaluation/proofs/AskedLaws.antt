@@ -2,8 +2,7 @@
 use Rattle.std.proofs.Common.{◌≡◌, ℕ, ◌+◌, ◌<◌, Bool, true, false, ◌||◌, cond, List, length, get_or, drop, refl, ap}
 use Rattle.std.proofs.lemmas.List.{drop_more}
 use Rattle.smv_language.specs.declared.expr.Expr.{Expr}
-use Rattle.smv_language.specs.ExpressionTree.{tree_of, trees_of, branches_of}
-use Rattle.smv_language.specs.Tree.{Trees, no_tree, tree_then}
+use Rattle.smv_language.specs.Language.{tree_of, trees_of, branches_of, Trees, no_tree, tree_then}
 use Rattle.base_values.specs.declared.value.Value.{Value}
 use Rattle.base_values.specs.declared.value.Value.TheVariants.{Bool as truth}
 use Rattle.smv_evaluation.specs.declared.ask.AskedValue.{AskedValue}

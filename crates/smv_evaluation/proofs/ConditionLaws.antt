@@ -1,14 +1,10 @@
 -- Conditions that are found TRUE are those that hold.
 use Rattle.std.proofs.Common.{◌≡◌, ◌↔◌, Bool, true, false, ◌&&◌, List, [], ◌∷◌, map, IsTrue, refl, sym, ap, ◌∙◌}
-use Rattle.smv_language.specs.Trace.{Each}
+use Rattle.smv_language.specs.Language.{Each, Values, one, has, same_bool, tree_of, FlatModel as ModelTree, Holds, formula_tree, model_tree, told_moment}
 use Rattle.smv_language.specs.Values as told
-use Rattle.smv_language.specs.Values.{Values, one, has, same_bool}
-use Rattle.smv_language.specs.ExpressionTree.{tree_of}
 use Rattle.smv_language.proofs.ValueLaws.{both_true}
-use Rattle.smv_language.specs.Flat.{FlatModel as ModelTree, Holds}
 use Rattle.smv_language.specs.declared.model.Formula.{Formula}
 use Rattle.smv_language.specs.declared.model.FlatModel.{FlatModel}
-use Rattle.smv_language.specs.ModelTree.{formula_tree, model_tree}
 use Rattle.smv_type_laws.specs.Laws.{ReadsOwn, ReadOwn, IsDecided}
 use Rattle.smv_type_laws.specs.Models.{IsTyped}
 use Rattle.smv_type_laws.proofs.Typed.{conditions_decided}
@@ -19,7 +15,6 @@ use Rattle.smv_evaluation.specs.EvaluableModels.{IsEvaluable, IsFilled}
 use Rattle.smv_evaluation.specs.Stops.{IsFirstMoment, IsNextMoment}
 use Rattle.smv_evaluation.proofs.Rows.{Is, truth_is}
 use Rattle.smv_evaluation.proofs.ValueLaws.{answers}
-use Rattle.smv_language.specs.NumberedValues.{told_moment}
 
 truth_true : (b : Bool) → same_bool b true ≡ b
 truth_true true = refl

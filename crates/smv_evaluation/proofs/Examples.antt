@@ -1,16 +1,15 @@
 -- Examples that the checker computes.
 use Rattle.std.proofs.Common.{◌≡◌, true, false, [], ◌∷◌, pos, negsuc, refl}
 use Rattle.smv_language.specs.declared.expr.Op.TheVariants as op
-use Rattle.smv_language.specs.Tree.{Tree, truth as is_truth, number, leaf, negate, next_of, binary, choice, case_of, set_of, span, no_tree, tree_then, no_branch, branch_then}
+use Rattle.smv_language.specs.Language.{Tree, leaf, negate, next_of, binary, choice, case_of, set_of, span, no_tree, tree_then, no_branch, branch_then, FlatLeaf, flat_variable, flat_definition, told_moment}
+use Rattle.smv_language.specs.Tree.{truth as is_truth, number}
 use Rattle.smv_language.specs.Values as told
 use Rattle.base_values.specs.declared.value.Value.{Value}
 use Rattle.base_values.specs.declared.value.Value.TheVariants.{Bool as truth, Num, Sym}
-use Rattle.smv_language.specs.Flat.{FlatLeaf, flat_variable, flat_definition}
 use Rattle.smv_evaluation.specs.declared.ask.AskedValue.{AskedValue}
 use Rattle.smv_evaluation.specs.declared.ask.AskedValue.TheVariants.{ItsValue, Whether}
 use Rattle.smv_evaluation.specs.Evaluation.{leaf_value, asked_of}
 use Rattle.smv_evaluation.specs.SymbolTests.{has_symbol}
-use Rattle.smv_language.specs.NumberedValues.{told_moment}
 
 -- a variable that is 3 now and 4 next, with a definition that is TRUE now and FALSE next
 abbrev now_value : FlatLeaf → Value

@@ -2,12 +2,9 @@
 use Rattle.std.proofs.Common.{◌≡◌, ◌<◌, List, [], ◌∷◌, length, Some, refl, ap, ◌∙◌}
 use Rattle.std.specs.Prelude.{slice_get}
 use Rattle.std.specs.List.{list_any}
-use Rattle.smv_language.specs.ProgramTree.{Text}
-use Rattle.smv_language.specs.Texts.{same_text, text_or_none}
-use Rattle.smv_language.specs.Trace.{Each}
+use Rattle.smv_language.specs.Language.{Text, same_text, text_or_none, Each, FlatModel, told_trace, told_moment, told_value}
 use Rattle.base_values.specs.declared.value.Value.{Value}
 use Rattle.base_values.specs.declared.value.Value.TheVariants.{Bool as truth, Num, Sym}
-use Rattle.smv_language.specs.Flat.{FlatModel}
 use Rattle.smv_flat_laws.specs.FlatTrace.{is_symbol_value, stands, stands_in_some}
 use Rattle.smv_flat_laws.specs.History.{Mode}
 use Rattle.smv_evaluation.specs.SymbolTests.{is_symbol, has_symbol}
@@ -16,7 +13,6 @@ use Rattle.smv_evaluation.proofs.FilledLaws.{lawful_length}
 use Rattle.smv_evaluation.proofs.Rows.{same_symbol}
 use Rattle.smv_flat_laws.proofs.Conditions.{each_at}
 use Rattle.smv_language.proofs.ListLaws.{get_map}
-use Rattle.smv_language.specs.NumberedValues.{told_trace, told_moment, told_value}
 use Rattle.base_values.proofs.ListLaws.{get_within}
 
 module _ (m : FlatModel) (able : IsEvaluable m) (f : Mode) (variable : f.variable < length m.variables) (symbol : f.symbol < length m.symbols) where

@@ -2,20 +2,13 @@
 use Rattle.std.proofs.Common.{◌≡◌, ℕ, suc, ◌<◌, false, List, [], ◌∷◌, ◌++◌, length, map, Option, Some, refl, sym, ap, ◌∙◌, subst}
 use Rattle.std.specs.Prelude.{slice_get, All}
 use Rattle.std.proofs.lemmas.List.Elements.{All-nil, All-cons}
-use Rattle.smv_language.specs.ProgramTree.{Text}
-use Rattle.smv_language.specs.Tree.{Tree}
-use Rattle.smv_language.specs.Trace.{Each, EachBoth}
+use Rattle.smv_language.specs.Language.{Text, Tree, Each, EachBoth, Values, one, evaluate, tree_of, FlatLeaf, flat_variable, flat_symbol, flat_definition, FlatVariable, FlatModel as ModelTree, flat_leaves, table_after, leaf_of, flat_tree, formula_tree, variable_tree, model_tree, AreApart, told_moment, told_value}
 use Rattle.smv_language.specs.Values as told
-use Rattle.smv_language.specs.Values.{Values, one}
-use Rattle.smv_language.specs.Evaluate.{evaluate}
-use Rattle.smv_language.specs.ExpressionTree.{tree_of}
 use Rattle.base_values.specs.declared.value.Value.{Value}
-use Rattle.smv_language.specs.Flat.{FlatLeaf, flat_variable, flat_symbol, flat_definition, FlatVariable, FlatModel as ModelTree, flat_leaves, table_after}
 use Rattle.smv_flat_laws.specs.FlatTrace.{AreInDomains}
 use Rattle.smv_flat_laws.proofs.Lists.{length_end, map_joined}
 use Rattle.smv_language.specs.declared.model.Formula.{Formula}
 use Rattle.smv_language.specs.declared.model.FlatModel.{FlatModel}
-use Rattle.smv_language.specs.ModelTree.{leaf_of, flat_tree, formula_tree, variable_tree, model_tree}
 use Rattle.smv_type_laws.specs.ExpressionKinds.{Judged, judge}
 use Rattle.smv_type_laws.specs.Models.{leaf_kind, judged_variables, judged_after, IsTyped}
 use Rattle.smv_type_laws.specs.Laws.{IsKnown, AreInOrder}
@@ -36,8 +29,6 @@ use Rattle.smv_flat_laws.proofs.Conditions.{each_at}
 use Rattle.smv_language.proofs.EachLaws.{each_end as each_join}
 use Rattle.smv_language.proofs.ListLaws.{get_map, map_length}
 use Rattle.smv_flat_laws.proofs.BothLaws.{both_push, both_size}
-use Rattle.smv_language.specs.Texts.{AreApart}
-use Rattle.smv_language.specs.NumberedValues.{told_moment, told_value}
 use Rattle.base_values.proofs.ListLaws.{get_within}
 
 pub domains_length : (xs : List FlatVariable) (v : List told.Value) → AreInDomains xs v → length xs ≡ length v

@@ -1,19 +1,15 @@
 -- The answer that is found moment by moment says whether the moments are a trace that reaches the event, or where they stop.
 use Rattle.std.proofs.Common.{◌≡◌, ◌↔◌, suc, ◌<◌, arith, Bool, true, false, cond, List, [], ◌∷◌, ◌++◌, length, IsTrue, refl, ap, subst}
-use Rattle.smv_language.specs.Tree.{Tree}
-use Rattle.smv_language.specs.Trace.{Each, EachPair, AtFirst, AtLast}
+use Rattle.smv_language.specs.Language.{Tree, Each, EachPair, AtFirst, AtLast, tree_of, FlatLeaf, FlatModel as ModelTree, FlatMay, flat_tree, formula_tree, model_tree, told_trace, told_moment}
 use Rattle.smv_language.specs.Values as told
 use Rattle.smv_language.specs.Values.{truth}
-use Rattle.smv_language.specs.ExpressionTree.{tree_of}
 use Rattle.smv_language.specs.declared.expr.Expr.{Expr}
 use Rattle.base_values.specs.declared.value.Value.{Value}
-use Rattle.smv_language.specs.Flat.{FlatLeaf, FlatModel as ModelTree, FlatMay}
 use Rattle.smv_flat_laws.specs.FlatTrace.{IsFlatMoment, IsFlatStep, IsFlatTrace}
 use Rattle.smv_flat_laws.proofs.Lists.{length_end}
 use Rattle.smv_language.specs.declared.model.Flat.{Flat}
 use Rattle.smv_language.specs.declared.model.FlatModel.{FlatModel}
 use Rattle.smv_language.specs.declared.model.Formula.{Formula}
-use Rattle.smv_language.specs.ModelTree.{flat_tree, formula_tree, model_tree}
 use Rattle.smv_type_laws.specs.ExpressionKinds.{KindRule}
 use Rattle.smv_type_laws.specs.Models.{judged_in, broken_condition, breaches_at, IsTyped}
 use Rattle.smv_type_laws.specs.Laws.{ReadsOwn}
@@ -27,7 +23,6 @@ use Rattle.smv_evaluation.specs.Replay.{is_reached, replayed_from, replayed, IsR
 use Rattle.smv_evaluation.proofs.FilledLaws.{filled_law}
 use Rattle.smv_evaluation.proofs.ConditionLaws.{condition_law, first_law, step_law}
 use Rattle.smv_language.proofs.EachLaws.{each_end}
-use Rattle.smv_language.specs.NumberedValues.{told_trace, told_moment}
 
 pairs_last : {A : Type 0} (R : A → A → Type 0) (xs : List A) (x y : A) → EachPair R (xs ++ x ∷ []) → R x y → EachPair R ((xs ++ x ∷ []) ++ y ∷ [])
 pairs_last R [] x y h r = (r, tt)

@@ -3,11 +3,8 @@ use Rattle.std.proofs.Common.{◌≡◌, ℕ, List, Bool, true, false, cond, Opt
 use Rattle.std.specs.Prelude.{nat_eq, slice_get}
 use Rattle.smv_language.specs.declared.expr.Op.{Op}
 use Rattle.smv_language.specs.declared.expr.Op.TheVariants as op
-use Rattle.smv_language.specs.ProgramTree.{Text}
-use Rattle.smv_language.specs.Texts.{same_text, text_or_none, AreApart}
+use Rattle.smv_language.specs.Language.{Text, same_text, text_or_none, AreApart, same_int, same_value, Values, no_value, one, from_to, has, apply, is_between, gives_one as gives, gives_not, gives_negative, gives_either, gives_within, gives_applied, gives_binary, gives_choice, told_value}
 use Rattle.smv_language.specs.Values as told
-use Rattle.smv_language.specs.Values.{same_int, same_value, Values, no_value, one, from_to, has, apply, is_between}
-use Rattle.smv_language.specs.Evaluate.{gives_one as gives, gives_not, gives_negative, gives_either, gives_within, gives_applied, gives_binary, gives_choice}
 use Rattle.smv_language.proofs.ValueLaws.{same_text_equal, same_text_refl, same_int_equal}
 use Rattle.base_values.specs.declared.value.Value.{Value}
 use Rattle.base_values.specs.declared.value.Value.TheVariants.{Bool as truth, Num, Sym}
@@ -19,7 +16,6 @@ use Rattle.smv_evaluation.specs.OperatorValues.{same, is_true, opposite, negativ
 use Rattle.smv_evaluation.specs.Evaluation.{answer, on_left, on_right, operation, in_span}
 use Rattle.smv_evaluation.specs.EvaluableModels.{IsPlaceOf, IsNumbered}
 use Rattle.smv_type_laws.proofs.LeastLaws.{same_int_self as same_number}
-use Rattle.smv_language.specs.NumberedValues.{told_value}
 
 small_number : (n : ℤ) → (same_int n n ≡ true → fits_number n ≡ true) → fits_number n ≡ true
 small_number n f = f (same_number n)

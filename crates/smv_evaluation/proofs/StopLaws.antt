@@ -1,8 +1,6 @@
 -- Moments stop at most once.
 use Rattle.std.proofs.Common.{◌≡◌, suc, List, [], ◌∷◌, ◌++◌, length, refl, sym, ap, ◌∙◌, subst}
-use Rattle.smv_language.specs.Trace.{Each, EachPair}
-use Rattle.smv_language.specs.Values.{Value}
-use Rattle.smv_language.specs.Flat.{FlatModel}
+use Rattle.smv_language.specs.Language.{Each, EachPair, Value, FlatModel}
 use Rattle.smv_flat_laws.specs.FlatTrace.{IsFlatMoment, IsFlatStep, IsFlatTrace}
 use Rattle.smv_evaluation.specs.Laws.{OneStop, ReachingDoesNotStop}
 use Rattle.smv_evaluation.specs.Stops.{bad_first, bad_step, no_top, IsFirstMoment, IsNextMoment}

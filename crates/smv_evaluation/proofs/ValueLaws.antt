@@ -1,17 +1,11 @@
 -- What is answered from filled tables is what an expression of a typed model gives.
 use Rattle.std.proofs.Common.{◌≡◌, ◌↔◌, ◌+◌, arith, Bool, true, false, List, [], ◌∷◌, ◌++◌, length, Option, Some, IsTrue, sym, ap, ◌∙◌, subst}
-use Rattle.smv_language.specs.ProgramTree.{Text}
-use Rattle.smv_language.specs.Tree.{Tree}
+use Rattle.smv_language.specs.Language.{Text, Tree, Values, one, has, evaluate, tree_of, FlatLeaf, FlatFormula, FlatModel, flat_leaves, definition_gives, table_after, leaves_at, FlatGives, FlatMay, leaf_of, flat_tree, told_moment, told_value}
 use Rattle.smv_language.specs.Values as told
-use Rattle.smv_language.specs.Values.{Values, one, has}
-use Rattle.smv_language.specs.Evaluate.{evaluate}
-use Rattle.smv_language.specs.ExpressionTree.{tree_of}
 use Rattle.smv_language.specs.declared.expr.Expr.{Expr}
 use Rattle.base_values.specs.declared.value.Value.{Value}
-use Rattle.smv_language.specs.Flat.{FlatLeaf, FlatFormula, FlatModel, flat_leaves, definition_gives, table_after, leaves_at, FlatGives, FlatMay}
 use Rattle.smv_flat_laws.proofs.Lists.{length_end}
 use Rattle.smv_language.specs.declared.model.Flat.{Flat}
-use Rattle.smv_language.specs.ModelTree.{leaf_of, flat_tree}
 use Rattle.smv_type_laws.specs.Models.{kind_of_leaf, judged_in, IsTyped}
 use Rattle.smv_type_laws.specs.Laws.{IsKnown, ReadsOwn, KeepsKind}
 use Rattle.smv_type_laws.specs.KindValues.{IsSafe}
@@ -29,7 +23,6 @@ use Rattle.smv_evaluation.proofs.Answered.{Knows, answered}
 use Rattle.smv_evaluation.proofs.Mapped.{asked_mapped}
 use Rattle.smv_evaluation.proofs.FilledLaws.{lawful_is, knows}
 use Rattle.smv_language.proofs.ListLaws.{map_length}
-use Rattle.smv_language.specs.NumberedValues.{told_moment, told_value}
 
 table_length : (symbols : List Text) (v : List told.Value) (table : List (Option Values)) (ds : List FlatFormula) → length (table_after symbols v table ds) ≡ length table + length ds
 table_length symbols v table [] = omega arith

@@ -1,19 +1,14 @@
 -- What can be evaluated: models, values whose symbols have texts, and tables of values and of what definitions give.
 use Rattle.std.specs.Prelude.{◌≡◌, ℕ, ◌<◌, ◌^◌, Option, Some, false, List, [], length, map, slice_get}
-use Rattle.smv_language.specs.ProgramTree.{Text}
-use Rattle.smv_language.specs.Tree.{Tree}
-use Rattle.smv_language.specs.Trace.{Each}
+use Rattle.smv_language.specs.Language.{Text, Tree, Each, Values, one, FlatLeaf, FlatModel, table_after, FlatGives, FlatMay, AreApart}
+use Rattle.smv_language.specs.Language.{told_moment, told_value}
 use Rattle.smv_language.specs.Values as told
-use Rattle.smv_language.specs.Values.{Values, one}
 use Rattle.base_values.specs.declared.value.Value.{Value}
 use Rattle.base_values.specs.declared.value.Value.TheVariants.{Bool as truth, Num, Sym}
-use Rattle.smv_language.specs.Flat.{FlatLeaf, FlatModel, table_after, FlatGives, FlatMay}
 use Rattle.smv_flat_laws.specs.FlatTrace.{AreInDomains}
 use Rattle.smv_type_laws.specs.Laws.{IsClosed, ReadsOwn}
 use Rattle.smv_type_laws.specs.Models.{judged_in, broken_condition}
 use Rattle.smv_evaluation.specs.Entries.{Entries}
-use Rattle.smv_language.specs.Texts.{AreApart}
-use Rattle.smv_language.specs.NumberedValues.{told_moment, told_value}
 
 -- the number is that of a symbol
 pub record IsPlaceOf (symbols : List Text) (i : ℕ) : Type 0 where

@@ -1,9 +1,6 @@
 -- The laws of where moments stop and of the models of programs, as statements.
 use Rattle.std.specs.Prelude.{◌≡◌, ℕ, List}
-use Rattle.smv_language.specs.Tree.{Tree}
-use Rattle.smv_language.specs.ProgramTree.{ProgramTree}
-use Rattle.smv_language.specs.Values.{Value}
-use Rattle.smv_language.specs.Flat.{FlatLeaf, FlatModel}
+use Rattle.smv_language.specs.Language.{Tree, ProgramTree, Value, FlatLeaf, FlatModel}
 use Rattle.smv_flat_laws.specs.Model.{IsFlatOf}
 use Rattle.smv_evaluation.specs.EvaluableModels.{IsEvaluable}
 use Rattle.smv_evaluation.specs.Stops.{Why, Stops}

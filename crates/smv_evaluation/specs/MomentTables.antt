@@ -1,8 +1,7 @@
 -- The values of a model's variables and definitions at a moment, as they are computed one after the other.
 use Rattle.std.specs.Prelude.{◌≡◌, ◌&&◌, Bool, List, [], ◌∷◌, ◌++◌, length}
 use Rattle.std.specs.List.{list_all}
-use Rattle.smv_language.specs.Tree.{Tree}
-use Rattle.smv_language.specs.ExpressionTree.{tree_of}
+use Rattle.smv_language.specs.Language.{Tree, tree_of}
 use Rattle.base_values.specs.declared.value.Value.{Value}
 use Rattle.smv_language.specs.declared.model.Flat.{Flat}
 use Rattle.smv_language.specs.declared.model.Formula.{Formula}

@@ -1,9 +1,8 @@
 -- What becomes of a list of moments, as it is found moment by moment, and what that means.
 use Rattle.std.specs.Prelude.{ℕ, suc, ◌-◌, Bool, List, [], ◌∷◌, length, if◌then◌else◌}
-use Rattle.smv_language.specs.Tree.{Tree}
+use Rattle.smv_language.specs.Language.{Tree, FlatLeaf, FlatModel as ModelTree}
 use Rattle.smv_language.specs.Values as told
 use Rattle.base_values.specs.declared.value.Value.{Value}
-use Rattle.smv_language.specs.Flat.{FlatLeaf, FlatModel as ModelTree}
 use Rattle.smv_flat_laws.specs.FlatTrace.{IsFlatTrace}
 use Rattle.smv_language.specs.declared.model.Flat.{Flat}
 use Rattle.smv_language.specs.declared.model.FlatModel.{FlatModel}

@@ -1,8 +1,6 @@
 -- Where and why moments are no trace of a flat model that reaches a top event.
 use Rattle.std.specs.Prelude.{◌≡◌, ℕ, suc, ◌-◌, List, [], ◌∷◌, ◌++◌, length}
-use Rattle.smv_language.specs.Tree.{Tree}
-use Rattle.smv_language.specs.Values.{Value}
-use Rattle.smv_language.specs.Flat.{FlatLeaf, FlatModel}
+use Rattle.smv_language.specs.Language.{Tree, Value, FlatLeaf, FlatModel}
 use Rattle.smv_flat_laws.specs.FlatTrace.{IsFlatMoment, IsFlatStep, IsFlatTrace}
 use Rattle.sat_encoding_laws.specs.Encodings.{IsFlatFirst}
 use Rattle.sat_encoding_laws.specs.FlatTraces.{ReachesTop}

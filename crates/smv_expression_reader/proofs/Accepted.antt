@@ -4,19 +4,20 @@ use Rattle.std.specs.Prelude.{codes}
 use Rattle.smv_lexer.specs.declared.token.TokenKind.TheVariants as k
 use Rattle.smv_language.specs.declared.expr.Op.{Op}
 use Rattle.smv_language.specs.declared.expr.Op.TheVariants as op
-use Rattle.smv_language.specs.Tree.{Tree, Trees, Branches}
-use Rattle.smv_language.specs.Lexemes.{Lexeme, word, num, sign, is_reserved}
-use Rattle.smv_language.specs.ProgramTree.{Path}
-use Rattle.smv_language.specs.Spells.{at_expr, at_not, operator, is_repeated, SpellsInt, plain_int, minus_int, SpellsDotted, one_name, more_names, Spells, only_iff, implies, repeated, only_or, chooses, only_not, negates, only_atom, inverts, SpellsMore, no_operator, one_operator, SpellsAtom, is_true, is_false, is_number, is_span, is_name, in_parentheses, is_next, is_set, is_case, SpellsTrees, one_tree, more_trees, SpellsBranches, one_branch, more_branches}
-use Rattle.smv_expression_reader.specs.Recogniser.{Role, a_name, an_esac, a_minus, joins, role_of, Frame, group, moment, members, first_choice, condition, outcome, Ended, by_number, by_name, by_other, State, wants, wants_not, wants_high, wants_name, wants_open, wants_branch, had, stuck, step, run, is_whole, start}
+use Rattle.smv_language.specs.Language.{Tree, Trees, Branches, Lexeme, word, num, sign, is_reserved, Path, at_expr, at_not, operator, is_repeated, SpellsInt, plain_int, minus_int, SpellsDotted, one_name, more_names, Spells, only_iff, implies, repeated, only_or, chooses, only_not, negates, only_atom, inverts, SpellsMore, no_operator, one_operator, SpellsAtom, is_true, is_false, is_number, is_span, is_name, in_parentheses, is_next, is_set, is_case, SpellsTrees, one_tree, more_trees, SpellsBranches, one_branch, more_branches}
+use Rattle.smv_expression_reader.specs.Recogniser.{role_of, Ended, by_number, by_name, by_other, State, wants, wants_not, wants_high, wants_name, wants_open, wants_branch, had, stuck, step, run, is_whole, start}
 use Rattle.smv_language.proofs.OneTree.{is_none_of}
+use Rattle.smv_expression_reader.specs.declared.frames.OpenFrame.{OpenFrame as Frame}
+use Rattle.smv_expression_reader.specs.declared.machine.TokenRole.{TokenRole as Role}
+use Rattle.smv_expression_reader.specs.declared.frames.OpenFrame.TheVariants as frame
+use Rattle.smv_expression_reader.specs.declared.machine.TokenRole.TheVariants as role
 
 pub run_append : (st : State) (xs ys : List Lexeme) → run st (xs ++ ys) ≡ run (run st xs) ys
 run_append st [] ys = refl
 run_append st (t ∷ xs) ys = run_append (step st (role_of t)) xs ys
 
 -- a word that is not reserved is a name
-pub role_of_name : (x : List ℕ) → is_reserved x ≡ false → role_of (word x) ≡ a_name
+pub role_of_name : (x : List ℕ) → is_reserved x ≡ false → role_of (word x) ≡ role.Name
 role_of_name x n =
     rw (
       is_none_of x (codes "TRUE") refl n,
@@ -54,14 +55,14 @@ then_ends {st} {s} {s'} xs t a goes = then_takes xs t [] (had by_other s') a goe
 pub first_takes : {s : List Frame} (st : State) (t : Lexeme) (ys : List Lexeme) (next : State) → step st (role_of t) ≡ next → Takes next ys s → Takes st (t ∷ ys) s
 first_takes st t ys next e b = record { end = b.end; path = ap (λ z. run z ys) e ∙ b.path }
 
-pub operator_role : (o : Op) → (role_of (operator o) ≡ joins o) ⊎ (role_of (operator o) ≡ a_minus)
+pub operator_role : (o : Op) → (role_of (operator o) ≡ role.Joins o) ⊎ (role_of (operator o) ≡ role.Minus)
 operator_role op.Minus = inr refl
 operator_role o = inl refl
 
 pub after_operator : (o : Op) (s : List Frame) (e : Ended) → step (had e s) (role_of (operator o)) ≡ wants s
 after_operator o s e = go (operator_role o) e
   where
-    go : (role_of (operator o) ≡ joins o) ⊎ (role_of (operator o) ≡ a_minus) → (e : Ended) → step (had e s) (role_of (operator o)) ≡ wants s
+    go : (role_of (operator o) ≡ role.Joins o) ⊎ (role_of (operator o) ≡ role.Minus) → (e : Ended) → step (had e s) (role_of (operator o)) ≡ wants s
     go (inl h) by_number = rw h refl
     go (inl h) by_name = rw h refl
     go (inl h) by_other = rw h refl
@@ -69,42 +70,42 @@ after_operator o s e = go (operator_role o) e
     go (inr h) by_name = rw h refl
     go (inr h) by_other = rw h refl
 
-pub after_question : (s : List Frame) (e : Ended) → step (had e s) (role_of (sign k.Question)) ≡ wants (first_choice ∷ s)
+pub after_question : (s : List Frame) (e : Ended) → step (had e s) (role_of (sign k.Question)) ≡ wants (frame.FirstChoice ∷ s)
 after_question s by_number = refl
 after_question s by_name = refl
 after_question s by_other = refl
 
-pub after_colon : (s : List Frame) (e : Ended) → step (had e (first_choice ∷ s)) (role_of (sign k.Colon)) ≡ wants s
+pub after_colon : (s : List Frame) (e : Ended) → step (had e (frame.FirstChoice ∷ s)) (role_of (sign k.Colon)) ≡ wants s
 after_colon s by_number = refl
 after_colon s by_name = refl
 after_colon s by_other = refl
 
-pub after_condition : (s : List Frame) (e : Ended) → step (had e (condition ∷ s)) (role_of (sign k.Colon)) ≡ wants (outcome ∷ s)
+pub after_condition : (s : List Frame) (e : Ended) → step (had e (frame.Condition ∷ s)) (role_of (sign k.Colon)) ≡ wants (frame.Outcome ∷ s)
 after_condition s by_number = refl
 after_condition s by_name = refl
 after_condition s by_other = refl
 
-pub after_outcome : (s : List Frame) (e : Ended) → step (had e (outcome ∷ s)) (role_of (sign k.Semicolon)) ≡ wants_branch s
+pub after_outcome : (s : List Frame) (e : Ended) → step (had e (frame.Outcome ∷ s)) (role_of (sign k.Semicolon)) ≡ wants_branch s
 after_outcome s by_number = refl
 after_outcome s by_name = refl
 after_outcome s by_other = refl
 
-pub after_member : (s : List Frame) (e : Ended) → step (had e (members ∷ s)) (role_of (sign k.Comma)) ≡ wants (members ∷ s)
+pub after_member : (s : List Frame) (e : Ended) → step (had e (frame.Members ∷ s)) (role_of (sign k.Comma)) ≡ wants (frame.Members ∷ s)
 after_member s by_number = refl
 after_member s by_name = refl
 after_member s by_other = refl
 
-pub after_members : (s : List Frame) (e : Ended) → step (had e (members ∷ s)) (role_of (sign k.CloseBrace)) ≡ had by_other s
+pub after_members : (s : List Frame) (e : Ended) → step (had e (frame.Members ∷ s)) (role_of (sign k.CloseBrace)) ≡ had by_other s
 after_members s by_number = refl
 after_members s by_name = refl
 after_members s by_other = refl
 
-pub after_group : (s : List Frame) (e : Ended) → step (had e (group ∷ s)) (role_of (sign k.Close)) ≡ had by_other s
+pub after_group : (s : List Frame) (e : Ended) → step (had e (frame.Group ∷ s)) (role_of (sign k.Close)) ≡ had by_other s
 after_group s by_number = refl
 after_group s by_name = refl
 after_group s by_other = refl
 
-pub after_moment : (s : List Frame) (e : Ended) → step (had e (moment ∷ s)) (role_of (sign k.Close)) ≡ had by_other s
+pub after_moment : (s : List Frame) (e : Ended) → step (had e (frame.Moment ∷ s)) (role_of (sign k.Close)) ≡ had by_other s
 after_moment s by_number = refl
 after_moment s by_name = refl
 after_moment s by_other = refl
@@ -118,12 +119,12 @@ is_had (had e s) = true
 is_had _ = false
 
 -- what is taken where an operand is wanted is taken where a branch may come
-branch_too : (s s' : List Frame) (xs : List Lexeme) → Takes (wants (condition ∷ s)) xs s' → Takes (wants_branch s) xs s'
+branch_too : (s s' : List Frame) (xs : List Lexeme) → Takes (wants (frame.Condition ∷ s)) xs s' → Takes (wants_branch s) xs s'
 branch_too s s' [] a = let clash : false ≡ true = ap is_had a.path in cc
 branch_too s s' (t ∷ ts) a = record { end = a.end; path = go (role_of t) a.path }
   where
-    go : (c : Role) → run (step (wants (condition ∷ s)) c) ts ≡ had a.end s' → run (step (wants_branch s) c) ts ≡ had a.end s'
-    go an_esac h = let clash : false ≡ true = ap is_had (sym (run_stuck ts) ∙ h) in cc
+    go : (c : Role) → run (step (wants (frame.Condition ∷ s)) c) ts ≡ had a.end s' → run (step (wants_branch s) c) ts ≡ had a.end s'
+    go role.Esac h = let clash : false ≡ true = ap is_had (sym (run_stuck ts) ∙ h) in cc
     go c h = h
 
 -- where an operand may stand: anywhere, or after `!`
@@ -179,8 +180,8 @@ mutual
   takes s (repeated {xs = xs} {ys = ys} h p m) = takes_more s xs (takes s p) m
   takes s (only_or p) = takes s p
   takes s (chooses {zs = zs} {xs = xs} {ys = ys} p q r) =
-      then_takes zs (sign k.Question) (xs ++ sign k.Colon ∷ ys) (wants (first_choice ∷ s)) (takes s p) (after_question s)
-      (then_takes xs (sign k.Colon) ys (wants s) (takes (first_choice ∷ s) q) (after_colon s) (takes s r))
+      then_takes zs (sign k.Question) (xs ++ sign k.Colon ∷ ys) (wants (frame.FirstChoice ∷ s)) (takes s p) (after_question s)
+      (then_takes xs (sign k.Colon) ys (wants s) (takes (frame.FirstChoice ∷ s) q) (after_colon s) (takes s r))
   takes s (only_not p) = takes s p
   takes s (negates {ts = ts} n p) = first_takes (wants s) (sign k.Minus) ts (wants s) refl (takes s p)
   takes s (only_atom p) = takes_atom anywhere s p
@@ -210,30 +211,30 @@ mutual
   takes_atom w s (is_span p q) = takes_span w s p q
   takes_atom w s (is_name p) = takes_dotted (wanted w s) s (name_in_place w s) p
   takes_atom w s (in_parentheses {ts = ts} p) =
-      in_place w s (sign k.Open) (wants (group ∷ s)) refl refl (then_ends ts (sign k.Close) (takes (group ∷ s) p) (after_group s))
+      in_place w s (sign k.Open) (wants (frame.Group ∷ s)) refl refl (then_ends ts (sign k.Close) (takes (frame.Group ∷ s) p) (after_group s))
   takes_atom w s (is_next {ts = ts} p) =
       in_place w s (word (codes "next")) (wants_open s) refl refl
-      (first_takes (wants_open s) (sign k.Open) (ts ++ sign k.Close ∷ []) (wants (moment ∷ s)) refl
-      (then_ends ts (sign k.Close) (takes (moment ∷ s) p) (after_moment s)))
-  takes_atom w s (is_set {ts = ts} p) = in_place w s (sign k.OpenBrace) (wants (members ∷ s)) refl refl (takes_members s p)
-  takes_atom w s (is_case {ts = ts} p) = in_place w s (word (codes "case")) (wants (condition ∷ s)) refl refl (takes_branches s p)
+      (first_takes (wants_open s) (sign k.Open) (ts ++ sign k.Close ∷ []) (wants (frame.Moment ∷ s)) refl
+      (then_ends ts (sign k.Close) (takes (frame.Moment ∷ s) p) (after_moment s)))
+  takes_atom w s (is_set {ts = ts} p) = in_place w s (sign k.OpenBrace) (wants (frame.Members ∷ s)) refl refl (takes_members s p)
+  takes_atom w s (is_case {ts = ts} p) = in_place w s (word (codes "case")) (wants (frame.Condition ∷ s)) refl refl (takes_branches s p)
 
-  pub takes_members : {ts : List Lexeme} {us : Trees Path} (s : List Frame) → SpellsTrees ts us → Takes (wants (members ∷ s)) (ts ++ sign k.CloseBrace ∷ []) s
-  takes_members s (one_tree {ts = ts} p) = then_ends ts (sign k.CloseBrace) (takes (members ∷ s) p) (after_members s)
+  pub takes_members : {ts : List Lexeme} {us : Trees Path} (s : List Frame) → SpellsTrees ts us → Takes (wants (frame.Members ∷ s)) (ts ++ sign k.CloseBrace ∷ []) s
+  takes_members s (one_tree {ts = ts} p) = then_ends ts (sign k.CloseBrace) (takes (frame.Members ∷ s) p) (after_members s)
   takes_members s (more_trees {ts = ts} {us = us} p m) =
-      subst (λ z. Takes (wants (members ∷ s)) z s) (sym (append_assoc ts (sign k.Comma ∷ us) (sign k.CloseBrace ∷ [])))
-      (then_takes ts (sign k.Comma) (us ++ sign k.CloseBrace ∷ []) (wants (members ∷ s)) (takes (members ∷ s) p) (after_member s) (takes_members s m))
+      subst (λ z. Takes (wants (frame.Members ∷ s)) z s) (sym (append_assoc ts (sign k.Comma ∷ us) (sign k.CloseBrace ∷ [])))
+      (then_takes ts (sign k.Comma) (us ++ sign k.CloseBrace ∷ []) (wants (frame.Members ∷ s)) (takes (frame.Members ∷ s) p) (after_member s) (takes_members s m))
 
-  pub takes_branches : {ts : List Lexeme} {bs : Branches Path} (s : List Frame) → SpellsBranches ts bs → Takes (wants (condition ∷ s)) (ts ++ word (codes "esac") ∷ []) s
+  pub takes_branches : {ts : List Lexeme} {bs : Branches Path} (s : List Frame) → SpellsBranches ts bs → Takes (wants (frame.Condition ∷ s)) (ts ++ word (codes "esac") ∷ []) s
   takes_branches s (one_branch {zs = zs} {xs = xs} p q) =
-      subst (λ z. Takes (wants (condition ∷ s)) z s) (sym (regrouped_twice zs xs []))
-      (then_takes zs (sign k.Colon) (xs ++ sign k.Semicolon ∷ word (codes "esac") ∷ []) (wants (outcome ∷ s)) (takes (condition ∷ s) p) (after_condition s)
-      (then_takes xs (sign k.Semicolon) (word (codes "esac") ∷ []) (wants_branch s) (takes (outcome ∷ s) q) (after_outcome s)
+      subst (λ z. Takes (wants (frame.Condition ∷ s)) z s) (sym (regrouped_twice zs xs []))
+      (then_takes zs (sign k.Colon) (xs ++ sign k.Semicolon ∷ word (codes "esac") ∷ []) (wants (frame.Outcome ∷ s)) (takes (frame.Condition ∷ s) p) (after_condition s)
+      (then_takes xs (sign k.Semicolon) (word (codes "esac") ∷ []) (wants_branch s) (takes (frame.Outcome ∷ s) q) (after_outcome s)
       (record { end = by_other; path = refl })))
   takes_branches s (more_branches {zs = zs} {xs = xs} {ys = ys} p q m) =
-      subst (λ z. Takes (wants (condition ∷ s)) z s) (sym (regrouped_twice zs xs ys))
-      (then_takes zs (sign k.Colon) (xs ++ sign k.Semicolon ∷ (ys ++ word (codes "esac") ∷ [])) (wants (outcome ∷ s)) (takes (condition ∷ s) p) (after_condition s)
-      (then_takes xs (sign k.Semicolon) (ys ++ word (codes "esac") ∷ []) (wants_branch s) (takes (outcome ∷ s) q) (after_outcome s)
+      subst (λ z. Takes (wants (frame.Condition ∷ s)) z s) (sym (regrouped_twice zs xs ys))
+      (then_takes zs (sign k.Colon) (xs ++ sign k.Semicolon ∷ (ys ++ word (codes "esac") ∷ [])) (wants (frame.Outcome ∷ s)) (takes (frame.Condition ∷ s) p) (after_condition s)
+      (then_takes xs (sign k.Semicolon) (ys ++ word (codes "esac") ∷ []) (wants_branch s) (takes (frame.Outcome ∷ s) q) (after_outcome s)
       (branch_too s s (ys ++ word (codes "esac") ∷ []) (takes_branches s m))))
 
 -- what spells an expression is accepted

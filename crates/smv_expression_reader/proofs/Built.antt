@@ -5,14 +5,14 @@ use Rattle.std.specs.Prelude.{pos, codes, nat_le}
 use Rattle.smv_lexer.specs.declared.token.TokenKind.TheVariants as k
 use Rattle.smv_language.specs.declared.expr.Op.{Op}
 use Rattle.smv_language.specs.declared.expr.Op.TheVariants as op
-use Rattle.smv_language.specs.Tree.{Tree, Trees, Branches, truth, next_of, binary, case_of, set_of, span, no_tree, tree_then, no_branch, branch_then, trees_from, branches_from}
-use Rattle.smv_language.specs.Lexemes.{Lexeme, word, num, sign, is_reserved}
-use Rattle.smv_language.specs.ProgramTree.{Path}
-use Rattle.smv_language.specs.Spells.{at_expr, at_iff, at_choice, at_or, at_neg, at_not, line_of, operator, minus, begins_span, SpellsInt, plain_int, minus_int, SpellsDotted, one_name, more_names, Spells, only_iff, implies, repeated, only_or, chooses, only_not, negates, only_atom, inverts, SpellsMore, no_operator, one_operator, SpellsAtom, is_true, is_false, is_number, is_span, is_name, in_parentheses, is_next, is_set, is_case, SpellsTrees, one_tree, more_trees, SpellsBranches, one_branch, more_branches}
-use Rattle.smv_expression_reader.specs.Recogniser.{Role, an_esac, a_colon, a_semicolon, a_comma, closes, closes_set, role_of}
+use Rattle.smv_language.specs.Language.{Tree, Trees, Branches, next_of, binary, case_of, set_of, span, no_tree, tree_then, no_branch, branch_then, trees_from, branches_from, Lexeme, word, num, sign, is_reserved, Path, at_expr, at_iff, at_choice, at_or, at_neg, at_not, line_of, operator, minus, begins_span, SpellsInt, plain_int, minus_int, SpellsDotted, one_name, more_names, Spells, only_iff, implies, repeated, only_or, chooses, only_not, negates, only_atom, inverts, SpellsMore, no_operator, one_operator, SpellsAtom, is_true, is_false, is_number, is_span, is_name, in_parentheses, is_next, is_set, is_case, SpellsTrees, one_tree, more_trees, SpellsBranches, one_branch, more_branches}
+use Rattle.smv_language.specs.Tree.{truth}
+use Rattle.smv_expression_reader.specs.Recogniser.{role_of}
 use Rattle.smv_expression_reader.specs.TreeBuilder.{Part, minus_part, bang_part, left_part, answered, asked, group_part, next_part, set_part, condition_part, outcome_part, Hand, number_hand, name_hand, other_hand, Build, ready, name_on, high_on, branch_on, holds, broken, value, looseness, takes_operand, joined, reduce, shut, shut_held, left_held, asked_held, level, span_from, build_step, build, finished, finish, built}
 use Rattle.smv_expression_reader.proofs.Accepted.{role_of_name, regrouped_twice}
 use Rattle.smv_expression_reader.proofs.Prepended.{IsLine, IsLineIn, line_is}
+use Rattle.smv_expression_reader.specs.declared.machine.TokenRole.{TokenRole as Role}
+use Rattle.smv_expression_reader.specs.declared.machine.TokenRole.TheVariants as role
 
 pub build_append : (st : Build) (xs ys : List Lexeme) → build st (xs ++ ys) ≡ build (build st xs) ys
 build_append st [] ys = refl
@@ -89,29 +89,29 @@ after_question (name_hand p) ps = refl
 after_question (other_hand t) ps = refl
 
 abbrev is_closer : Role → Bool
-is_closer closes = true
-is_closer closes_set = true
-is_closer a_comma = true
-is_closer a_colon = true
-is_closer a_semicolon = true
+is_closer role.Closes = true
+is_closer role.ClosesSet = true
+is_closer role.Comma = true
+is_closer role.Colon = true
+is_closer role.Semicolon = true
 is_closer _ = false
 
 after_closer : (h : Hand) (ps : List Part) (t : Lexeme) (c : Role) → is_closer c ≡ true → build_step (holds h ps) t c ≡ shut_held (reduce at_expr (value h) ps) c
-after_closer (number_hand n) ps t closes e = refl
-after_closer (number_hand n) ps t closes_set e = refl
-after_closer (number_hand n) ps t a_comma e = refl
-after_closer (number_hand n) ps t a_colon e = refl
-after_closer (number_hand n) ps t a_semicolon e = refl
-after_closer (name_hand p) ps t closes e = refl
-after_closer (name_hand p) ps t closes_set e = refl
-after_closer (name_hand p) ps t a_comma e = refl
-after_closer (name_hand p) ps t a_colon e = refl
-after_closer (name_hand p) ps t a_semicolon e = refl
-after_closer (other_hand u) ps t closes e = refl
-after_closer (other_hand u) ps t closes_set e = refl
-after_closer (other_hand u) ps t a_comma e = refl
-after_closer (other_hand u) ps t a_colon e = refl
-after_closer (other_hand u) ps t a_semicolon e = refl
+after_closer (number_hand n) ps t role.Closes e = refl
+after_closer (number_hand n) ps t role.ClosesSet e = refl
+after_closer (number_hand n) ps t role.Comma e = refl
+after_closer (number_hand n) ps t role.Colon e = refl
+after_closer (number_hand n) ps t role.Semicolon e = refl
+after_closer (name_hand p) ps t role.Closes e = refl
+after_closer (name_hand p) ps t role.ClosesSet e = refl
+after_closer (name_hand p) ps t role.Comma e = refl
+after_closer (name_hand p) ps t role.Colon e = refl
+after_closer (name_hand p) ps t role.Semicolon e = refl
+after_closer (other_hand u) ps t role.Closes e = refl
+after_closer (other_hand u) ps t role.ClosesSet e = refl
+after_closer (other_hand u) ps t role.Comma e = refl
+after_closer (other_hand u) ps t role.Colon e = refl
+after_closer (other_hand u) ps t role.Semicolon e = refl
 after_closer h ps t c e = cc
 
 -- past an expression in a frame, and the lexeme that closes it
@@ -209,7 +209,7 @@ makes_branch bs ps [] h qs e = let clash : false ≡ true = ap is_held e in cc
 makes_branch bs ps (t ∷ ts) h qs e = go (role_of t) e
   where
     go : (c : Role) → build (build_step (ready (condition_part bs ∷ ps)) t c) ts ≡ holds h qs → build (build_step (branch_on bs ps) t c) ts ≡ holds h qs
-    go an_esac f = let clash : false ≡ true = ap is_held (sym (build_broken ts) ∙ f) in cc
+    go role.Esac f = let clash : false ≡ true = ap is_held (sym (build_broken ts) ∙ f) in cc
     go c f = f
 
 mutual

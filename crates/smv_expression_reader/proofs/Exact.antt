@@ -1,34 +1,33 @@
 -- A list goes on exactly where something after it makes it spell an expression.
 use Rattle.std.proofs.Common.{◌≡◌, true, false, List, [], ◌∷◌, ◌++◌, refl, sym, ◌∙◌, ap}
-use Rattle.smv_language.specs.Tree.{Tree}
-use Rattle.smv_language.specs.Lexemes.{Lexeme}
-use Rattle.smv_language.specs.ProgramTree.{Path}
-use Rattle.smv_language.specs.Spells.{at_expr, Spells}
-use Rattle.smv_expression_reader.specs.Recogniser.{Frame, group, moment, members, first_choice, condition, outcome, Ended, by_number, by_name, by_other, State, wants, wants_not, wants_low, wants_dots, wants_high, wants_digits, wants_name, wants_open, wants_branch, had, stuck, run, is_whole, is_stuck, start}
+use Rattle.smv_language.specs.Language.{Tree, Lexeme, Path, at_expr, Spells}
+use Rattle.smv_expression_reader.specs.Recogniser.{Ended, by_number, by_name, by_other, State, wants, wants_not, wants_low, wants_dots, wants_high, wants_digits, wants_name, wants_open, wants_branch, had, stuck, run, is_whole, is_stuck, start}
 use Rattle.smv_expression_reader.specs.Complete.{close_all, completion}
 use Rattle.smv_expression_reader.proofs.Accepted.{run_append, run_stuck, spelled_accepted}
 use Rattle.smv_expression_reader.proofs.Rest.{accepted_spelled}
+use Rattle.smv_expression_reader.specs.declared.frames.OpenFrame.{OpenFrame as Frame}
+use Rattle.smv_expression_reader.specs.declared.frames.OpenFrame.TheVariants as frame
 
 closes_all : (e : Ended) (s : List Frame) → is_whole (run (had e s) (close_all s)) ≡ true
 closes_all e [] = refl
-closes_all by_number (group ∷ s) = closes_all by_other s
-closes_all by_name (group ∷ s) = closes_all by_other s
-closes_all by_other (group ∷ s) = closes_all by_other s
-closes_all by_number (moment ∷ s) = closes_all by_other s
-closes_all by_name (moment ∷ s) = closes_all by_other s
-closes_all by_other (moment ∷ s) = closes_all by_other s
-closes_all by_number (members ∷ s) = closes_all by_other s
-closes_all by_name (members ∷ s) = closes_all by_other s
-closes_all by_other (members ∷ s) = closes_all by_other s
-closes_all by_number (first_choice ∷ s) = closes_all by_number s
-closes_all by_name (first_choice ∷ s) = closes_all by_number s
-closes_all by_other (first_choice ∷ s) = closes_all by_number s
-closes_all by_number (condition ∷ s) = closes_all by_other s
-closes_all by_name (condition ∷ s) = closes_all by_other s
-closes_all by_other (condition ∷ s) = closes_all by_other s
-closes_all by_number (outcome ∷ s) = closes_all by_other s
-closes_all by_name (outcome ∷ s) = closes_all by_other s
-closes_all by_other (outcome ∷ s) = closes_all by_other s
+closes_all by_number (frame.Group ∷ s) = closes_all by_other s
+closes_all by_name (frame.Group ∷ s) = closes_all by_other s
+closes_all by_other (frame.Group ∷ s) = closes_all by_other s
+closes_all by_number (frame.Moment ∷ s) = closes_all by_other s
+closes_all by_name (frame.Moment ∷ s) = closes_all by_other s
+closes_all by_other (frame.Moment ∷ s) = closes_all by_other s
+closes_all by_number (frame.Members ∷ s) = closes_all by_other s
+closes_all by_name (frame.Members ∷ s) = closes_all by_other s
+closes_all by_other (frame.Members ∷ s) = closes_all by_other s
+closes_all by_number (frame.FirstChoice ∷ s) = closes_all by_number s
+closes_all by_name (frame.FirstChoice ∷ s) = closes_all by_number s
+closes_all by_other (frame.FirstChoice ∷ s) = closes_all by_number s
+closes_all by_number (frame.Condition ∷ s) = closes_all by_other s
+closes_all by_name (frame.Condition ∷ s) = closes_all by_other s
+closes_all by_other (frame.Condition ∷ s) = closes_all by_other s
+closes_all by_number (frame.Outcome ∷ s) = closes_all by_other s
+closes_all by_name (frame.Outcome ∷ s) = closes_all by_other s
+closes_all by_other (frame.Outcome ∷ s) = closes_all by_other s
 
 pub completes : (st : State) → is_stuck st ≡ false → is_whole (run st (completion st)) ≡ true
 completes (wants s) h = closes_all by_number s

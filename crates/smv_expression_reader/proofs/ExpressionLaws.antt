@@ -9,12 +9,7 @@ use Rattle.std.proofs.lemmas.Bool.Decides.{nat_tests}
 use Rattle.base_values.specs.declared.limits.TheConstants.{MOST_HEIGHT, MOST_NESTED}
 use Rattle.smv_lexer.specs.declared.token.Token.{Token}
 use Rattle.smv_lexer.specs.Tokens.{HasTokens}
-use Rattle.smv_language.specs.Tree.{height_of}
-use Rattle.smv_language.specs.ProgramTree.{Formula}
-use Rattle.smv_language.specs.Lexemes.{Lexeme, lexemes_of}
-use Rattle.smv_language.specs.SpellsProgram.{SpellsExpr}
-use Rattle.smv_language.specs.Nesting.{nesting_of}
-use Rattle.smv_language.specs.Bytes.{BytesSpellExpr, HasDepths}
+use Rattle.smv_language.specs.Language.{height_of, Formula, Lexeme, lexemes_of, SpellsExpr, nesting_of, BytesSpellExpr, HasDepths}
 use Rattle.smv_expression_reader.specs.Recogniser.{run, is_stuck, is_whole, start}
 use Rattle.smv_expression_reader.specs.TreeBuilder.{built}
 use Rattle.smv_expression_reader.specs.Extents.{reach_of, is_deep}

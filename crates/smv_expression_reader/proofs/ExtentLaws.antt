@@ -4,16 +4,13 @@ use Rattle.std.specs.Prelude.{◌||◌, nat_lt, max, if◌then◌else◌}
 use Rattle.std.proofs.lemmas.List.{drop_more}
 use Rattle.std.proofs.lemmas.Bool.Decides.{nat_tests}
 use Rattle.base_values.specs.declared.limits.TheConstants.{MOST_NESTED}
-use Rattle.smv_language.specs.Lexemes.{Lexeme}
-use Rattle.smv_language.specs.Tree.{Tree}
-use Rattle.smv_language.specs.ProgramTree.{Path}
-use Rattle.smv_language.specs.Spells.{at_expr, Spells}
-use Rattle.smv_language.specs.Nesting.{nesting_of}
-use Rattle.smv_expression_reader.specs.Recogniser.{Role, State, stuck, step, run, role_of, is_stuck, is_whole, start}
+use Rattle.smv_language.specs.Language.{Lexeme, Tree, Path, at_expr, Spells, nesting_of}
+use Rattle.smv_expression_reader.specs.Recogniser.{State, stuck, step, run, role_of, is_stuck, is_whole, start}
 use Rattle.smv_expression_reader.specs.Depth.{depth, peak}
 use Rattle.smv_expression_reader.specs.Extents.{reach_of, is_deep, ends_whole}
 use Rattle.smv_expression_reader.proofs.Accepted.{run_stuck, spelled_accepted}
 use Rattle.smv_expression_reader.proofs.Peaks.{peak_nesting}
+use Rattle.smv_expression_reader.specs.declared.machine.TokenRole.{TokenRole as Role}
 
 pub reach_more : (st : State) (ts : List Lexeme) (i : ℕ) (d : Lexeme) → i < length ts →
     reach_of st (drop i ts) ≡ (if is_stuck (step st (role_of (get_or ts i d))) then 0 else reach_of (step st (role_of (get_or ts i d))) (drop (i + 1) ts) + 1)

@@ -2,16 +2,16 @@
 use Rattle.std.proofs.Common.{◌≡◌, inl, inr, Bool, true, false, List, [], ◌∷◌, ◌++◌, Some, None, refl, sym, ◌∙◌, ap, subst, append-nil}
 use Rattle.std.specs.Prelude.{◌||◌}
 use Rattle.smv_lexer.specs.declared.token.TokenKind.TheVariants as k
-use Rattle.smv_language.specs.ProgramTree.{Formula}
-use Rattle.smv_language.specs.Lexemes.{Lexeme, num, sign}
-use Rattle.smv_language.specs.SpellsProgram.{SpellsExpressions, last_expression, more_expressions, open_ended, ended}
-use Rattle.smv_expression_reader.specs.Recogniser.{Role, a_semicolon, role_of, by_number, by_name, by_other, State, had, stuck, is_whole, start}
+use Rattle.smv_language.specs.Language.{Formula, Lexeme, num, sign, SpellsExpressions, last_expression, more_expressions, open_ended, ended}
+use Rattle.smv_expression_reader.specs.Recogniser.{role_of, by_number, by_name, by_other, State, had, stuck, is_whole, start}
 use Rattle.smv_expression_reader.specs.Recogniser as machine
 use Rattle.smv_expression_reader.specs.PredictiveReader.{Means, run, Fits, IsPredictable}
 use Rattle.smv_expression_reader.specs.Formulas.{Sym, formula, more, again, expressions, is_semicolon, live, IsAgain, IsMore, spelled, empty, after_semicolon, next, follow, shortest, formulas}
 use Rattle.smv_expression_reader.proofs.Accepted.{run_stuck, spelled_accepted}
 use Rattle.smv_expression_reader.proofs.Rest.{accepted_spelled, meant_semicolon}
 use Rattle.smv_expression_reader.proofs.Exact.{completes}
+use Rattle.smv_expression_reader.specs.declared.machine.TokenRole.{TokenRole as Role}
+use Rattle.smv_expression_reader.specs.declared.machine.TokenRole.TheVariants as role
 
 -- a list of expressions is one, and then what follows
 pub record Split (ts : List Lexeme) : Type 0 where
@@ -87,21 +87,21 @@ list_not_empty es p = let parts = split [] es p in go parts.expr parts.rest part
     go [] ys e w = cc
     go (t ∷ xs) ys e w = cc
 
-pub semicolon_role : (t : Lexeme) → is_semicolon (role_of t) ≡ true → role_of t ≡ a_semicolon
+pub semicolon_role : (t : Lexeme) → is_semicolon (role_of t) ≡ true → role_of t ≡ role.Semicolon
 semicolon_role t h = go (role_of t) h
   where
-    go : (c : Role) → is_semicolon c ≡ true → c ≡ a_semicolon
-    go a_semicolon h = refl
+    go : (c : Role) → is_semicolon c ≡ true → c ≡ role.Semicolon
+    go role.Semicolon h = refl
     go c h = cc
 
 more_sound : (c : Role) (t : Lexeme) → (role_of t ≡ c) → (s : List Sym) → after_semicolon c ≡ Some s → (ts : List Lexeme) → Means Sym formulas s ts → IsMore (t ∷ ts)
-more_sound a_semicolon t r s e ts m =
+more_sound role.Semicolon t r s e ts m =
     let same : s ≡ again ∷ [] = cc in
     let n : Means Sym formulas (again ∷ []) ts = subst (λ z. Means Sym formulas z ts) same m in
     inr (ts, ap (λ z. z ∷ ts) (meant_semicolon t r), subst IsAgain (sym (n.2 ∙ ap (λ z. n.0 ++ z) n.4 ∙ append-nil n.0)) n.3)
 more_sound c t r s e ts m = cc
 
-pub whole_stops : (st : State) → is_whole st ≡ true → machine.step st a_semicolon ≡ stuck
+pub whole_stops : (st : State) → is_whole st ≡ true → machine.step st role.Semicolon ≡ stuck
 whole_stops (had by_number []) h = refl
 whole_stops (had by_name []) h = refl
 whole_stops (had by_other []) h = refl
@@ -116,7 +116,7 @@ live_inner_more stuck s e = cc
 live_inner_more st s e = let same : s ≡ formula st refl ∷ more ∷ [] = cc in subst (λ z. Fits Sym formulas z (λ t. false)) (sym same) (λ t g. go (role_of t) g, (λ t g. g, tt))
   where
     go : (c : Role) → ((Rattle.smv_expression_reader.specs.PredictiveReader.is_some Sym formulas (after_semicolon c) || false) || false) ≡ true → is_semicolon c ≡ true
-    go a_semicolon g = refl
+    go role.Semicolon g = refl
     go c g = cc
 
 pub formulas_predictable : IsPredictable Sym formulas
@@ -172,7 +172,7 @@ formulas_predictable = record {
     inners more t s e = go (role_of t) e
       where
         go : (c : Role) → after_semicolon c ≡ Some s → Fits Sym formulas s (λ u. false)
-        go a_semicolon e = let same : s ≡ again ∷ [] = cc in subst (λ z. Fits Sym formulas z (λ u. false)) (sym same) (λ u g. g, tt)
+        go role.Semicolon e = let same : s ≡ again ∷ [] = cc in subst (λ z. Fits Sym formulas z (λ u. false)) (sym same) (λ u g. g, tt)
         go c e = cc
     inners again t s e = live_inner_more (machine.step start (role_of t)) s e
     inners expressions t s e = live_inner_more (machine.step start (role_of t)) s e

@@ -2,9 +2,7 @@
 use Rattle.std.proofs.Common.{◌≡◌, List, [], ◌∷◌, ◌++◌, refl, ap, ◌∙◌, arith}
 use Rattle.std.specs.Prelude.{max, map}
 use Rattle.smv_language.specs.declared.expr.Expr.{Expr}
-use Rattle.smv_language.specs.Tree.{Tree, height_of, trees_height, branches_height, trees_from, branches_from}
-use Rattle.smv_language.specs.ProgramTree.{Path}
-use Rattle.smv_language.specs.ExpressionTree.{tree_of, branch_trees}
+use Rattle.smv_language.specs.Language.{Tree, height_of, trees_height, branches_height, trees_from, branches_from, Path, tree_of, branch_trees}
 
 pub trees_more : (ts : List (Tree Path)) (t : Tree Path) → trees_height (trees_from (ts ++ t ∷ [])) ≡ max (trees_height (trees_from ts)) (height_of t)
 trees_more [] t = omega arith

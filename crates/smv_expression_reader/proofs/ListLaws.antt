@@ -2,7 +2,7 @@
 use Rattle.std.proofs.Common.{◌≡◌, Bool, true, false, List, [], ◌∷◌, Option, Some, None, refl, sym, ap, ◌∙◌}
 use Rattle.std.specs.Prelude.{◌&&◌, if◌then◌else◌}
 use Rattle.smv_language.specs.Lexemes.{Lexeme}
-use Rattle.smv_expression_reader.specs.Recogniser.{Role, Frame, State, stuck, role_of, is_stuck, is_whole, start}
+use Rattle.smv_expression_reader.specs.Recogniser.{State, stuck, role_of, is_stuck, is_whole, start}
 use Rattle.smv_expression_reader.specs.Recogniser as machine
 use Rattle.smv_expression_reader.specs.PredictiveReader.{taken, step, all_empty}
 use Rattle.smv_expression_reader.specs.Formulas.{Sym, formula, more, again, expressions, live, formulas}
@@ -11,6 +11,8 @@ use Rattle.smv_expression_reader.specs.Readings.{Goes}
 use Rattle.smv_expression_reader.specs.declared.list.ListPlace.{ListPlace}
 use Rattle.smv_expression_reader.specs.declared.list.ListPlace.TheVariants as p
 use Rattle.smv_expression_reader.specs.Views.{state_with}
+use Rattle.smv_expression_reader.specs.declared.frames.OpenFrame.{OpenFrame as Frame}
+use Rattle.smv_expression_reader.specs.declared.machine.TokenRole.{TokenRole as Role}
 
 pub live_stuck : (st : State) (s : List Sym) → is_stuck st ≡ true → live st s ≡ None
 live_stuck stuck s h = refl

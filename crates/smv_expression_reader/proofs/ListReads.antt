@@ -5,9 +5,7 @@ use Rattle.std.proofs.lemmas.Bool.Decides.{nat_tests}
 use Rattle.smv_lexer.specs.declared.token.TokenKind.TheVariants as k
 use Rattle.smv_lexer.specs.declared.token.Token.{Token}
 use Rattle.smv_lexer.specs.Tokens.{HasTokens}
-use Rattle.smv_language.specs.ProgramTree.{Formula}
-use Rattle.smv_language.specs.Lexemes.{Lexeme, sign, lexemes_of}
-use Rattle.smv_language.specs.SpellsProgram.{SpellsExpr, open_ended, ended, SpellsExpressions, last_expression, more_expressions}
+use Rattle.smv_language.specs.Language.{Formula, Lexeme, sign, lexemes_of, SpellsExpr, open_ended, ended, SpellsExpressions, last_expression, more_expressions}
 use Rattle.smv_expression_reader.specs.Recogniser.{run, is_whole, start}
 use Rattle.smv_expression_reader.specs.Lists.{IsExpressions, BytesSpellExpressions}
 use Rattle.smv_expression_reader.specs.ExpressionDepths.{is_too_deep, are_too_deep, spelling, in_list, AreWithin, HaveDepths, AreTooDeep}

@@ -2,14 +2,15 @@
 use Rattle.std.proofs.Common.{◌≡◌, ℕ, Bool, true, false, List, [], ◌∷◌, refl, ◌∙◌, ap, subst}
 use Rattle.std.specs.Prelude.{◌||◌, codes, if◌then◌else◌}
 use Rattle.smv_lexer.specs.declared.token.TokenKind.TheVariants as k
-use Rattle.smv_language.specs.Lexemes.{Lexeme, word, num, sign, is_reserved, section_words}
-use Rattle.smv_language.specs.Texts.{same_text, is_among}
-use Rattle.smv_language.specs.SpellsProgram.{skipped_words}
-use Rattle.smv_expression_reader.specs.Recogniser.{no_role, role_of_word}
+use Rattle.smv_language.specs.Language.{Lexeme, word, num, sign, is_reserved, section_words, same_text, is_among, skipped_words}
+use Rattle.smv_expression_reader.specs.Recogniser.{role_of_word}
 use Rattle.smv_expression_reader.specs.Places.{is_word}
-use Rattle.smv_expression_reader.specs.Marks.{Mark, w_module, w_var, w_ivar, w_frozen, w_define, w_constants, w_assign, w_init, w_invar, w_trans, w_skipped, w_boolean, w_first, w_after, a_name, a_number, s_becomes, s_dots, s_open, s_close, s_open_brace, s_close_brace, s_comma, s_semicolon, s_colon, s_dot, s_minus, no_mark, mark_of_word, mark_of, is_section}
+use Rattle.smv_expression_reader.specs.Marks.{mark_of_word, mark_of, is_section}
 use Rattle.smv_language.proofs.OneTree.{same_text_equal, is_none_of}
 use Rattle.smv_expression_reader.proofs.Rest.{same_word}
+use Rattle.smv_expression_reader.specs.declared.mark.Mark.{Mark}
+use Rattle.smv_expression_reader.specs.declared.machine.TokenRole.TheVariants as role
+use Rattle.smv_expression_reader.specs.declared.mark.Mark.TheVariants as mark
 
 pub word_there : (t : Lexeme) (w : List ℕ) → is_word t w ≡ true → t ≡ word w
 word_there (word x) w h = same_word x w h
@@ -30,34 +31,34 @@ among P (w ∷ ws) x all h = go (same_text w x) refl h (λ e. among P ws x all.1
     go false e h rec = rec h
 
 unfoldable pub Marked : Mark → Lexeme → Type 0
-Marked w_module t = t ≡ word (codes "MODULE")
-Marked w_var t = t ≡ word (codes "VAR")
-Marked w_ivar t = t ≡ word (codes "IVAR")
-Marked w_frozen t = t ≡ word (codes "FROZENVAR")
-Marked w_define t = t ≡ word (codes "DEFINE")
-Marked w_constants t = t ≡ word (codes "CONSTANTS")
-Marked w_assign t = t ≡ word (codes "ASSIGN")
-Marked w_init t = t ≡ word (codes "INIT")
-Marked w_invar t = t ≡ word (codes "INVAR")
-Marked w_trans t = t ≡ word (codes "TRANS")
-Marked w_skipped t = (x : List ℕ) × (t ≡ word x) × (is_among skipped_words x ≡ true)
-Marked w_boolean t = t ≡ word (codes "boolean")
-Marked w_first t = t ≡ word (codes "init")
-Marked w_after t = t ≡ word (codes "next")
-Marked a_name t = (x : List ℕ) × (t ≡ word x) × (is_reserved x ≡ false)
-Marked a_number t = (n : ℕ) × (d : List ℕ) × (t ≡ num n d)
-Marked s_becomes t = t ≡ sign k.Becomes
-Marked s_dots t = t ≡ sign k.Dots
-Marked s_open t = t ≡ sign k.Open
-Marked s_close t = t ≡ sign k.Close
-Marked s_open_brace t = t ≡ sign k.OpenBrace
-Marked s_close_brace t = t ≡ sign k.CloseBrace
-Marked s_comma t = t ≡ sign k.Comma
-Marked s_semicolon t = t ≡ sign k.Semicolon
-Marked s_colon t = t ≡ sign k.Colon
-Marked s_dot t = t ≡ sign k.Dot
-Marked s_minus t = t ≡ sign k.Minus
-Marked no_mark t = Unit {0}
+Marked mark.Module t = t ≡ word (codes "MODULE")
+Marked mark.Var t = t ≡ word (codes "VAR")
+Marked mark.Ivar t = t ≡ word (codes "IVAR")
+Marked mark.Frozen t = t ≡ word (codes "FROZENVAR")
+Marked mark.Define t = t ≡ word (codes "DEFINE")
+Marked mark.Constants t = t ≡ word (codes "CONSTANTS")
+Marked mark.Assign t = t ≡ word (codes "ASSIGN")
+Marked mark.Init t = t ≡ word (codes "INIT")
+Marked mark.Invar t = t ≡ word (codes "INVAR")
+Marked mark.Trans t = t ≡ word (codes "TRANS")
+Marked mark.Skipped t = (x : List ℕ) × (t ≡ word x) × (is_among skipped_words x ≡ true)
+Marked mark.Boolean t = t ≡ word (codes "boolean")
+Marked mark.First t = t ≡ word (codes "init")
+Marked mark.After t = t ≡ word (codes "next")
+Marked mark.Name t = (x : List ℕ) × (t ≡ word x) × (is_reserved x ≡ false)
+Marked mark.Number t = (n : ℕ) × (d : List ℕ) × (t ≡ num n d)
+Marked mark.Becomes t = t ≡ sign k.Becomes
+Marked mark.Dots t = t ≡ sign k.Dots
+Marked mark.Open t = t ≡ sign k.Open
+Marked mark.Close t = t ≡ sign k.Close
+Marked mark.OpenBrace t = t ≡ sign k.OpenBrace
+Marked mark.CloseBrace t = t ≡ sign k.CloseBrace
+Marked mark.Comma t = t ≡ sign k.Comma
+Marked mark.Semicolon t = t ≡ sign k.Semicolon
+Marked mark.Colon t = t ≡ sign k.Colon
+Marked mark.Dot t = t ≡ sign k.Dot
+Marked mark.Minus t = t ≡ sign k.Minus
+Marked mark.Nothing t = Unit {0}
 
 by_test : (b : Bool) (P : Mark → Type 0) (x y : Mark) → (b ≡ true → P x) → (b ≡ false → P y) → P (if b then x else y)
 by_test true P x y f g = f refl
@@ -81,7 +82,7 @@ marked_word x =
     by_test (same_text x (codes "boolean")) P _ _ (λ e. same_word x (codes "boolean") e) (λ n12.
     by_test (same_text x (codes "init")) P _ _ (λ e. same_word x (codes "init") e) (λ n13.
     by_test (same_text x (codes "next")) P _ _ (λ e. same_word x (codes "next") e) (λ n14.
-    by_test (is_reserved x) P no_mark a_name (λ e. tt) (λ e. (x, refl, e))))))))))))))))
+    by_test (is_reserved x) P mark.Nothing mark.Name (λ e. tt) (λ e. (x, refl, e))))))))))))))))
 
 pub marked : (t : Lexeme) → Marked (mark_of t) t
 unfolding Marked
@@ -108,7 +109,7 @@ not_skipped x n = go (is_among skipped_words x) refl
     go true e = let clash : is_reserved x ≡ true = among (λ w. is_reserved w ≡ true) skipped_words x (refl, (refl, (refl, (refl, (refl, (refl, tt)))))) e in cc
     go false e = refl
 
-pub mark_of_name : (x : List ℕ) → is_reserved x ≡ false → mark_of (word x) ≡ a_name
+pub mark_of_name : (x : List ℕ) → is_reserved x ≡ false → mark_of (word x) ≡ mark.Name
 mark_of_name x n =
     rw (
       is_none_of x (codes "MODULE") refl n,
@@ -128,41 +129,41 @@ mark_of_name x n =
       n,
     ) refl
 
-pub mark_of_skipped : (x : List ℕ) → is_among skipped_words x ≡ true → mark_of (word x) ≡ w_skipped
-mark_of_skipped x h = among (λ w. mark_of_word w ≡ w_skipped) skipped_words x (refl, (refl, (refl, (refl, (refl, (refl, tt)))))) h
+pub mark_of_skipped : (x : List ℕ) → is_among skipped_words x ≡ true → mark_of (word x) ≡ mark.Skipped
+mark_of_skipped x h = among (λ w. mark_of_word w ≡ mark.Skipped) skipped_words x (refl, (refl, (refl, (refl, (refl, (refl, tt)))))) h
 
 pub skipped_section : (x : List ℕ) → is_among skipped_words x ≡ true → is_among section_words x ≡ true
 skipped_section x h = among (λ w. is_among section_words w ≡ true) skipped_words x (refl, (refl, (refl, (refl, (refl, (refl, tt)))))) h
 
-pub section_no_role : (x : List ℕ) → is_among section_words x ≡ true → role_of_word x ≡ no_role
-section_no_role x h = among (λ w. role_of_word w ≡ no_role) section_words x
+pub section_no_role : (x : List ℕ) → is_among section_words x ≡ true → role_of_word x ≡ role.Nothing
+section_no_role x h = among (λ w. role_of_word w ≡ role.Nothing) section_words x
     (refl, (refl, (refl, (refl, (refl, (refl, (refl, (refl, (refl, (refl, (refl, (refl, (refl, (refl, (refl, (refl, (refl, (refl, (refl, tt))))))))))))))))))) h
 
 abbrev pub begins_section : Mark → Bool
-begins_section w_module = true
-begins_section w_var = true
-begins_section w_ivar = true
-begins_section w_frozen = true
-begins_section w_define = true
-begins_section w_constants = true
-begins_section w_assign = true
-begins_section w_init = true
-begins_section w_invar = true
-begins_section w_trans = true
-begins_section w_skipped = true
+begins_section mark.Module = true
+begins_section mark.Var = true
+begins_section mark.Ivar = true
+begins_section mark.Frozen = true
+begins_section mark.Define = true
+begins_section mark.Constants = true
+begins_section mark.Assign = true
+begins_section mark.Init = true
+begins_section mark.Invar = true
+begins_section mark.Trans = true
+begins_section mark.Skipped = true
 begins_section _ = false
 
 pub section_mark : (c : Mark) (t : Lexeme) → Marked c t → begins_section c ≡ true → is_section t ≡ true
 unfolding Marked
-section_mark w_skipped t m h = ap is_section m.1 ∙ skipped_section m.0 m.2
-section_mark w_module t m h = ap is_section m
-section_mark w_var t m h = ap is_section m
-section_mark w_ivar t m h = ap is_section m
-section_mark w_frozen t m h = ap is_section m
-section_mark w_define t m h = ap is_section m
-section_mark w_constants t m h = ap is_section m
-section_mark w_assign t m h = ap is_section m
-section_mark w_init t m h = ap is_section m
-section_mark w_invar t m h = ap is_section m
-section_mark w_trans t m h = ap is_section m
+section_mark mark.Skipped t m h = ap is_section m.1 ∙ skipped_section m.0 m.2
+section_mark mark.Module t m h = ap is_section m
+section_mark mark.Var t m h = ap is_section m
+section_mark mark.Ivar t m h = ap is_section m
+section_mark mark.Frozen t m h = ap is_section m
+section_mark mark.Define t m h = ap is_section m
+section_mark mark.Constants t m h = ap is_section m
+section_mark mark.Assign t m h = ap is_section m
+section_mark mark.Init t m h = ap is_section m
+section_mark mark.Invar t m h = ap is_section m
+section_mark mark.Trans t m h = ap is_section m
 section_mark c t m h = cc

@@ -1,12 +1,11 @@
 -- A vector of parts as a stack.
 use Rattle.std.proofs.Common.{◌≡◌, ℕ, true, false, List, [], ◌∷◌, ◌++◌, Some, None, refl, sym, ap}
 use Rattle.smv_language.specs.declared.expr.Op.{Op}
-use Rattle.smv_expression_reader.specs.Recogniser.{Role}
 use Rattle.smv_expression_reader.specs.declared.parts.Pending.{Pending}
-use Rattle.smv_language.specs.Tree.{Tree}
-use Rattle.smv_language.specs.ProgramTree.{Path}
+use Rattle.smv_language.specs.Language.{Tree, Path}
 use Rattle.smv_expression_reader.specs.TreeBuilder as machine
 use Rattle.smv_expression_reader.specs.PartViews.{part_view, parts_onto, parts_of, held}
+use Rattle.smv_expression_reader.specs.declared.machine.TokenRole.{TokenRole as Role}
 
 onto : (s : List machine.Part) (xs : List Pending) (x : Pending) → parts_onto s (xs ++ x ∷ []) ≡ part_view x ∷ parts_onto s xs
 onto s [] x = refl

@@ -2,15 +2,12 @@
 use Rattle.std.proofs.Common.{◌≡◌, ℕ, zero, suc, ◌<◌, ◌≤◌, ℤ, Bool, true, false, List, [], ◌∷◌, ◌++◌, length, refl, sym, ap, ◌∙◌, arith, append_assoc, length-append}
 use Rattle.std.specs.Prelude.{◌||◌, if◌then◌else◌}
 use Rattle.std.proofs.Math.Bool.{or_assoc}
-use Rattle.smv_language.specs.ProgramTree.{Text}
-use Rattle.smv_language.specs.Lexemes.{Lexeme, word, is_reserved}
-use Rattle.smv_language.specs.Spells.{SpellsInt, plain_int, minus_int}
-use Rattle.smv_language.specs.SpellsProgram.{SpellsMany, no_more, one_more}
-use Rattle.smv_expression_reader.specs.Marks.{Mark, mark_of}
-use Rattle.smv_expression_reader.specs.MarkView.{is_mark}
+use Rattle.smv_language.specs.Language.{Text, Lexeme, word, is_reserved, SpellsInt, plain_int, minus_int, SpellsMany, no_more, one_more}
+use Rattle.smv_expression_reader.specs.Marks.{mark_of, is_mark}
 use Rattle.smv_expression_reader.specs.ExpressionDepths.{Spelling, is_too_deep, are_too_deep, in_many}
 use Rattle.smv_expression_reader.specs.SecondPass.{Read, got, deep, none, and_then, answer, with_front, expect_at, named_at, name_at, each_at, some_at, int_at}
 use Rattle.smv_expression_reader.proofs.Marks.{mark_of_name}
+use Rattle.smv_expression_reader.specs.declared.mark.Mark.{Mark}
 
 -- of two lists one is too deep where one of either is
 pub too_append : (xs ys : List Spelling) → are_too_deep (xs ++ ys) ≡ (are_too_deep xs || are_too_deep ys)

@@ -3,14 +3,14 @@ use Rattle.std.proofs.Common.{◌≡◌, ℕ, ◌+◌, ℤ, true, false, List, [
 use Rattle.std.specs.Prelude.{max, codes}
 use Rattle.smv_lexer.specs.declared.token.TokenKind.TheVariants as k
 use Rattle.smv_language.specs.declared.expr.Op.TheVariants as op
-use Rattle.smv_language.specs.Tree.{Tree, Trees, Branches}
-use Rattle.smv_language.specs.Lexemes.{Lexeme, word, num, sign, is_reserved}
-use Rattle.smv_language.specs.ProgramTree.{Path}
-use Rattle.smv_language.specs.Spells.{at_expr, at_not, operator, SpellsInt, plain_int, minus_int, SpellsDotted, one_name, more_names, Spells, only_iff, implies, repeated, only_or, chooses, only_not, negates, only_atom, inverts, SpellsMore, no_operator, one_operator, SpellsAtom, is_true, is_false, is_number, is_span, is_name, in_parentheses, is_next, is_set, is_case, SpellsTrees, one_tree, more_trees, SpellsBranches, one_branch, more_branches}
-use Rattle.smv_expression_reader.specs.Recogniser.{Role, an_esac, role_of, Frame, group, moment, members, first_choice, condition, outcome, Ended, by_number, by_name, by_other, State, wants, wants_not, wants_name, wants_open, wants_branch, had, step, run, start}
-use Rattle.smv_language.specs.Nesting.{nesting_of, more_nesting, atom_nesting, trees_nesting, branches_nesting}
+use Rattle.smv_language.specs.Language.{Tree, Trees, Branches, Lexeme, word, num, sign, is_reserved, Path, at_expr, at_not, operator, SpellsInt, plain_int, minus_int, SpellsDotted, one_name, more_names, Spells, only_iff, implies, repeated, only_or, chooses, only_not, negates, only_atom, inverts, SpellsMore, no_operator, one_operator, SpellsAtom, is_true, is_false, is_number, is_span, is_name, in_parentheses, is_next, is_set, is_case, SpellsTrees, one_tree, more_trees, SpellsBranches, one_branch, more_branches, nesting_of, more_nesting, atom_nesting, trees_nesting, branches_nesting}
+use Rattle.smv_expression_reader.specs.Recogniser.{role_of, Ended, by_number, by_name, by_other, State, wants, wants_not, wants_name, wants_open, wants_branch, had, step, run, start}
 use Rattle.smv_expression_reader.specs.Depth.{groups, depth, peak}
 use Rattle.smv_expression_reader.proofs.Accepted.{run_stuck, role_of_name, Takes, then_takes, after_operator, after_question, after_colon, after_condition, after_outcome, after_member, after_members, after_group, after_moment, is_had, takes, takes_branches, no_line, regrouped_twice, Place, anywhere, after_bang, wanted}
+use Rattle.smv_expression_reader.specs.declared.frames.OpenFrame.{OpenFrame as Frame}
+use Rattle.smv_expression_reader.specs.declared.machine.TokenRole.{TokenRole as Role}
+use Rattle.smv_expression_reader.specs.declared.frames.OpenFrame.TheVariants as frame
+use Rattle.smv_expression_reader.specs.declared.machine.TokenRole.TheVariants as role
 
 peak_append : (st : State) (xs : List Lexeme) (t : Lexeme) (ys : List Lexeme) → peak st (xs ++ t ∷ ys) ≡ max (peak st xs) (peak (run st xs) (t ∷ ys))
 peak_append st [] t ys = omega arith
@@ -54,12 +54,12 @@ peak_place : (w : Place) (s : List Frame) (t : Lexeme) (ts : List Lexeme) (next 
 peak_place anywhere s t ts next e f = ap (λ z. max (groups s) (peak z ts)) e
 peak_place after_bang s t ts next e f = ap (λ z. max (groups s) (peak z ts)) f
 
-peak_branch : (s s' : List Frame) (xs : List Lexeme) → Takes (wants (condition ∷ s)) xs s' → peak (wants_branch s) xs ≡ peak (wants (condition ∷ s)) xs
+peak_branch : (s s' : List Frame) (xs : List Lexeme) → Takes (wants (frame.Condition ∷ s)) xs s' → peak (wants_branch s) xs ≡ peak (wants (frame.Condition ∷ s)) xs
 peak_branch s s' [] a = refl
 peak_branch s s' (t ∷ ts) a = ap (max (groups s)) (go (role_of t) a.path)
   where
-    go : (c : Role) → run (step (wants (condition ∷ s)) c) ts ≡ had a.end s' → peak (step (wants_branch s) c) ts ≡ peak (step (wants (condition ∷ s)) c) ts
-    go an_esac h = let clash : false ≡ true = ap is_had (sym (run_stuck ts) ∙ h) in cc
+    go : (c : Role) → run (step (wants (frame.Condition ∷ s)) c) ts ≡ had a.end s' → peak (step (wants_branch s) c) ts ≡ peak (step (wants (frame.Condition ∷ s)) c) ts
+    go role.Esac h = let clash : false ≡ true = ap is_had (sym (run_stuck ts) ∙ h) in cc
     go c h = refl
 
 mutual
@@ -70,9 +70,9 @@ mutual
   peaks s (repeated {xs = xs} {ys = ys} h p m) = peaks_more s xs (nesting_of p) (takes s p) (peaks s p) m
   peaks s (only_or p) = peaks s p
   peaks s (chooses {zs = zs} {xs = xs} {ys = ys} p q r) =
-      let a = peaks s p in let b = peaks (first_choice ∷ s) q in let c = peaks s r in
-      let inner = peak_past xs (sign k.Colon) ys (wants s) (takes (first_choice ∷ s) q) (after_colon s) in
-      peak_past zs (sign k.Question) (xs ++ sign k.Colon ∷ ys) (wants (first_choice ∷ s)) (takes s p) (after_question s) ∙ omega (arith, a, b, c, inner)
+      let a = peaks s p in let b = peaks (frame.FirstChoice ∷ s) q in let c = peaks s r in
+      let inner = peak_past xs (sign k.Colon) ys (wants s) (takes (frame.FirstChoice ∷ s) q) (after_colon s) in
+      peak_past zs (sign k.Question) (xs ++ sign k.Colon ∷ ys) (wants (frame.FirstChoice ∷ s)) (takes s p) (after_question s) ∙ omega (arith, a, b, c, inner)
   peaks s (only_not p) = peaks s p
   peaks s (negates n p) = let a = peaks s p in omega (arith, a)
   peaks s (only_atom p) = peaks_atom anywhere s p
@@ -106,39 +106,39 @@ mutual
   peaks_atom w s (is_span p q) = peak_span w s p q ∙ omega arith
   peaks_atom w s (is_name p) = peak_dotted (wanted w s) s (depth_wanted w s) (name_in_place w s) p ∙ omega arith
   peaks_atom w s (in_parentheses {ts = ts} p) =
-      let a = peaks (group ∷ s) p in
-      let past = peak_past ts (sign k.Close) [] (had by_other s) (takes (group ∷ s) p) (after_group s) in
-      peak_place w s (sign k.Open) (ts ++ sign k.Close ∷ []) (wants (group ∷ s)) refl refl ∙ omega (arith, a, past)
+      let a = peaks (frame.Group ∷ s) p in
+      let past = peak_past ts (sign k.Close) [] (had by_other s) (takes (frame.Group ∷ s) p) (after_group s) in
+      peak_place w s (sign k.Open) (ts ++ sign k.Close ∷ []) (wants (frame.Group ∷ s)) refl refl ∙ omega (arith, a, past)
   peaks_atom w s (is_next {ts = ts} p) =
-      let a = peaks (moment ∷ s) p in
-      let past = peak_past ts (sign k.Close) [] (had by_other s) (takes (moment ∷ s) p) (after_moment s) in
+      let a = peaks (frame.Moment ∷ s) p in
+      let past = peak_past ts (sign k.Close) [] (had by_other s) (takes (frame.Moment ∷ s) p) (after_moment s) in
       peak_place w s (word (codes "next")) (sign k.Open ∷ (ts ++ sign k.Close ∷ [])) (wants_open s) refl refl ∙ omega (arith, a, past)
   peaks_atom w s (is_set {ts = ts} p) =
-      let a = peaks_members s p in peak_place w s (sign k.OpenBrace) (ts ++ sign k.CloseBrace ∷ []) (wants (members ∷ s)) refl refl ∙ omega (arith, a)
+      let a = peaks_members s p in peak_place w s (sign k.OpenBrace) (ts ++ sign k.CloseBrace ∷ []) (wants (frame.Members ∷ s)) refl refl ∙ omega (arith, a)
   peaks_atom w s (is_case {ts = ts} p) =
-      let a = peaks_branches s p in peak_place w s (word (codes "case")) (ts ++ word (codes "esac") ∷ []) (wants (condition ∷ s)) refl refl ∙ omega (arith, a)
+      let a = peaks_branches s p in peak_place w s (word (codes "case")) (ts ++ word (codes "esac") ∷ []) (wants (frame.Condition ∷ s)) refl refl ∙ omega (arith, a)
 
-  peaks_members : {ts : List Lexeme} {us : Trees Path} (s : List Frame) (p : SpellsTrees ts us) → peak (wants (members ∷ s)) (ts ++ sign k.CloseBrace ∷ []) ≡ groups s + trees_nesting p
+  peaks_members : {ts : List Lexeme} {us : Trees Path} (s : List Frame) (p : SpellsTrees ts us) → peak (wants (frame.Members ∷ s)) (ts ++ sign k.CloseBrace ∷ []) ≡ groups s + trees_nesting p
   peaks_members s (one_tree {ts = ts} p) =
-      let a = peaks (members ∷ s) p in peak_past ts (sign k.CloseBrace) [] (had by_other s) (takes (members ∷ s) p) (after_members s) ∙ omega (arith, a)
+      let a = peaks (frame.Members ∷ s) p in peak_past ts (sign k.CloseBrace) [] (had by_other s) (takes (frame.Members ∷ s) p) (after_members s) ∙ omega (arith, a)
   peaks_members s (more_trees {ts = ts} {us = us} p m) =
-      let a = peaks (members ∷ s) p in let b = peaks_members s m in
-      ap (peak (wants (members ∷ s))) (append_assoc ts (sign k.Comma ∷ us) (sign k.CloseBrace ∷ [])) ∙
-      peak_past ts (sign k.Comma) (us ++ sign k.CloseBrace ∷ []) (wants (members ∷ s)) (takes (members ∷ s) p) (after_member s) ∙ omega (arith, a, b)
+      let a = peaks (frame.Members ∷ s) p in let b = peaks_members s m in
+      ap (peak (wants (frame.Members ∷ s))) (append_assoc ts (sign k.Comma ∷ us) (sign k.CloseBrace ∷ [])) ∙
+      peak_past ts (sign k.Comma) (us ++ sign k.CloseBrace ∷ []) (wants (frame.Members ∷ s)) (takes (frame.Members ∷ s) p) (after_member s) ∙ omega (arith, a, b)
 
   peaks_branches : {ts : List Lexeme} {bs : Branches Path} (s : List Frame) (p : SpellsBranches ts bs) →
-      peak (wants (condition ∷ s)) (ts ++ word (codes "esac") ∷ []) ≡ groups s + branches_nesting p
+      peak (wants (frame.Condition ∷ s)) (ts ++ word (codes "esac") ∷ []) ≡ groups s + branches_nesting p
   peaks_branches s (one_branch {zs = zs} {xs = xs} p q) =
-      let a = peaks (condition ∷ s) p in let b = peaks (outcome ∷ s) q in
-      let inner = peak_past xs (sign k.Semicolon) (word (codes "esac") ∷ []) (wants_branch s) (takes (outcome ∷ s) q) (after_outcome s) in
-      ap (peak (wants (condition ∷ s))) (regrouped_twice zs xs []) ∙
-      peak_past zs (sign k.Colon) (xs ++ sign k.Semicolon ∷ word (codes "esac") ∷ []) (wants (outcome ∷ s)) (takes (condition ∷ s) p) (after_condition s) ∙ omega (arith, a, b, inner)
+      let a = peaks (frame.Condition ∷ s) p in let b = peaks (frame.Outcome ∷ s) q in
+      let inner = peak_past xs (sign k.Semicolon) (word (codes "esac") ∷ []) (wants_branch s) (takes (frame.Outcome ∷ s) q) (after_outcome s) in
+      ap (peak (wants (frame.Condition ∷ s))) (regrouped_twice zs xs []) ∙
+      peak_past zs (sign k.Colon) (xs ++ sign k.Semicolon ∷ word (codes "esac") ∷ []) (wants (frame.Outcome ∷ s)) (takes (frame.Condition ∷ s) p) (after_condition s) ∙ omega (arith, a, b, inner)
   peaks_branches s (more_branches {zs = zs} {xs = xs} {ys = ys} p q m) =
-      let a = peaks (condition ∷ s) p in let b = peaks (outcome ∷ s) q in let c = peaks_branches s m in
+      let a = peaks (frame.Condition ∷ s) p in let b = peaks (frame.Outcome ∷ s) q in let c = peaks_branches s m in
       let d = peak_branch s s (ys ++ word (codes "esac") ∷ []) (takes_branches s m) in
-      let inner = peak_past xs (sign k.Semicolon) (ys ++ word (codes "esac") ∷ []) (wants_branch s) (takes (outcome ∷ s) q) (after_outcome s) in
-      ap (peak (wants (condition ∷ s))) (regrouped_twice zs xs ys) ∙
-      peak_past zs (sign k.Colon) (xs ++ sign k.Semicolon ∷ (ys ++ word (codes "esac") ∷ [])) (wants (outcome ∷ s)) (takes (condition ∷ s) p) (after_condition s) ∙ omega (arith, a, b, c, d, inner)
+      let inner = peak_past xs (sign k.Semicolon) (ys ++ word (codes "esac") ∷ []) (wants_branch s) (takes (frame.Outcome ∷ s) q) (after_outcome s) in
+      ap (peak (wants (frame.Condition ∷ s))) (regrouped_twice zs xs ys) ∙
+      peak_past zs (sign k.Colon) (xs ++ sign k.Semicolon ∷ (ys ++ word (codes "esac") ∷ [])) (wants (frame.Outcome ∷ s)) (takes (frame.Condition ∷ s) p) (after_condition s) ∙ omega (arith, a, b, c, d, inner)
 
 -- the most that are open at once is the nesting of the spelling
 pub peak_nesting : {ts : List Lexeme} {t : Tree Path} (p : Spells at_expr ts t) → peak start ts ≡ nesting_of p

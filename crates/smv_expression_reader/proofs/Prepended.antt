@@ -5,10 +5,7 @@ use Rattle.std.proofs.lemmas.Bool.Decides.{nat_tests}
 use Rattle.smv_lexer.specs.declared.token.TokenKind.TheVariants as k
 use Rattle.smv_language.specs.declared.expr.Op.{Op}
 use Rattle.smv_language.specs.declared.expr.Op.TheVariants as op
-use Rattle.smv_language.specs.Tree.{Tree, binary, choice}
-use Rattle.smv_language.specs.Lexemes.{Lexeme, sign}
-use Rattle.smv_language.specs.ProgramTree.{Path}
-use Rattle.smv_language.specs.Spells.{at_expr, at_iff, at_choice, at_or, at_prod, at_neg, line_of, operator, is_repeated, begins_span, plain_int, minus_int, one_name, more_names, Spells, only_iff, implies, repeated, only_or, chooses, only_not, negates, only_atom, inverts, SpellsMore, no_operator, one_operator, SpellsAtom, is_true, is_false, is_number, is_span, is_name, in_parentheses, is_next, is_set, is_case}
+use Rattle.smv_language.specs.Language.{Tree, binary, choice, Lexeme, sign, Path, at_expr, at_iff, at_choice, at_or, at_prod, at_neg, line_of, operator, is_repeated, begins_span, plain_int, minus_int, one_name, more_names, Spells, only_iff, implies, repeated, only_or, chooses, only_not, negates, only_atom, inverts, SpellsMore, no_operator, one_operator, SpellsAtom, is_true, is_false, is_number, is_span, is_name, in_parentheses, is_next, is_set, is_case}
 use Rattle.smv_language.proofs.PrintedSpells.{loosened}
 
 -- some tree is spelled in a line

@@ -5,12 +5,8 @@ use Rattle.std.proofs.Math.Seq.{take-append_seam}
 use Rattle.std.proofs.lemmas.List.{map-append}
 use Rattle.std.proofs.lemmas.Bool.Decides.{nat_tests}
 use Rattle.base_values.specs.declared.limits.TheConstants.{MOST_HEIGHT, MOST_NESTED}
-use Rattle.smv_language.specs.Tree.{height_of}
-use Rattle.smv_language.specs.ProgramTree.{Formula}
-use Rattle.smv_language.specs.Lexemes.{Lexeme}
-use Rattle.smv_language.specs.Nesting.{nesting_of}
-use Rattle.smv_language.specs.SpellsProgram.{SpellsExpr}
-use Rattle.smv_expression_reader.specs.Recogniser.{Role, Ended, by_number, by_name, by_other, State, had, stuck, run, role_of, is_stuck, is_whole, start}
+use Rattle.smv_language.specs.Language.{height_of, Formula, Lexeme, nesting_of, SpellsExpr}
+use Rattle.smv_expression_reader.specs.Recogniser.{Ended, by_number, by_name, by_other, State, had, stuck, run, role_of, is_stuck, is_whole, start}
 use Rattle.smv_expression_reader.specs.Recogniser as machine
 use Rattle.smv_expression_reader.specs.TreeBuilder.{built}
 use Rattle.smv_expression_reader.specs.Extents.{reach_of, is_deep, ends_whole}
@@ -20,6 +16,8 @@ use Rattle.smv_expression_reader.proofs.Accepted.{spelled_accepted}
 use Rattle.smv_expression_reader.proofs.Built.{built_spelled}
 use Rattle.smv_expression_reader.proofs.ExpressionLaws.{expression_made}
 use Rattle.smv_expression_reader.proofs.ExtentLaws.{Halts, reach_before, whole_before, deep_before, deep_nesting, reached_whole}
+use Rattle.smv_expression_reader.specs.declared.machine.TokenRole.{TokenRole as Role}
+use Rattle.smv_expression_reader.specs.declared.machine.TokenRole.TheVariants as role
 
 -- one part more, put behind those that stand there
 pub front_next : {A : Type 0} (xs : List A) (a : A) (r : Read (List A)) → with_front xs (and_then r (λ more s. got (a ∷ more) s)) ≡ with_front (xs ++ a ∷ []) r
@@ -130,34 +128,34 @@ expr_unmade ts n len whole e = absurd (reached_made ts whole (ap (λ m. built (t
 
 -- what may follow
 abbrev pub ends_role : Role → Bool
-ends_role machine.a_semicolon = true
-ends_role machine.a_comma = true
-ends_role machine.closes = true
-ends_role machine.no_role = true
+ends_role role.Semicolon = true
+ends_role role.Comma = true
+ends_role role.Closes = true
+ends_role role.Nothing = true
 ends_role _ = false
 
 pub whole_stops : (st : State) (c : Role) → is_whole st ≡ true → ends_role c ≡ true → machine.step st c ≡ stuck
-whole_stops (had e []) machine.a_semicolon h f = stops_semicolon e
+whole_stops (had e []) role.Semicolon h f = stops_semicolon e
   where
-    stops_semicolon : (e : Ended) → machine.step (had e []) machine.a_semicolon ≡ stuck
+    stops_semicolon : (e : Ended) → machine.step (had e []) role.Semicolon ≡ stuck
     stops_semicolon by_number = refl
     stops_semicolon by_name = refl
     stops_semicolon by_other = refl
-whole_stops (had e []) machine.a_comma h f = stops_comma e
+whole_stops (had e []) role.Comma h f = stops_comma e
   where
-    stops_comma : (e : Ended) → machine.step (had e []) machine.a_comma ≡ stuck
+    stops_comma : (e : Ended) → machine.step (had e []) role.Comma ≡ stuck
     stops_comma by_number = refl
     stops_comma by_name = refl
     stops_comma by_other = refl
-whole_stops (had e []) machine.closes h f = stops_closes e
+whole_stops (had e []) role.Closes h f = stops_closes e
   where
-    stops_closes : (e : Ended) → machine.step (had e []) machine.closes ≡ stuck
+    stops_closes : (e : Ended) → machine.step (had e []) role.Closes ≡ stuck
     stops_closes by_number = refl
     stops_closes by_name = refl
     stops_closes by_other = refl
-whole_stops (had e []) machine.no_role h f = stops_none e
+whole_stops (had e []) role.Nothing h f = stops_none e
   where
-    stops_none : (e : Ended) → machine.step (had e []) machine.no_role ≡ stuck
+    stops_none : (e : Ended) → machine.step (had e []) role.Nothing ≡ stuck
     stops_none by_number = refl
     stops_none by_name = refl
     stops_none by_other = refl

@@ -3,39 +3,40 @@ use Rattle.std.proofs.Common.{◌≡◌, ℕ, ℤ, Bool, true, false, List, [], 
 use Rattle.std.specs.Prelude.{pos, codes, if◌then◌else◌}
 use Rattle.smv_lexer.specs.declared.token.TokenKind.TheVariants as k
 use Rattle.smv_language.specs.declared.expr.Op.TheVariants as op
-use Rattle.smv_language.specs.Tree.{Tree, Trees, Branches, truth}
-use Rattle.smv_language.specs.Lexemes.{Lexeme, word, num, sign, is_reserved}
-use Rattle.smv_language.specs.Texts.{same_text}
-use Rattle.smv_language.specs.ProgramTree.{Path}
-use Rattle.smv_language.specs.Spells.{at_expr, at_neg, at_not, operator, minus, SpellsInt, plain_int, minus_int, SpellsDotted, one_name, more_names, Spells, only_not, only_atom, inverts, SpellsAtom, is_true, is_false, is_number, is_span, is_name, in_parentheses, is_next, is_set, is_case, SpellsTrees, one_tree, more_trees, SpellsBranches, one_branch, more_branches}
-use Rattle.smv_expression_reader.specs.Recogniser.{Role, a_truth, a_name, a_number, a_next, a_case, an_esac, a_minus, a_bang, joins, asks, a_colon, a_semicolon, a_comma, a_dot, dots, opens, closes, opens_set, closes_set, no_role, role_of_word, role_of, Frame, group, moment, members, first_choice, condition, outcome, Ended, by_number, by_name, by_other, State, wants, wants_not, wants_low, wants_dots, wants_high, wants_digits, wants_name, wants_open, wants_branch, had, stuck, begin, close, follow, step, run, is_whole, start}
+use Rattle.smv_language.specs.Language.{Tree, Trees, Branches, Lexeme, word, num, sign, is_reserved, same_text, Path, at_expr, at_neg, at_not, operator, minus, SpellsInt, plain_int, minus_int, SpellsDotted, one_name, more_names, Spells, only_not, only_atom, inverts, SpellsAtom, is_true, is_false, is_number, is_span, is_name, in_parentheses, is_next, is_set, is_case, SpellsTrees, one_tree, more_trees, SpellsBranches, one_branch, more_branches}
+use Rattle.smv_language.specs.Tree.{truth}
+use Rattle.smv_expression_reader.specs.Recogniser.{role_of_word, role_of, Ended, by_number, by_name, by_other, State, wants, wants_not, wants_low, wants_dots, wants_high, wants_digits, wants_name, wants_open, wants_branch, had, stuck, begin, close, follow, step, run, is_whole, start}
 use Rattle.smv_language.proofs.OneTree.{same_text_equal}
 use Rattle.smv_language.proofs.PrintedSpells.{loosened}
 use Rattle.smv_expression_reader.proofs.Prepended.{IsSpelled, prepended, chosen, minus_before}
 use Rattle.smv_expression_reader.proofs.Accepted.{regrouped_twice as ending}
+use Rattle.smv_expression_reader.specs.declared.frames.OpenFrame.{OpenFrame as Frame}
+use Rattle.smv_expression_reader.specs.declared.machine.TokenRole.{TokenRole as Role}
+use Rattle.smv_expression_reader.specs.declared.frames.OpenFrame.TheVariants as frame
+use Rattle.smv_expression_reader.specs.declared.machine.TokenRole.TheVariants as role
 
 -- the lexemes of a role
 Meant : Role → Lexeme → Type 0
-Meant (a_truth b) t = SpellsAtom (t ∷ []) (truth b)
-Meant a_name t = (x : List ℕ) × (t ≡ word x) × (is_reserved x ≡ false)
-Meant a_number t = (n : ℕ) × (d : List ℕ) × (t ≡ num n d)
-Meant a_next t = t ≡ word (codes "next")
-Meant a_case t = t ≡ word (codes "case")
-Meant an_esac t = t ≡ word (codes "esac")
-Meant a_minus t = t ≡ sign k.Minus
-Meant a_bang t = t ≡ sign k.Bang
-Meant (joins o) t = t ≡ operator o
-Meant asks t = t ≡ sign k.Question
-Meant a_colon t = t ≡ sign k.Colon
-Meant a_semicolon t = t ≡ sign k.Semicolon
-Meant a_comma t = t ≡ sign k.Comma
-Meant a_dot t = t ≡ sign k.Dot
-Meant dots t = t ≡ sign k.Dots
-Meant opens t = t ≡ sign k.Open
-Meant closes t = t ≡ sign k.Close
-Meant opens_set t = t ≡ sign k.OpenBrace
-Meant closes_set t = t ≡ sign k.CloseBrace
-Meant no_role t = Unit {0}
+Meant (role.Truth b) t = SpellsAtom (t ∷ []) (truth b)
+Meant role.Name t = (x : List ℕ) × (t ≡ word x) × (is_reserved x ≡ false)
+Meant role.Number t = (n : ℕ) × (d : List ℕ) × (t ≡ num n d)
+Meant role.Next t = t ≡ word (codes "next")
+Meant role.Case t = t ≡ word (codes "case")
+Meant role.Esac t = t ≡ word (codes "esac")
+Meant role.Minus t = t ≡ sign k.Minus
+Meant role.Bang t = t ≡ sign k.Bang
+Meant (role.Joins o) t = t ≡ operator o
+Meant role.Asks t = t ≡ sign k.Question
+Meant role.Colon t = t ≡ sign k.Colon
+Meant role.Semicolon t = t ≡ sign k.Semicolon
+Meant role.Comma t = t ≡ sign k.Comma
+Meant role.Dot t = t ≡ sign k.Dot
+Meant role.Dots t = t ≡ sign k.Dots
+Meant role.Opens t = t ≡ sign k.Open
+Meant role.Closes t = t ≡ sign k.Close
+Meant role.OpensSet t = t ≡ sign k.OpenBrace
+Meant role.ClosesSet t = t ≡ sign k.CloseBrace
+Meant role.Nothing t = Unit {0}
 
 pub by_test : (b : Bool) (P : Role → Type 0) (x y : Role) → (b ≡ true → P x) → (b ≡ false → P y) → P (if b then x else y)
 by_test true P x y f g = f refl
@@ -58,7 +59,7 @@ meant_word x =
     by_test (same_text x (codes "in")) P _ _ (λ e. same_word x (codes "in") e) (λ n8.
     by_test (same_text x (codes "xor")) P _ _ (λ e. same_word x (codes "xor") e) (λ n9.
     by_test (same_text x (codes "xnor")) P _ _ (λ e. same_word x (codes "xnor") e) (λ n10.
-    by_test (is_reserved x) P no_role a_name (λ e. tt) (λ e. (x, refl, e))))))))))))
+    by_test (is_reserved x) P role.Nothing role.Name (λ e. tt) (λ e. (x, refl, e))))))))))))
 
 meant : (t : Lexeme) → Meant (role_of t) t
 unfolding Meant
@@ -94,12 +95,12 @@ EndsWith t One xs = (ys : List Lexeme) × (xs ≡ ys ++ t ∷ []) × One ys
 
 -- what closes a frame, after the expression inside it
 Inside : Frame → List Lexeme → Type 0
-Inside group w = w ≡ sign k.Close ∷ []
-Inside moment w = w ≡ sign k.Close ∷ []
-Inside members w = (xs : List Lexeme) → IsSpelled at_expr xs → EndsWith (sign k.CloseBrace) IsTrees (xs ++ w)
-Inside first_choice w = (us : List Lexeme) × (w ≡ sign k.Colon ∷ us) × IsSpelled at_neg us
-Inside condition w = (zs : List Lexeme) → IsSpelled at_expr zs → EndsWith (word (codes "esac")) IsBranches (zs ++ w)
-Inside outcome w = (zs xs : List Lexeme) → IsSpelled at_expr zs → IsSpelled at_expr xs → EndsWith (word (codes "esac")) IsBranches (zs ++ sign k.Colon ∷ (xs ++ w))
+Inside frame.Group w = w ≡ sign k.Close ∷ []
+Inside frame.Moment w = w ≡ sign k.Close ∷ []
+Inside frame.Members w = (xs : List Lexeme) → IsSpelled at_expr xs → EndsWith (sign k.CloseBrace) IsTrees (xs ++ w)
+Inside frame.FirstChoice w = (us : List Lexeme) × (w ≡ sign k.Colon ∷ us) × IsSpelled at_neg us
+Inside frame.Condition w = (zs : List Lexeme) → IsSpelled at_expr zs → EndsWith (word (codes "esac")) IsBranches (zs ++ w)
+Inside frame.Outcome w = (zs xs : List Lexeme) → IsSpelled at_expr zs → IsSpelled at_expr xs → EndsWith (word (codes "esac")) IsBranches (zs ++ sign k.Colon ∷ (xs ++ w))
 
 -- the tail of an expression, and then what closes
 record HasTail (Closed : List Lexeme → Type 0) (ts : List Lexeme) : Type 0 where
@@ -219,11 +220,11 @@ an_atom : {xs ys : List Lexeme} {a : Tree Path} → SpellsAtom ys a → xs ≡ y
 an_atom {a = a} p e = spelled_at e (a, only_atom p)
 
 -- the last branch of a list, and the branches after another
-closed_condition : (xs w : List Lexeme) → IsSpelled at_expr xs → Inside condition w → EndsWith (word (codes "esac")) IsBranches (xs ++ w)
+closed_condition : (xs w : List Lexeme) → IsSpelled at_expr xs → Inside frame.Condition w → EndsWith (word (codes "esac")) IsBranches (xs ++ w)
 unfolding Inside
 closed_condition xs w e i = i xs e
 
-closed_members : (xs w : List Lexeme) → IsSpelled at_expr xs → Inside members w → EndsWith (sign k.CloseBrace) IsTrees (xs ++ w)
+closed_members : (xs w : List Lexeme) → IsSpelled at_expr xs → Inside frame.Members w → EndsWith (sign k.CloseBrace) IsTrees (xs ++ w)
 unfolding Inside
 closed_members xs w e i = i xs e
 
@@ -234,49 +235,49 @@ closed_by {xs} {w} t e i = (xs, ap (λ z. xs ++ z) i, e)
 -- a lexeme that begins an operand
 begin_back : (s : List Frame) (c : Role) (t : Lexeme) (ts : List Lexeme) → Meant c t → Rest (begin s c) ts → HasOperand (IsSpelled at_not) (Closed s) (t ∷ ts)
 unfolding Meant Rest Closed Inside EndsWith Ending Dotted_on Span_on Next_on IsInt IsDotted IsTrees IsBranches
-begin_back s (a_truth b) t ts m h = longer t (λ xs e. (truth b, only_atom (subst (λ z. SpellsAtom (t ∷ z) (truth b)) (sym e) m))) h
-begin_back s a_name t ts m h = longer t (λ xs e. go xs e) h
+begin_back s (role.Truth b) t ts m h = longer t (λ xs e. (truth b, only_atom (subst (λ z. SpellsAtom (t ∷ z) (truth b)) (sym e) m))) h
+begin_back s role.Name t ts m h = longer t (λ xs e. go xs e) h
   where
     go : (xs : List Lexeme) → (xs ≡ []) ⊎ Dotted_on xs → IsSpelled at_not (t ∷ xs)
     go xs (inl e) = let name = m.1 in an_atom {ys = word m.0 ∷ []} (is_name (one_name m.2)) cc
     go xs (inr d) = let name = m.1 in let on = d.1 in an_atom {ys = word m.0 ∷ sign k.Dot ∷ d.0} (is_name (more_names m.2 d.2.1)) cc
-begin_back s a_number t ts m h = longer t (λ xs e. go xs e) h
+begin_back s role.Number t ts m h = longer t (λ xs e. go xs e) h
   where
     go : (xs : List Lexeme) → (xs ≡ []) ⊎ Span_on xs → IsSpelled at_not (t ∷ xs)
     go xs (inl e) = let number = m.2 in an_atom {ys = num m.0 m.1 ∷ []} is_number cc
     go xs (inr d) = let number = m.2 in let on = d.1 in an_atom {ys = num m.0 m.1 ∷ sign k.Dots ∷ d.0} (is_span plain_int d.2.1) cc
-begin_back s a_next t ts m h = longer t (λ xs d. let on = d.1 in an_atom (is_next d.2.1) cc) h
-begin_back s a_case t ts m h =
+begin_back s role.Next t ts m h = longer t (λ xs d. let on = d.1 in an_atom (is_next d.2.1) cc) h
+begin_back s role.Case t ts m h =
     longer t (λ xs d. let on = d.1 in an_atom (is_case d.2.1) cc)
-    (past_expr {One = Inside condition} {Other = EndsWith (word (codes "esac")) IsBranches} closed_condition (as_expr h))
-begin_back s a_bang t ts m h = longer t (λ xs p. subst (λ z. IsSpelled at_not (z ∷ xs)) (sym m) (_, inverts p.1)) h
-begin_back s opens t ts m h =
+    (past_expr {One = Inside frame.Condition} {Other = EndsWith (word (codes "esac")) IsBranches} closed_condition (as_expr h))
+begin_back s role.Bang t ts m h = longer t (λ xs p. subst (λ z. IsSpelled at_not (z ∷ xs)) (sym m) (_, inverts p.1)) h
+begin_back s role.Opens t ts m h =
     longer t (λ xs d. let on = d.1 in an_atom (in_parentheses d.2.1) cc)
-    (past_expr {One = Inside group} {Other = EndsWith (sign k.Close) (IsSpelled at_expr)} (λ xs w e i. closed_by (sign k.Close) e i) (as_expr h))
-begin_back s opens_set t ts m h =
+    (past_expr {One = Inside frame.Group} {Other = EndsWith (sign k.Close) (IsSpelled at_expr)} (λ xs w e i. closed_by (sign k.Close) e i) (as_expr h))
+begin_back s role.OpensSet t ts m h =
     longer t (λ xs d. let on = d.1 in an_atom (is_set d.2.1) cc)
-    (past_expr {One = Inside members} {Other = EndsWith (sign k.CloseBrace) IsTrees} closed_members (as_expr h))
+    (past_expr {One = Inside frame.Members} {Other = EndsWith (sign k.CloseBrace) IsTrees} closed_members (as_expr h))
 begin_back s c t ts m h = absurd h
 
 -- a lexeme that closes a frame
 close_back : (s : List Frame) (c : Role) (t : Lexeme) (ts : List Lexeme) → Meant c t → Rest (close s c) ts → Closed s (t ∷ ts)
 unfolding Meant Rest Closed Inside EndsWith Ending IsTrees IsBranches Branches_on
-close_back (group ∷ s) closes t ts m h = longer t (λ xs n. cc) h
-close_back (moment ∷ s) closes t ts m h = longer t (λ xs n. cc) h
-close_back (members ∷ s) closes_set t ts m h = longer t (λ xs n zs e. (zs, ap (λ z. zs ++ z) (let both : t ∷ xs ≡ sign k.CloseBrace ∷ [] = cc in both), (_, one_tree e.1))) h
-close_back (members ∷ s) a_comma t ts m h =
+close_back (frame.Group ∷ s) role.Closes t ts m h = longer t (λ xs n. cc) h
+close_back (frame.Moment ∷ s) role.Closes t ts m h = longer t (λ xs n. cc) h
+close_back (frame.Members ∷ s) role.ClosesSet t ts m h = longer t (λ xs n zs e. (zs, ap (λ z. zs ++ z) (let both : t ∷ xs ≡ sign k.CloseBrace ∷ [] = cc in both), (_, one_tree e.1))) h
+close_back (frame.Members ∷ s) role.Comma t ts m h =
     longer t (λ xs d zs e. (
       zs ++ sign k.Comma ∷ d.0,
       ap (λ z. zs ++ z) (let on = d.1 in let both : t ∷ xs ≡ sign k.Comma ∷ (d.0 ++ sign k.CloseBrace ∷ []) = cc in both) ∙ sym (append_assoc zs (sign k.Comma ∷ d.0) (sign k.CloseBrace ∷ [])),
       (_, more_trees e.1 d.2.1),
     ))
-    (past_expr {One = Inside members} {Other = EndsWith (sign k.CloseBrace) IsTrees} closed_members (as_expr h))
-close_back (first_choice ∷ s) a_colon t ts m h = longer t (λ xs p. (xs, ap (λ z. z ∷ xs) m, p)) h
-close_back (condition ∷ s) a_colon t ts m h =
+    (past_expr {One = Inside frame.Members} {Other = EndsWith (sign k.CloseBrace) IsTrees} closed_members (as_expr h))
+close_back (frame.FirstChoice ∷ s) role.Colon t ts m h = longer t (λ xs p. (xs, ap (λ z. z ∷ xs) m, p)) h
+close_back (frame.Condition ∷ s) role.Colon t ts m h =
     longer t (λ xs d zs e. subst (λ z. EndsWith (word (codes "esac")) IsBranches (zs ++ z ∷ xs)) (sym m) (d zs e))
-    (past_expr {One = Inside outcome} {Other = λ xs. (zs : List Lexeme) → IsSpelled at_expr zs → EndsWith (word (codes "esac")) IsBranches (zs ++ sign k.Colon ∷ xs)}
+    (past_expr {One = Inside frame.Outcome} {Other = λ xs. (zs : List Lexeme) → IsSpelled at_expr zs → EndsWith (word (codes "esac")) IsBranches (zs ++ sign k.Colon ∷ xs)}
     (λ xs w e i zs c. i zs xs c e) (as_expr h))
-close_back (outcome ∷ s) a_semicolon t ts m h = longer t (λ xs d zs us c a. go xs d zs us c a) h
+close_back (frame.Outcome ∷ s) role.Semicolon t ts m h = longer t (λ xs d zs us c a. go xs d zs us c a) h
   where
     go : (xs : List Lexeme) → Branches_on xs → (zs us : List Lexeme) → IsSpelled at_expr zs → IsSpelled at_expr us → EndsWith (word (codes "esac")) IsBranches (zs ++ sign k.Colon ∷ (us ++ t ∷ xs))
     go xs (inl e) zs us c a = (
@@ -294,21 +295,21 @@ close_back s c t ts m h = absurd h
 -- an operator, a `?`, or what closes a frame, after an operand
 follow_back : (s : List Frame) (c : Role) (t : Lexeme) (ts : List Lexeme) → Meant c t → Rest (follow s c) ts → HasTail (Closed s) (t ∷ ts)
 unfolding Meant Rest Closed Inside IsTail
-follow_back s (joins o) t ts m h = let e = as_expr h in record {
+follow_back s (role.Joins o) t ts m h = let e = as_expr h in record {
   tail = t ∷ e.expr;
   rest = e.rest;
   whole = ap (λ z. t ∷ z) e.whole;
   is_tail = λ us u. subst (λ z. IsSpelled at_expr (us ++ z ∷ e.expr)) (sym m) (prepended o u e.is_expr);
   closed = e.closed;
 }
-follow_back s a_minus t ts m h = let e = as_expr h in record {
+follow_back s role.Minus t ts m h = let e = as_expr h in record {
   tail = t ∷ e.expr;
   rest = e.rest;
   whole = ap (λ z. t ∷ z) e.whole;
   is_tail = λ us u. subst (λ z. IsSpelled at_expr (us ++ z ∷ e.expr)) (sym m) (prepended op.Minus u e.is_expr);
   closed = e.closed;
 }
-follow_back s asks t ts m h = let e = as_expr h in
+follow_back s role.Asks t ts m h = let e = as_expr h in
     let on = e.closed.one.1 in
     let whole : t ∷ ts ≡ (t ∷ (e.expr ++ sign k.Colon ∷ (e.closed.one.0 ++ e.closed.tail.tail))) ++ e.closed.tail.rest =
     ap (λ z. t ∷ z) (e.whole ∙ ap (λ z. e.expr ++ z) (e.closed.whole ∙ ap (λ z. z ++ e.closed.after) on ∙
@@ -326,44 +327,44 @@ follow_back s c t ts m h = no_tail (close_back s c t ts m h)
 
 had_back : (e : Ended) (s : List Frame) (c : Role) (t : Lexeme) (ts : List Lexeme) → Meant c t → Rest (step (had e s) c) ts → HasOperand (Ending e) (Closed s) (t ∷ ts)
 unfolding Meant Rest Closed Ending Span_on Dotted_on
-had_back by_number s dots t ts m h = longer t (λ xs i. inr (xs, ap (λ z. z ∷ xs) m, i)) h
-had_back by_name s a_dot t ts m h = longer t (λ xs p. inr (xs, ap (λ z. z ∷ xs) m, p)) h
+had_back by_number s role.Dots t ts m h = longer t (λ xs i. inr (xs, ap (λ z. z ∷ xs) m, i)) h
+had_back by_name s role.Dot t ts m h = longer t (λ xs p. inr (xs, ap (λ z. z ∷ xs) m, p)) h
 had_back by_number s c t ts m h = nothing_more (inl refl) (follow_back s c t ts m h)
 had_back by_name s c t ts m h = nothing_more (inl refl) (follow_back s c t ts m h)
 had_back by_other s c t ts m h = nothing_more refl (follow_back s c t ts m h)
 
 -- an operand in the place of a branch
-branch_back : (s : List Frame) (ts : List Lexeme) → HasOperand (IsSpelled at_neg) (Closed (condition ∷ s)) ts → HasOperand Branches_on (Closed s) ts
+branch_back : (s : List Frame) (ts : List Lexeme) → HasOperand (IsSpelled at_neg) (Closed (frame.Condition ∷ s)) ts → HasOperand Branches_on (Closed s) ts
 unfolding Closed Branches_on
-branch_back s ts h = past_expr {One = Inside condition} {Other = Branches_on} (λ xs w e i. inr (closed_condition xs w e i)) (as_expr h)
+branch_back s ts h = past_expr {One = Inside frame.Condition} {Other = Branches_on} (λ xs w e i. inr (closed_condition xs w e i)) (as_expr h)
 
 wants_back : (s : List Frame) (c : Role) (t : Lexeme) (ts : List Lexeme) → Meant c t → Rest (step (wants s) c) ts → HasOperand (IsSpelled at_neg) (Closed s) (t ∷ ts)
 unfolding Meant Rest
-wants_back s a_minus t ts m h = longer t (λ xs u. subst (λ z. IsSpelled at_neg (z ∷ xs)) (sym m) (minus_before u)) h
+wants_back s role.Minus t ts m h = longer t (λ xs u. subst (λ z. IsSpelled at_neg (z ∷ xs)) (sym m) (minus_before u)) h
 wants_back s c t ts m h = seen_as (λ xs p. (p.0, only_not p.1)) (begin_back s c t ts m h)
 
 -- one lexeme, from the state after it to the state before it
 back : (st : State) (c : Role) (t : Lexeme) (ts : List Lexeme) → Meant c t → Rest (step st c) ts → Rest st (t ∷ ts)
 unfolding Meant Rest Ending Span_on Dotted_on Low_on Digits Next_on Branches_on IsInt IsDotted EndsWith Closed Inside
 back (wants s) c t ts m h = wants_back s c t ts m h
-back (wants_not s) a_minus t ts m h = longer t (λ xs low. let on = low.3 in let dots = low.4.1 in an_atom {ys = sign k.Minus ∷ num low.0 low.1 ∷ sign k.Dots ∷ low.4.0} (is_span minus_int low.4.2.1) cc) h
+back (wants_not s) role.Minus t ts m h = longer t (λ xs low. let on = low.3 in let dots = low.4.1 in an_atom {ys = sign k.Minus ∷ num low.0 low.1 ∷ sign k.Dots ∷ low.4.0} (is_span minus_int low.4.2.1) cc) h
 back (wants_not s) c t ts m h = begin_back s c t ts m h
-back (wants_low s) a_number t ts m h = longer t (λ xs on. (m.0, m.1, xs, ap (λ z. z ∷ xs) m.2, on)) h
-back (wants_dots s) dots t ts m h = longer t (λ xs i. (xs, ap (λ z. z ∷ xs) m, i)) h
-back (wants_high s) a_minus t ts m h = longer t (λ xs d. (minus d.0, subst (λ z. SpellsInt z (minus d.0)) (let on = d.2 in let both : sign k.Minus ∷ num d.0 d.1 ∷ [] ≡ t ∷ xs = cc in both) (minus_int {n = d.0} {d = d.1}))) h
-back (wants_high s) a_number t ts m h = longer t (λ xs n. (pos m.0, subst (λ z. SpellsInt z (pos m.0)) (let on = m.2 in let both : num m.0 m.1 ∷ [] ≡ t ∷ xs = cc in both) (plain_int {n = m.0} {d = m.1}))) h
-back (wants_digits s) a_number t ts m h = longer t (λ xs n. (m.0, m.1, (let on = m.2 in cc))) h
-back (wants_name s) a_name t ts m h = longer t (λ xs d. go xs d) h
+back (wants_low s) role.Number t ts m h = longer t (λ xs on. (m.0, m.1, xs, ap (λ z. z ∷ xs) m.2, on)) h
+back (wants_dots s) role.Dots t ts m h = longer t (λ xs i. (xs, ap (λ z. z ∷ xs) m, i)) h
+back (wants_high s) role.Minus t ts m h = longer t (λ xs d. (minus d.0, subst (λ z. SpellsInt z (minus d.0)) (let on = d.2 in let both : sign k.Minus ∷ num d.0 d.1 ∷ [] ≡ t ∷ xs = cc in both) (minus_int {n = d.0} {d = d.1}))) h
+back (wants_high s) role.Number t ts m h = longer t (λ xs n. (pos m.0, subst (λ z. SpellsInt z (pos m.0)) (let on = m.2 in let both : num m.0 m.1 ∷ [] ≡ t ∷ xs = cc in both) (plain_int {n = m.0} {d = m.1}))) h
+back (wants_digits s) role.Number t ts m h = longer t (λ xs n. (m.0, m.1, (let on = m.2 in cc))) h
+back (wants_name s) role.Name t ts m h = longer t (λ xs d. go xs d) h
   where
     go : (xs : List Lexeme) → (xs ≡ []) ⊎ Dotted_on xs → IsDotted (t ∷ xs)
     go xs (inl n) = (m.0 ∷ [], subst (λ z. SpellsDotted z (m.0 ∷ [])) (let on = m.1 in let both : word m.0 ∷ [] ≡ t ∷ xs = cc in both) (one_name m.2))
     go xs (inr d) = (m.0 ∷ d.2.0, subst (λ z. SpellsDotted z (m.0 ∷ d.2.0)) (let on = m.1 in let dot = d.1 in let both : word m.0 ∷ sign k.Dot ∷ d.0 ≡ t ∷ xs = cc in both) (more_names m.2 d.2.1))
-back (wants_open s) opens t ts m h =
+back (wants_open s) role.Opens t ts m h =
     longer t (λ xs d. (d.0, (let on = d.1 in cc), d.2))
-    (past_expr {One = Inside moment} {Other = EndsWith (sign k.Close) (IsSpelled at_expr)} (λ xs w e i. closed_by (sign k.Close) e i) (as_expr h))
-back (wants_branch s) an_esac t ts m h = longer t (λ xs n. inl cc) h
-back (wants_branch s) a_minus t ts m h = branch_back s (t ∷ ts) (wants_back (condition ∷ s) a_minus t ts m h)
-back (wants_branch s) c t ts m h = branch_back s (t ∷ ts) (seen_as (λ xs p. (p.0, only_not p.1)) (begin_back (condition ∷ s) c t ts m h))
+    (past_expr {One = Inside frame.Moment} {Other = EndsWith (sign k.Close) (IsSpelled at_expr)} (λ xs w e i. closed_by (sign k.Close) e i) (as_expr h))
+back (wants_branch s) role.Esac t ts m h = longer t (λ xs n. inl cc) h
+back (wants_branch s) role.Minus t ts m h = branch_back s (t ∷ ts) (wants_back (frame.Condition ∷ s) role.Minus t ts m h)
+back (wants_branch s) c t ts m h = branch_back s (t ∷ ts) (seen_as (λ xs p. (p.0, only_not p.1)) (begin_back (frame.Condition ∷ s) c t ts m h))
 back (had e s) c t ts m h = had_back e s c t ts m h
 back st c t ts m h = absurd h
 
@@ -385,6 +386,6 @@ accepted_spelled ts e =
     let made = as_expr (rest start ts e) in
     spelled_at (made.whole ∙ ap (λ z. made.expr ++ z) made.closed ∙ append-nil made.expr) made.is_expr
 
-pub meant_semicolon : (t : Lexeme) → role_of t ≡ a_semicolon → t ≡ sign k.Semicolon
+pub meant_semicolon : (t : Lexeme) → role_of t ≡ role.Semicolon → t ≡ sign k.Semicolon
 unfolding Meant
 meant_semicolon t e = subst (λ c. Meant c t) e (meant t)

@@ -3,15 +3,15 @@ use Rattle.std.proofs.Common.{◌≡◌, ◌∙◌, ℕ, ◌+◌, ◌≤◌, ◌
 use Rattle.std.specs.Prelude.{nat_eq}
 use Rattle.std.proofs.lemmas.Bool.Decides.{nat_tests}
 use Rattle.smv_expression_reader.specs.declared.frames.OpenFrame.{OpenFrame}
-use Rattle.smv_expression_reader.specs.Recogniser as machine
 use Rattle.smv_expression_reader.specs.Depth.{groups}
-use Rattle.smv_expression_reader.specs.Views.{frame_view, stack_onto, stack_of, has_no_frame}
+use Rattle.smv_expression_reader.specs.Views.{stack_onto, stack_of, has_no_frame}
+use Rattle.smv_expression_reader.specs.declared.frames.OpenFrame.TheVariants as frame
 
-onto : (s : List machine.Frame) (xs : List OpenFrame) (x : OpenFrame) → stack_onto s (xs ++ x ∷ []) ≡ frame_view x ∷ stack_onto s xs
+onto : (s : List OpenFrame) (xs : List OpenFrame) (x : OpenFrame) → stack_onto s (xs ++ x ∷ []) ≡ x ∷ stack_onto s xs
 onto s [] x = refl
-onto s (y ∷ xs) x = onto (frame_view y ∷ s) xs x
+onto s (y ∷ xs) x = onto (y ∷ s) xs x
 
-pub pushed : (xs : List OpenFrame) (x : OpenFrame) → stack_of (xs ++ x ∷ []) ≡ frame_view x ∷ stack_of xs
+pub pushed : (xs : List OpenFrame) (x : OpenFrame) → stack_of (xs ++ x ∷ []) ≡ x ∷ stack_of xs
 unfolding stack_of
 pushed xs x = onto [] xs x
 
@@ -20,21 +20,21 @@ unfolding stack_of
 no_frames = refl
 
 -- one frame more
-pub groups_more : (f : machine.Frame) (s : List machine.Frame) → groups (f ∷ s) ≡ groups s + groups (f ∷ [])
-groups_more machine.group s = omega arith
-groups_more machine.moment s = omega arith
-groups_more machine.members s = omega arith
-groups_more machine.first_choice s = omega arith
-groups_more machine.condition s = omega arith
-groups_more machine.outcome s = omega arith
+pub groups_more : (f : OpenFrame) (s : List OpenFrame) → groups (f ∷ s) ≡ groups s + groups (f ∷ [])
+groups_more frame.Group s = omega arith
+groups_more frame.Moment s = omega arith
+groups_more frame.Members s = omega arith
+groups_more frame.FirstChoice s = omega arith
+groups_more frame.Condition s = omega arith
+groups_more frame.Outcome s = omega arith
 
-some_onto : (f : machine.Frame) (s : List machine.Frame) (xs : List OpenFrame) → has_no_frame (stack_onto (f ∷ s) xs) ≡ false
+some_onto : (f : OpenFrame) (s : List OpenFrame) (xs : List OpenFrame) → has_no_frame (stack_onto (f ∷ s) xs) ≡ false
 some_onto f s [] = refl
-some_onto f s (x ∷ xs) = some_onto (frame_view x) (f ∷ s) xs
+some_onto f s (x ∷ xs) = some_onto x (f ∷ s) xs
 
 empty_onto : (xs : List OpenFrame) → has_no_frame (stack_onto [] xs) ≡ nat_eq (length xs) 0
 empty_onto [] = refl
-empty_onto (x ∷ xs) = some_onto (frame_view x) [] xs ∙ no_zero (length (x ∷ xs)) (omega arith)
+empty_onto (x ∷ xs) = some_onto x [] xs ∙ no_zero (length (x ∷ xs)) (omega arith)
   where
     no_zero : (n : ℕ) → 0 < n → false ≡ nat_eq n 0
     no_zero n h = grind (arith, nat_tests)
@@ -44,21 +44,21 @@ unfolding stack_of
 empty_stack xs = empty_onto xs
 
 -- the frame that was pushed last
-pub groups_popped : (xs : List OpenFrame) (x : OpenFrame) → groups (stack_of (xs ++ x ∷ [])) ≡ groups (stack_of xs) + groups (frame_view x ∷ [])
-groups_popped xs x = ap groups (pushed xs x) ∙ groups_more (frame_view x) (stack_of xs)
+pub groups_popped : (xs : List OpenFrame) (x : OpenFrame) → groups (stack_of (xs ++ x ∷ [])) ≡ groups (stack_of xs) + groups (x ∷ [])
+groups_popped xs x = ap groups (pushed xs x) ∙ groups_more x (stack_of xs)
 
 -- no more groups are open than frames
-groups_onto : (s : List machine.Frame) (xs : List OpenFrame) → groups (stack_onto s xs) ≤ groups s + length xs
+groups_onto : (s : List OpenFrame) (xs : List OpenFrame) → groups (stack_onto s xs) ≤ groups s + length xs
 groups_onto s [] = omega arith
-groups_onto s (x ∷ xs) = let rest = groups_onto (frame_view x ∷ s) xs in let one = groups_more (frame_view x) s in let small = one_group (frame_view x) in omega (arith, rest, one, small)
+groups_onto s (x ∷ xs) = let rest = groups_onto (x ∷ s) xs in let one = groups_more x s in let small = one_group x in omega (arith, rest, one, small)
   where
-    one_group : (f : machine.Frame) → groups (f ∷ []) ≤ 1
-    one_group machine.group = omega arith
-    one_group machine.moment = omega arith
-    one_group machine.members = omega arith
-    one_group machine.first_choice = omega arith
-    one_group machine.condition = omega arith
-    one_group machine.outcome = omega arith
+    one_group : (f : OpenFrame) → groups (f ∷ []) ≤ 1
+    one_group frame.Group = omega arith
+    one_group frame.Moment = omega arith
+    one_group frame.Members = omega arith
+    one_group frame.FirstChoice = omega arith
+    one_group frame.Condition = omega arith
+    one_group frame.Outcome = omega arith
 
 pub groups_within : (xs : List OpenFrame) → groups (stack_of xs) ≤ length xs
 unfolding stack_of

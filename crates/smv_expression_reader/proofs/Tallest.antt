@@ -4,14 +4,14 @@ use Rattle.std.proofs.lemmas.List.{drop_more}
 use Rattle.std.specs.Prelude.{pos, max, if◌then◌else◌}
 use Rattle.base_values.specs.declared.limits.TheConstants.{MOST_HEIGHT}
 use Rattle.smv_language.specs.declared.expr.Op.{Op}
-use Rattle.smv_language.specs.Tree.{Tree, truth, number, leaf, not_of, negate, next_of, binary, choice, case_of, set_of, span, height_of, branches_height, branches_from}
-use Rattle.smv_language.specs.Lexemes.{Lexeme}
-use Rattle.smv_language.specs.ProgramTree.{Path}
-use Rattle.smv_language.specs.Spells.{at_expr, at_or, at_sum, line_of}
-use Rattle.smv_expression_reader.specs.Recogniser.{Role, a_truth, a_name, a_number, a_next, a_case, an_esac, a_minus, a_bang, joins, asks, a_colon, a_semicolon, a_comma, a_dot, dots, opens, closes, opens_set, closes_set, role_of}
+use Rattle.smv_language.specs.Language.{Tree, leaf, not_of, negate, next_of, binary, choice, case_of, set_of, span, height_of, branches_height, branches_from, Lexeme, Path, at_expr, at_or, at_sum, line_of}
+use Rattle.smv_language.specs.Tree.{truth, number}
+use Rattle.smv_expression_reader.specs.Recogniser.{role_of}
 use Rattle.smv_expression_reader.specs.TreeBuilder.{Part, minus_part, bang_part, left_part, answered, asked, group_part, next_part, set_part, condition_part, outcome_part, Hand, number_hand, name_hand, other_hand, Build, ready, name_on, high_on, minus_high_on, next_on, branch_on, holds, broken, value, takes_operand, joined, Held, reduce, shut, level, left_held, asked_held, shut_held, go_on, span_from, after_hand, open_operand, build_step, build, finished, finish, built}
 use Rattle.smv_expression_reader.specs.Heights.{part_height, parts_height, tallest, held_height, highest, is_whole, TooHigh}
 use Rattle.smv_expression_reader.proofs.Heights.{trees_more, branches_more}
+use Rattle.smv_expression_reader.specs.declared.machine.TokenRole.{TokenRole as Role}
+use Rattle.smv_expression_reader.specs.declared.machine.TokenRole.TheVariants as role
 
 joined_grows : (l : ℕ) (p : Part) (t : Tree Path) → takes_operand l p ≡ true → max (part_height p) (height_of t) ≤ height_of (joined p t)
 joined_grows l minus_part t e = omega arith
@@ -35,20 +35,20 @@ Grows n st = is_whole st ≡ true → n ≤ tallest st
 
 shut_grows : (t : Tree Path) (ps : List Part) (c : Role) (n : ℕ) → n ≤ max (height_of t) (parts_height ps) → Grows n (shut t ps c)
 unfolding Grows
-shut_grows t (group_part ∷ ps) closes n h = λ e. omega (arith, h)
-shut_grows t (next_part ∷ ps) closes n h = λ e. omega (arith, h)
-shut_grows t (set_part ts ∷ ps) a_comma n h = λ e. let more = trees_more ts t in omega (arith, h, more)
-shut_grows t (set_part ts ∷ ps) closes_set n h = λ e. let more = trees_more ts t in omega (arith, h, more)
-shut_grows t (asked c ∷ ps) a_colon n h = λ e. omega (arith, h)
-shut_grows t (condition_part bs ∷ ps) a_colon n h = λ e. omega (arith, h)
-shut_grows t (outcome_part bs c ∷ ps) a_semicolon n h = λ e. let more = branches_more bs c t in omega (arith, h, more)
+shut_grows t (group_part ∷ ps) role.Closes n h = λ e. omega (arith, h)
+shut_grows t (next_part ∷ ps) role.Closes n h = λ e. omega (arith, h)
+shut_grows t (set_part ts ∷ ps) role.Comma n h = λ e. let more = trees_more ts t in omega (arith, h, more)
+shut_grows t (set_part ts ∷ ps) role.ClosesSet n h = λ e. let more = trees_more ts t in omega (arith, h, more)
+shut_grows t (asked c ∷ ps) role.Colon n h = λ e. omega (arith, h)
+shut_grows t (condition_part bs ∷ ps) role.Colon n h = λ e. omega (arith, h)
+shut_grows t (outcome_part bs c ∷ ps) role.Semicolon n h = λ e. let more = branches_more bs c t in omega (arith, h, more)
 shut_grows t ps c n h = λ e. cc
 
 go_on_grows : (t : Tree Path) (ps : List Part) (c : Role) (n : ℕ) → n ≤ max (height_of t) (parts_height ps) → Grows n (go_on t ps c)
 unfolding Grows
-go_on_grows t ps (joins o) n h = λ e. let grows = reduce_grows (level (line_of o)) t ps in omega (arith, h, grows)
-go_on_grows t ps a_minus n h = λ e. let grows = reduce_grows at_sum t ps in omega (arith, h, grows)
-go_on_grows t ps asks n h = λ e. let grows = reduce_grows at_or t ps in omega (arith, h, grows)
+go_on_grows t ps (role.Joins o) n h = λ e. let grows = reduce_grows (level (line_of o)) t ps in omega (arith, h, grows)
+go_on_grows t ps role.Minus n h = λ e. let grows = reduce_grows at_sum t ps in omega (arith, h, grows)
+go_on_grows t ps role.Asks n h = λ e. let grows = reduce_grows at_or t ps in omega (arith, h, grows)
 go_on_grows t ps c n h = shut_grows (reduce at_expr t ps).tree (reduce at_expr t ps).parts c n (let grows = reduce_grows at_expr t ps in omega (arith, h, grows))
 
 span_grows : (n : ℕ) (ps : List Part) (m : ℕ) → m ≤ parts_height ps → m ≤ tallest (span_from n ps)
@@ -57,21 +57,21 @@ span_grows n ps m h = h
 
 open_grows : (ps : List Part) (t : Lexeme) (c : Role) (n : ℕ) → n ≤ parts_height ps → Grows n (open_operand ps t c)
 unfolding Grows
-open_grows ps t (a_truth b) n h = λ e. omega (arith, h)
-open_grows ps t a_name n h = λ e. omega (arith, h)
-open_grows ps t a_number n h = λ e. omega (arith, h)
-open_grows ps t a_next n h = λ e. h
-open_grows ps t a_case n h = λ e. omega (arith, h)
-open_grows ps t a_minus n h = λ e. omega (arith, h)
-open_grows ps t a_bang n h = λ e. omega (arith, h)
-open_grows ps t opens n h = λ e. omega (arith, h)
-open_grows ps t opens_set n h = λ e. omega (arith, h)
+open_grows ps t (role.Truth b) n h = λ e. omega (arith, h)
+open_grows ps t role.Name n h = λ e. omega (arith, h)
+open_grows ps t role.Number n h = λ e. omega (arith, h)
+open_grows ps t role.Next n h = λ e. h
+open_grows ps t role.Case n h = λ e. omega (arith, h)
+open_grows ps t role.Minus n h = λ e. omega (arith, h)
+open_grows ps t role.Bang n h = λ e. omega (arith, h)
+open_grows ps t role.Opens n h = λ e. omega (arith, h)
+open_grows ps t role.OpensSet n h = λ e. omega (arith, h)
 open_grows ps t c n h = λ e. cc
 
 hand_grows : (h : Hand) (ps : List Part) (c : Role) → Grows (highest (holds h ps)) (after_hand h ps c)
 unfolding Grows
-hand_grows (number_hand n) ps dots = λ e. span_grows n ps (parts_height ps) (omega arith)
-hand_grows (name_hand p) ps a_dot = λ e. omega arith
+hand_grows (number_hand n) ps role.Dots = λ e. span_grows n ps (parts_height ps) (omega arith)
+hand_grows (name_hand p) ps role.Dot = λ e. omega arith
 hand_grows (number_hand n) ps c = go_on_grows (number (pos n)) ps c (parts_height ps) (omega arith)
 hand_grows (name_hand p) ps c = go_on_grows (leaf p) ps c (parts_height ps) (omega arith)
 hand_grows (other_hand t) ps c = go_on_grows t ps c (max (height_of t) (parts_height ps)) (omega arith)
@@ -79,16 +79,16 @@ hand_grows (other_hand t) ps c = go_on_grows t ps c (max (height_of t) (parts_he
 step_grows : (st : Build) (t : Lexeme) (c : Role) → Grows (highest st) (build_step st t c)
 unfolding Grows
 step_grows (ready ps) t c = open_grows ps t c (parts_height ps) (omega arith)
-step_grows (name_on p ps) t a_name = λ e. omega arith
+step_grows (name_on p ps) t role.Name = λ e. omega arith
 step_grows (name_on p ps) t c = λ e. cc
-step_grows (high_on lo ps) t a_minus = λ e. omega arith
-step_grows (high_on lo ps) t a_number = λ e. omega arith
+step_grows (high_on lo ps) t role.Minus = λ e. omega arith
+step_grows (high_on lo ps) t role.Number = λ e. omega arith
 step_grows (high_on lo ps) t c = λ e. cc
-step_grows (minus_high_on lo ps) t a_number = λ e. omega arith
+step_grows (minus_high_on lo ps) t role.Number = λ e. omega arith
 step_grows (minus_high_on lo ps) t c = λ e. cc
-step_grows (next_on ps) t opens = λ e. omega arith
+step_grows (next_on ps) t role.Opens = λ e. omega arith
 step_grows (next_on ps) t c = λ e. cc
-step_grows (branch_on bs ps) t an_esac = λ e. omega arith
+step_grows (branch_on bs ps) t role.Esac = λ e. omega arith
 step_grows (branch_on bs ps) t c = open_grows (condition_part bs ∷ ps) t c (max (branches_height (branches_from bs)) (parts_height ps)) (omega arith)
 step_grows (holds h ps) t c = hand_grows h ps c
 step_grows broken t c = λ e. cc

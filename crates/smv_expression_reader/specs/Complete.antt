@@ -2,19 +2,21 @@
 use Rattle.std.specs.Prelude.{List, [], ◌∷◌, codes}
 use Rattle.smv_lexer.specs.declared.token.TokenKind.TheVariants as k
 use Rattle.smv_language.specs.Lexemes.{Lexeme, word, num, sign}
-use Rattle.smv_expression_reader.specs.Recogniser.{Frame, group, moment, members, first_choice, condition, outcome, State, wants, wants_not}
+use Rattle.smv_expression_reader.specs.Recogniser.{State, wants, wants_not}
 use Rattle.smv_expression_reader.specs.Recogniser.{wants_low, wants_dots, wants_high, wants_digits, wants_name, wants_open, wants_branch}
 use Rattle.smv_expression_reader.specs.Recogniser.{had, stuck}
+use Rattle.smv_expression_reader.specs.declared.frames.OpenFrame.{OpenFrame as Frame}
+use Rattle.smv_expression_reader.specs.declared.frames.OpenFrame.TheVariants as frame
 
 -- what closes all that is open, after an operand
 abbrev pub close_all : List Frame → List Lexeme
 close_all [] = []
-close_all (group ∷ s) = sign k.Close ∷ close_all s
-close_all (moment ∷ s) = sign k.Close ∷ close_all s
-close_all (members ∷ s) = sign k.CloseBrace ∷ close_all s
-close_all (first_choice ∷ s) = sign k.Colon ∷ num 0 [] ∷ close_all s
-close_all (condition ∷ s) = sign k.Colon ∷ num 0 [] ∷ sign k.Semicolon ∷ word (codes "esac") ∷ close_all s
-close_all (outcome ∷ s) = sign k.Semicolon ∷ word (codes "esac") ∷ close_all s
+close_all (frame.Group ∷ s) = sign k.Close ∷ close_all s
+close_all (frame.Moment ∷ s) = sign k.Close ∷ close_all s
+close_all (frame.Members ∷ s) = sign k.CloseBrace ∷ close_all s
+close_all (frame.FirstChoice ∷ s) = sign k.Colon ∷ num 0 [] ∷ close_all s
+close_all (frame.Condition ∷ s) = sign k.Colon ∷ num 0 [] ∷ sign k.Semicolon ∷ word (codes "esac") ∷ close_all s
+close_all (frame.Outcome ∷ s) = sign k.Semicolon ∷ word (codes "esac") ∷ close_all s
 
 -- what completes what stands before it
 abbrev pub completion : State → List Lexeme

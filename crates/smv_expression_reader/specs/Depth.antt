@@ -1,13 +1,15 @@
 -- How many groups are open on the stack of the machine.
 use Rattle.std.specs.Prelude.{ℕ, ◌+◌, max, List, [], ◌∷◌}
 use Rattle.smv_language.specs.Lexemes.{Lexeme}
-use Rattle.smv_expression_reader.specs.Recogniser.{role_of, Frame, group, State, wants, wants_not, wants_low, wants_dots, wants_high}
+use Rattle.smv_expression_reader.specs.Recogniser.{role_of, State, wants, wants_not, wants_low, wants_dots, wants_high}
 use Rattle.smv_expression_reader.specs.Recogniser.{wants_digits, wants_name, wants_open, wants_branch, had, stuck, step}
+use Rattle.smv_expression_reader.specs.declared.frames.OpenFrame.{OpenFrame as Frame}
+use Rattle.smv_expression_reader.specs.declared.frames.OpenFrame.TheVariants as frame
 
 -- how many of the open parts are groups
 abbrev pub groups : List Frame → ℕ
 groups [] = 0
-groups (group ∷ s) = groups s + 1
+groups (frame.Group ∷ s) = groups s + 1
 groups (f ∷ s) = groups s
 
 -- how many groups are open in a state

@@ -3,12 +3,8 @@ use Rattle.std.specs.Prelude.{ℕ, ◌≤◌, Bool, false, List, [], ◌∷◌, 
 use Rattle.base_values.specs.declared.limits.TheConstants.{MOST_HEIGHT, MOST_NESTED}
 use Rattle.smv_lexer.specs.declared.token.Token.{Token}
 use Rattle.smv_lexer.specs.Tokens.{HasTokens}
-use Rattle.smv_language.specs.Tree.{height_of}
-use Rattle.smv_language.specs.ProgramTree.{Formula}
-use Rattle.smv_language.specs.Lexemes.{Lexeme, lexemes_of}
-use Rattle.smv_language.specs.Nesting.{nesting_of}
-use Rattle.smv_language.specs.SpellsProgram.{SpellsMany, no_more, one_more, SpellsExpr, SpellsFormula, open_ended, ended, SpellsExpressions}
-use Rattle.smv_language.specs.SpellsProgram.{last_expression, more_expressions}
+use Rattle.smv_language.specs.Language.{height_of, Formula, Lexeme, lexemes_of, nesting_of, SpellsMany, no_more, one_more, SpellsExpr}
+use Rattle.smv_language.specs.Language.{SpellsFormula, open_ended, ended, SpellsExpressions, last_expression, more_expressions}
 use Rattle.smv_expression_reader.specs.Lists.{BytesSpellExpressions}
 
 -- an expression, and how it is spelled

@@ -1,13 +1,13 @@
 -- The grammar of a list of expressions, as one that is read by one lexeme at a time.
 use Rattle.std.specs.Prelude.{◌≡◌, refl, ◌⊎◌, Bool, true, false, List, [], ◌∷◌, Option, Some, None}
 use Rattle.smv_lexer.specs.declared.token.TokenKind.TheVariants as k
-use Rattle.smv_language.specs.ProgramTree.{Formula}
-use Rattle.smv_language.specs.Lexemes.{Lexeme, num, sign}
-use Rattle.smv_language.specs.SpellsProgram.{SpellsExpressions}
-use Rattle.smv_expression_reader.specs.Recogniser.{Role, a_semicolon, role_of, State, stuck, is_whole, is_stuck, start}
+use Rattle.smv_language.specs.Language.{Formula, Lexeme, num, sign, SpellsExpressions}
+use Rattle.smv_expression_reader.specs.Recogniser.{role_of, State, stuck, is_whole, is_stuck, start}
 use Rattle.smv_expression_reader.specs.Recogniser as machine
 use Rattle.smv_expression_reader.specs.Complete.{completion}
 use Rattle.smv_expression_reader.specs.PredictiveReader.{Grammar}
+use Rattle.smv_expression_reader.specs.declared.machine.TokenRole.{TokenRole as Role}
+use Rattle.smv_expression_reader.specs.declared.machine.TokenRole.TheVariants as role
 
 -- what may still be expected of a list of expressions
 pub data Sym : Type 0 where
@@ -20,7 +20,7 @@ pub data Sym : Type 0 where
 
 -- the lexeme is a semicolon
 abbrev pub is_semicolon : Role → Bool
-is_semicolon a_semicolon = true
+is_semicolon role.Semicolon = true
 is_semicolon _ = false
 
 -- an expression in this state before other symbols, where it goes on
@@ -52,7 +52,7 @@ empty expressions = false
 
 -- behind a semicolon the list may end or go on
 abbrev pub after_semicolon : Role → Option (List Sym)
-after_semicolon a_semicolon = Some (again ∷ [])
+after_semicolon role.Semicolon = Some (again ∷ [])
 after_semicolon _ = None
 
 -- what is still expected of a symbol after a lexeme

@@ -5,9 +5,8 @@ pub mod Depth
 pub mod PredictiveReader
 pub mod Formulas
 pub mod Marks
-pub mod Views
-pub mod MarkView
 pub mod Places
+pub mod Views
 pub mod PartViews
 pub mod Faults
 pub mod Heights

@@ -2,16 +2,15 @@
 use Rattle.std.specs.Prelude.{◌≡◌, ℕ, false, List, [], ◌∷◌, Option, Some, None}
 use Rattle.smv_lexer.specs.declared.token.Token.{Token}
 use Rattle.smv_lexer.specs.Tokens.{HasTokens}
-use Rattle.smv_language.specs.ProgramTree.{Formula}
-use Rattle.smv_language.specs.Lexemes.{Lexeme, lexemes_of}
-use Rattle.smv_language.specs.SpellsProgram.{SpellsExpressions}
+use Rattle.smv_language.specs.Language.{Formula, Lexeme, lexemes_of, SpellsExpressions}
 use Rattle.smv_expression_reader.specs.declared.list.ListPlace.{ListPlace}
 use Rattle.smv_expression_reader.specs.declared.list.ListPlace.TheVariants as p
 use Rattle.smv_expression_reader.specs.declared.reading.ReadExtent.{ReadExtent}
-use Rattle.smv_expression_reader.specs.Recogniser.{Frame, is_stuck}
+use Rattle.smv_expression_reader.specs.Recogniser.{is_stuck}
 use Rattle.smv_expression_reader.specs.Views.{state_with}
 use Rattle.smv_expression_reader.specs.Readings.{stepped as grammar_stepped, expected_after as grammar_expected, ReadsTo}
 use Rattle.smv_expression_reader.specs.Formulas.{Sym, more, again, expressions, live, formulas}
+use Rattle.smv_expression_reader.specs.declared.frames.OpenFrame.{OpenFrame as Frame}
 
 -- the list spells some list of expressions
 abbrev pub IsExpressions : List Lexeme → Type 0

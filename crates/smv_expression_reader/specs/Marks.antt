@@ -1,74 +1,78 @@
 -- What a lexeme is outside expressions, for all readers.
-use Rattle.std.specs.Prelude.{ℕ, Bool, false, List, codes, if◌then◌else◌}
+use Rattle.std.specs.Prelude.{ℕ, Bool, false, nat_eq, List, codes, if◌then◌else◌}
 use Rattle.smv_lexer.specs.declared.token.TokenKind.TheVariants as k
-use Rattle.smv_language.specs.Lexemes.{Lexeme, word, num, sign, is_reserved, section_words}
-use Rattle.smv_language.specs.Texts.{same_text, is_among}
-use Rattle.smv_language.specs.SpellsProgram.{skipped_words}
-
--- what a lexeme is outside expressions
-pub data Mark : Type 0 where
-  w_module : Mark
-  w_var : Mark
-  w_ivar : Mark
-  w_frozen : Mark
-  w_define : Mark
-  w_constants : Mark
-  w_assign : Mark
-  w_init : Mark
-  w_invar : Mark
-  w_trans : Mark
-  w_skipped : Mark
-  w_boolean : Mark
-  w_first : Mark
-  w_after : Mark
-  a_name : Mark
-  a_number : Mark
-  s_becomes : Mark
-  s_dots : Mark
-  s_open : Mark
-  s_close : Mark
-  s_open_brace : Mark
-  s_close_brace : Mark
-  s_comma : Mark
-  s_semicolon : Mark
-  s_colon : Mark
-  s_dot : Mark
-  s_minus : Mark
-  no_mark : Mark
+use Rattle.smv_language.specs.Language.{Lexeme, word, num, sign, is_reserved, section_words, same_text, is_among, skipped_words}
+use Rattle.smv_expression_reader.specs.declared.mark.Mark.{Mark}
+use Rattle.smv_expression_reader.specs.declared.mark.Mark.TheVariants as mark
 
 -- what a word is; a reserved one that begins nothing here has no mark
 abbrev pub mark_of_word : List ℕ → Mark
 mark_of_word x =
-    if same_text x (codes "MODULE") then w_module else
-    (if same_text x (codes "VAR") then w_var else (if same_text x (codes "IVAR") then w_ivar else
-    (if same_text x (codes "FROZENVAR") then w_frozen else
-    (if same_text x (codes "DEFINE") then w_define else (if same_text x (codes "CONSTANTS") then w_constants else
-    (if same_text x (codes "ASSIGN") then w_assign else
-    (if same_text x (codes "INIT") then w_init else (if same_text x (codes "INVAR") then w_invar else
-    (if same_text x (codes "TRANS") then w_trans else
-    (if is_among skipped_words x then w_skipped else (if same_text x (codes "boolean") then w_boolean else
-    (if same_text x (codes "init") then w_first else
-    (if same_text x (codes "next") then w_after else (if is_reserved x then no_mark else a_name))))))))))))))
+    if same_text x (codes "MODULE") then mark.Module else
+    (if same_text x (codes "VAR") then mark.Var else (if same_text x (codes "IVAR") then mark.Ivar else
+    (if same_text x (codes "FROZENVAR") then mark.Frozen else
+    (if same_text x (codes "DEFINE") then mark.Define else (if same_text x (codes "CONSTANTS") then mark.Constants else
+    (if same_text x (codes "ASSIGN") then mark.Assign else
+    (if same_text x (codes "INIT") then mark.Init else (if same_text x (codes "INVAR") then mark.Invar else
+    (if same_text x (codes "TRANS") then mark.Trans else
+    (if is_among skipped_words x then mark.Skipped else (if same_text x (codes "boolean") then mark.Boolean else
+    (if same_text x (codes "init") then mark.First else
+    (if same_text x (codes "next") then mark.After else (if is_reserved x then mark.Nothing else mark.Name))))))))))))))
 
 -- what a lexeme is; a sign of expressions alone has no mark
 abbrev pub mark_of : Lexeme → Mark
 mark_of (word x) = mark_of_word x
-mark_of (num n d) = a_number
-mark_of (sign k.Becomes) = s_becomes
-mark_of (sign k.Dots) = s_dots
-mark_of (sign k.Open) = s_open
-mark_of (sign k.Close) = s_close
-mark_of (sign k.OpenBrace) = s_open_brace
-mark_of (sign k.CloseBrace) = s_close_brace
-mark_of (sign k.Comma) = s_comma
-mark_of (sign k.Semicolon) = s_semicolon
-mark_of (sign k.Colon) = s_colon
-mark_of (sign k.Dot) = s_dot
-mark_of (sign k.Minus) = s_minus
-mark_of (sign s) = no_mark
+mark_of (num n d) = mark.Number
+mark_of (sign k.Becomes) = mark.Becomes
+mark_of (sign k.Dots) = mark.Dots
+mark_of (sign k.Open) = mark.Open
+mark_of (sign k.Close) = mark.Close
+mark_of (sign k.OpenBrace) = mark.OpenBrace
+mark_of (sign k.CloseBrace) = mark.CloseBrace
+mark_of (sign k.Comma) = mark.Comma
+mark_of (sign k.Semicolon) = mark.Semicolon
+mark_of (sign k.Colon) = mark.Colon
+mark_of (sign k.Dot) = mark.Dot
+mark_of (sign k.Minus) = mark.Minus
+mark_of (sign s) = mark.Nothing
 
 -- whether a lexeme begins a module or a section
 abbrev pub is_section : Lexeme → Bool
 is_section (word x) = is_among section_words x
 is_section (num n d) = false
 is_section (sign s) = false
+
+-- the number of a mark
+abbrev pub mark_number : Mark → ℕ
+mark_number mark.Module = 0
+mark_number mark.Var = 1
+mark_number mark.Ivar = 2
+mark_number mark.Frozen = 3
+mark_number mark.Define = 4
+mark_number mark.Constants = 5
+mark_number mark.Assign = 6
+mark_number mark.Init = 7
+mark_number mark.Invar = 8
+mark_number mark.Trans = 9
+mark_number mark.Skipped = 10
+mark_number mark.Boolean = 11
+mark_number mark.First = 12
+mark_number mark.After = 13
+mark_number mark.Name = 14
+mark_number mark.Number = 15
+mark_number mark.Becomes = 16
+mark_number mark.Dots = 17
+mark_number mark.Open = 18
+mark_number mark.Close = 19
+mark_number mark.OpenBrace = 20
+mark_number mark.CloseBrace = 21
+mark_number mark.Comma = 22
+mark_number mark.Semicolon = 23
+mark_number mark.Colon = 24
+mark_number mark.Dot = 25
+mark_number mark.Minus = 26
+mark_number mark.Nothing = 27
+
+-- whether two marks are the same
+abbrev pub is_mark : Mark → Mark → Bool
+is_mark c d = nat_eq (mark_number c) (mark_number d)

@@ -1,11 +1,9 @@
 -- The code's parts, as those of the machine.
 use Rattle.std.specs.Prelude.{List, [], ◌∷◌, map}
-use Rattle.smv_language.specs.ExpressionTree.{tree_of, branch_trees}
+use Rattle.smv_language.specs.Language.{tree_of, branch_trees, Path, Tree}
 use Rattle.smv_expression_reader.specs.declared.parts.Pending.TheVariants as p
 use Rattle.smv_expression_reader.specs.declared.parts.Pending.{Pending}
 use Rattle.smv_expression_reader.specs.TreeBuilder as machine
-use Rattle.smv_language.specs.ProgramTree.{Path}
-use Rattle.smv_language.specs.Tree.{Tree}
 
 -- each part of the code, by its name in the machine
 abbrev pub part_view : Pending → machine.Part

@@ -2,8 +2,7 @@
 use Rattle.std.specs.Prelude.{ℕ, Bool, false, List, slice_range}
 use Rattle.smv_lexer.specs.declared.token.Token.{Token}
 use Rattle.smv_lexer.specs.Tokens.{sign_text}
-use Rattle.smv_language.specs.Lexemes.{Lexeme, word, num, sign, lexeme_of}
-use Rattle.smv_language.specs.Texts.{same_text}
+use Rattle.smv_language.specs.Language.{Lexeme, word, num, sign, lexeme_of, same_text}
 
 -- the lexeme of a token of the bytes
 abbrev pub lexeme_at : List ℕ → Token → Lexeme

@@ -1,83 +1,53 @@
 -- A machine that takes one lexeme at a time, with a stack of what is still to be closed.
 use Rattle.std.specs.Prelude.{ℕ, Bool, true, false, List, [], ◌∷◌, codes, if◌then◌else◌}
 use Rattle.smv_lexer.specs.declared.token.TokenKind.TheVariants as k
-use Rattle.smv_language.specs.declared.expr.Op.{Op}
 use Rattle.smv_language.specs.declared.expr.Op.TheVariants as op
-use Rattle.smv_language.specs.Lexemes.{Lexeme, word, num, sign, is_reserved}
-use Rattle.smv_language.specs.Texts.{same_text}
-
--- what a lexeme is in an expression
-pub data Role : Type 0 where
-  a_truth : Bool → Role
-  a_name : Role
-  a_number : Role
-  a_next : Role
-  a_case : Role
-  an_esac : Role
-  a_minus : Role
-  a_bang : Role
-  joins : Op → Role
-  asks : Role
-  a_colon : Role
-  a_semicolon : Role
-  a_comma : Role
-  a_dot : Role
-  dots : Role
-  opens : Role
-  closes : Role
-  opens_set : Role
-  closes_set : Role
-  no_role : Role
+use Rattle.smv_language.specs.Language.{Lexeme, word, num, sign, is_reserved, same_text}
+use Rattle.smv_expression_reader.specs.declared.frames.OpenFrame.{OpenFrame as Frame}
+use Rattle.smv_expression_reader.specs.declared.machine.TokenRole.{TokenRole as Role}
+use Rattle.smv_expression_reader.specs.declared.frames.OpenFrame.TheVariants as frame
+use Rattle.smv_expression_reader.specs.declared.machine.TokenRole.TheVariants as role
 
 -- what a word is in an expression; a reserved one that stands in none has no role
 abbrev pub role_of_word : List ℕ → Role
 role_of_word x =
-    if same_text x (codes "TRUE") then a_truth true else (if same_text x (codes "FALSE") then a_truth false else
-    (if same_text x (codes "next") then a_next else (if same_text x (codes "case") then a_case else
-    (if same_text x (codes "esac") then an_esac else (if same_text x (codes "mod") then joins op.Mod else
-    (if same_text x (codes "union") then joins op.Union else (if same_text x (codes "in") then joins op.Within else
-    (if same_text x (codes "xor") then joins op.Xor else (if same_text x (codes "xnor") then joins op.Xnor else
-    (if is_reserved x then no_role else a_name))))))))))
+    if same_text x (codes "TRUE") then role.Truth true else (if same_text x (codes "FALSE") then role.Truth false else
+    (if same_text x (codes "next") then role.Next else (if same_text x (codes "case") then role.Case else
+    (if same_text x (codes "esac") then role.Esac else (if same_text x (codes "mod") then role.Joins op.Mod else
+    (if same_text x (codes "union") then role.Joins op.Union else (if same_text x (codes "in") then role.Joins op.Within else
+    (if same_text x (codes "xor") then role.Joins op.Xor else (if same_text x (codes "xnor") then role.Joins op.Xnor else
+    (if is_reserved x then role.Nothing else role.Name))))))))))
 
 -- what a lexeme is in an expression
 abbrev pub role_of : Lexeme → Role
 role_of (word x) = role_of_word x
-role_of (num n d) = a_number
-role_of (sign k.Minus) = a_minus
-role_of (sign k.Bang) = a_bang
-role_of (sign k.Star) = joins op.Times
-role_of (sign k.Slash) = joins op.Over
-role_of (sign k.Plus) = joins op.Plus
-role_of (sign k.Equal) = joins op.Equal
-role_of (sign k.NotEqual) = joins op.Differs
-role_of (sign k.Less) = joins op.Less
-role_of (sign k.Greater) = joins op.Greater
-role_of (sign k.AtMost) = joins op.AtMost
-role_of (sign k.AtLeast) = joins op.AtLeast
-role_of (sign k.And) = joins op.And
-role_of (sign k.Bar) = joins op.Or
-role_of (sign k.Iff) = joins op.Iff
-role_of (sign k.Implies) = joins op.Implies
-role_of (sign k.Question) = asks
-role_of (sign k.Colon) = a_colon
-role_of (sign k.Semicolon) = a_semicolon
-role_of (sign k.Comma) = a_comma
-role_of (sign k.Dot) = a_dot
-role_of (sign k.Dots) = dots
-role_of (sign k.Open) = opens
-role_of (sign k.Close) = closes
-role_of (sign k.OpenBrace) = opens_set
-role_of (sign k.CloseBrace) = closes_set
-role_of (sign s) = no_role
-
--- what is open: `(`, `next (`, `{`, the part after `?`, and the two parts of a branch
-pub data Frame : Type 0 where
-  group : Frame
-  moment : Frame
-  members : Frame
-  first_choice : Frame
-  condition : Frame
-  outcome : Frame
+role_of (num n d) = role.Number
+role_of (sign k.Minus) = role.Minus
+role_of (sign k.Bang) = role.Bang
+role_of (sign k.Star) = role.Joins op.Times
+role_of (sign k.Slash) = role.Joins op.Over
+role_of (sign k.Plus) = role.Joins op.Plus
+role_of (sign k.Equal) = role.Joins op.Equal
+role_of (sign k.NotEqual) = role.Joins op.Differs
+role_of (sign k.Less) = role.Joins op.Less
+role_of (sign k.Greater) = role.Joins op.Greater
+role_of (sign k.AtMost) = role.Joins op.AtMost
+role_of (sign k.AtLeast) = role.Joins op.AtLeast
+role_of (sign k.And) = role.Joins op.And
+role_of (sign k.Bar) = role.Joins op.Or
+role_of (sign k.Iff) = role.Joins op.Iff
+role_of (sign k.Implies) = role.Joins op.Implies
+role_of (sign k.Question) = role.Asks
+role_of (sign k.Colon) = role.Colon
+role_of (sign k.Semicolon) = role.Semicolon
+role_of (sign k.Comma) = role.Comma
+role_of (sign k.Dot) = role.Dot
+role_of (sign k.Dots) = role.Dots
+role_of (sign k.Open) = role.Opens
+role_of (sign k.Close) = role.Closes
+role_of (sign k.OpenBrace) = role.OpensSet
+role_of (sign k.CloseBrace) = role.ClosesSet
+role_of (sign s) = role.Nothing
 
 -- what an operand ended with
 pub data Ended : Type 0 where
@@ -108,58 +78,58 @@ pub data State : Type 0 where
 
 -- what begins an operand, other than `-`
 abbrev pub begin : List Frame → Role → State
-begin s (a_truth b) = had by_other s
-begin s a_name = had by_name s
-begin s a_number = had by_number s
-begin s a_next = wants_open s
-begin s a_case = wants (condition ∷ s)
-begin s a_bang = wants_not s
-begin s opens = wants (group ∷ s)
-begin s opens_set = wants (members ∷ s)
+begin s (role.Truth b) = had by_other s
+begin s role.Name = had by_name s
+begin s role.Number = had by_number s
+begin s role.Next = wants_open s
+begin s role.Case = wants (frame.Condition ∷ s)
+begin s role.Bang = wants_not s
+begin s role.Opens = wants (frame.Group ∷ s)
+begin s role.OpensSet = wants (frame.Members ∷ s)
 begin s _ = stuck
 
 -- what closes a frame, or goes on inside it
 abbrev pub close : List Frame → Role → State
-close (group ∷ s) closes = had by_other s
-close (moment ∷ s) closes = had by_other s
-close (members ∷ s) closes_set = had by_other s
-close (members ∷ s) a_comma = wants (members ∷ s)
-close (first_choice ∷ s) a_colon = wants s
-close (condition ∷ s) a_colon = wants (outcome ∷ s)
-close (outcome ∷ s) a_semicolon = wants_branch s
+close (frame.Group ∷ s) role.Closes = had by_other s
+close (frame.Moment ∷ s) role.Closes = had by_other s
+close (frame.Members ∷ s) role.ClosesSet = had by_other s
+close (frame.Members ∷ s) role.Comma = wants (frame.Members ∷ s)
+close (frame.FirstChoice ∷ s) role.Colon = wants s
+close (frame.Condition ∷ s) role.Colon = wants (frame.Outcome ∷ s)
+close (frame.Outcome ∷ s) role.Semicolon = wants_branch s
 close _ _ = stuck
 
 -- what follows an operand
 abbrev pub follow : List Frame → Role → State
-follow s (joins o) = wants s
-follow s a_minus = wants s
-follow s asks = wants (first_choice ∷ s)
+follow s (role.Joins o) = wants s
+follow s role.Minus = wants s
+follow s role.Asks = wants (frame.FirstChoice ∷ s)
 follow s c = close s c
 
 -- the state after one more lexeme
 abbrev pub step : State → Role → State
-step (wants s) a_minus = wants s
+step (wants s) role.Minus = wants s
 step (wants s) c = begin s c
-step (wants_not s) a_minus = wants_low s
+step (wants_not s) role.Minus = wants_low s
 step (wants_not s) c = begin s c
-step (wants_low s) a_number = wants_dots s
+step (wants_low s) role.Number = wants_dots s
 step (wants_low s) c = stuck
-step (wants_dots s) dots = wants_high s
+step (wants_dots s) role.Dots = wants_high s
 step (wants_dots s) c = stuck
-step (wants_high s) a_minus = wants_digits s
-step (wants_high s) a_number = had by_other s
+step (wants_high s) role.Minus = wants_digits s
+step (wants_high s) role.Number = had by_other s
 step (wants_high s) c = stuck
-step (wants_digits s) a_number = had by_other s
+step (wants_digits s) role.Number = had by_other s
 step (wants_digits s) c = stuck
-step (wants_name s) a_name = had by_name s
+step (wants_name s) role.Name = had by_name s
 step (wants_name s) c = stuck
-step (wants_open s) opens = wants (moment ∷ s)
+step (wants_open s) role.Opens = wants (frame.Moment ∷ s)
 step (wants_open s) c = stuck
-step (wants_branch s) an_esac = had by_other s
-step (wants_branch s) a_minus = wants (condition ∷ s)
-step (wants_branch s) c = begin (condition ∷ s) c
-step (had by_number s) dots = wants_high s
-step (had by_name s) a_dot = wants_name s
+step (wants_branch s) role.Esac = had by_other s
+step (wants_branch s) role.Minus = wants (frame.Condition ∷ s)
+step (wants_branch s) c = begin (frame.Condition ∷ s) c
+step (had by_number s) role.Dots = wants_high s
+step (had by_name s) role.Dot = wants_name s
 step (had e s) c = follow s c
 step stuck c = stuck
 

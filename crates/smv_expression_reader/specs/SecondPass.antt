@@ -2,16 +2,14 @@
 use Rattle.std.specs.Prelude.{ℕ, zero, suc, ℤ, pos, Bool, true, false, List, [], ◌∷◌, ◌++◌, Option, Some, None, take, drop, length, nat_lt}
 use Rattle.std.specs.Prelude.{◌&&◌, if◌then◌else◌}
 use Rattle.base_values.specs.declared.limits.TheConstants.{MOST_HEIGHT}
-use Rattle.smv_language.specs.Tree.{height_of}
-use Rattle.smv_language.specs.ProgramTree.{Text, Formula}
-use Rattle.smv_language.specs.Lexemes.{Lexeme}
-use Rattle.smv_language.specs.Spells.{minus}
+use Rattle.smv_language.specs.Language.{height_of, Text, Formula, Lexeme, minus}
 use Rattle.smv_expression_reader.specs.Places.{is_word, text_in}
 use Rattle.smv_expression_reader.specs.Recogniser.{start}
 use Rattle.smv_expression_reader.specs.TreeBuilder.{built, name_in, number_in}
 use Rattle.smv_expression_reader.specs.Extents.{reach_of, is_deep, ends_whole}
-use Rattle.smv_expression_reader.specs.Marks.{Mark, mark_of, no_mark, a_name, a_number, s_semicolon, s_minus, is_section}
-use Rattle.smv_expression_reader.specs.MarkView.{is_mark}
+use Rattle.smv_expression_reader.specs.Marks.{mark_of, is_section, is_mark}
+use Rattle.smv_expression_reader.specs.declared.mark.Mark.{Mark}
+use Rattle.smv_expression_reader.specs.declared.mark.Mark.TheVariants as mark
 
 -- a part and the lexemes behind it, or that an expression is too deep, or that no part stands there
 pub data Read (A : Type 0) : Type 0 where
@@ -51,7 +49,7 @@ expr_at ts = front_read (ends_whole start ts) (is_deep start ts) (built (take (r
 
 -- what the next lexeme is, and what stands behind it
 abbrev pub mark_at : List Lexeme → Mark
-mark_at [] = no_mark
+mark_at [] = mark.Nothing
 mark_at (t ∷ ts) = mark_of t
 
 -- what stands behind the next lexeme
@@ -88,7 +86,7 @@ end_at (t ∷ ts) = none
 
 -- a name by its mark
 abbrev pub named_at : Mark → Lexeme → List Lexeme → Read Text
-named_at a_name t ts = got (name_in t) ts
+named_at mark.Name t ts = got (name_in t) ts
 named_at c t ts = none
 
 -- a name
@@ -98,7 +96,7 @@ name_at (t ∷ ts) = named_at (mark_of t) t ts
 
 -- a number by its mark
 abbrev pub counted_at : Mark → Lexeme → List Lexeme → Read ℕ
-counted_at a_number t ts = got (number_in t) ts
+counted_at mark.Number t ts = got (number_in t) ts
 counted_at c t ts = none
 
 -- a number
@@ -108,7 +106,7 @@ number_at (t ∷ ts) = counted_at (mark_of t) t ts
 
 -- a number, with its sign
 abbrev pub int_at : List Lexeme → Read ℤ
-int_at ts = if has_next s_minus ts then and_then (number_at (rest_of ts)) (λ n r. got (minus n) r) else and_then (number_at ts)
+int_at ts = if has_next mark.Minus ts then and_then (number_at (rest_of ts)) (λ n r. got (minus n) r) else and_then (number_at ts)
     (λ n r. got (pos n) r)
 
 -- parts one after another, as long as another begins, but at most so many
@@ -120,7 +118,7 @@ each_at begins one (suc n) ts =
 -- whether a semicolon stands next, and another lexeme behind it
 abbrev pub goes_on : List Lexeme → Bool
 goes_on [] = false
-goes_on (t ∷ ts) = is_mark s_semicolon (mark_of t) && nat_lt 0 (length ts)
+goes_on (t ∷ ts) = is_mark mark.Semicolon (mark_of t) && nat_lt 0 (length ts)
 
 -- an expression behind a semicolon
 abbrev pub next_expr : List Lexeme → Read Formula
@@ -128,7 +126,7 @@ next_expr ts = expr_at (rest_of ts)
 
 -- without a semicolon that stands next
 abbrev pub past_semicolon : List Lexeme → List Lexeme
-past_semicolon ts = if has_next s_semicolon ts then rest_of ts else ts
+past_semicolon ts = if has_next mark.Semicolon ts then rest_of ts else ts
 
 -- one part, and then others as long as another begins
 abbrev pub some_at : {A : Type 0} → (List Lexeme → Bool) → (List Lexeme → Read A) → (List Lexeme → Read A) → List Lexeme → Read (List A)

@@ -3,11 +3,8 @@ use Rattle.std.specs.Prelude.{◌≡◌, ℕ, ◌+◌, Bool, true, false, List, 
 use Rattle.smv_lexer.specs.declared.token.Token.{Token}
 use Rattle.smv_lexer.specs.Tokens.{HasTokens}
 use Rattle.smv_lexer.specs.Faults.{HasNoSplit, IsFaultOf}
-use Rattle.smv_language.specs.ProgramTree.{Formula}
-use Rattle.smv_language.specs.Lexemes.{Lexeme, word, num, sign, lexemes_of, left_out_words}
-use Rattle.smv_language.specs.Texts.{is_among}
-use Rattle.smv_language.specs.SpellsProgram.{SpellsExpr}
-use Rattle.smv_language.specs.Bytes.{BytesSpellExpr, HasDepths}
+use Rattle.smv_language.specs.Language.{Formula, Lexeme, word, num, sign, lexemes_of, left_out_words, is_among, SpellsExpr, BytesSpellExpr}
+use Rattle.smv_language.specs.Language.{HasDepths}
 use Rattle.smv_expression_reader.specs.declared.fault.ParseFault.{ParseFault}
 use Rattle.smv_expression_reader.specs.declared.fault.ParseFault.TheVariants as fault
 use Rattle.smv_expression_reader.specs.Places.{lexeme_at}

@@ -2,14 +2,13 @@
 use Rattle.std.specs.Prelude.{ℕ, ℤ, pos, Bool, false, List, [], ◌∷◌, ◌++◌, Option, Some, None, nat_le, if◌then◌else◌}
 use Rattle.smv_language.specs.declared.expr.Op.{Op}
 use Rattle.smv_language.specs.declared.expr.Op.TheVariants as op
-use Rattle.smv_language.specs.Tree.{Tree, truth, number, leaf, not_of, negate, next_of, binary, choice, case_of, set_of, span, trees_from}
-use Rattle.smv_language.specs.Tree.{branches_from}
-use Rattle.smv_language.specs.Lexemes.{Lexeme, word, num}
-use Rattle.smv_language.specs.ProgramTree.{Path, Text}
-use Rattle.smv_language.specs.Spells.{at_expr, at_iff, at_choice, at_or, at_sum, at_neg, at_not, line_of, minus}
-use Rattle.smv_expression_reader.specs.Recogniser.{Role, a_truth, a_name, a_number, a_next, a_case, an_esac, a_minus, a_bang, joins, asks}
-use Rattle.smv_expression_reader.specs.Recogniser.{a_colon, a_semicolon, a_comma, a_dot, dots, opens, closes, opens_set, closes_set}
+use Rattle.smv_language.specs.Language.{Tree, leaf, not_of, negate, next_of, binary, choice, case_of, set_of, span, trees_from}
+use Rattle.smv_language.specs.Language.{branches_from, Lexeme, word, num, Path, Text, at_expr, at_iff, at_choice, at_or, at_sum, at_neg}
+use Rattle.smv_language.specs.Language.{at_not, line_of, minus}
+use Rattle.smv_language.specs.Tree.{truth, number}
 use Rattle.smv_expression_reader.specs.Recogniser.{role_of}
+use Rattle.smv_expression_reader.specs.declared.machine.TokenRole.{TokenRole as Role}
+use Rattle.smv_expression_reader.specs.declared.machine.TokenRole.TheVariants as role
 
 -- what waits for the operand to its right
 pub data Part : Type 0 where
@@ -81,13 +80,13 @@ reduce l t (p ∷ ps) = if takes_operand l p then reduce l (joined p t) ps else 
 
 -- a lexeme that closes what is open, or goes on inside it, behind a whole operand
 abbrev pub shut : Tree Path → List Part → Role → Build
-shut t (group_part ∷ ps) closes = holds (other_hand t) ps
-shut t (next_part ∷ ps) closes = holds (other_hand (next_of t)) ps
-shut t (set_part ts ∷ ps) a_comma = ready (set_part (ts ++ t ∷ []) ∷ ps)
-shut t (set_part ts ∷ ps) closes_set = holds (other_hand (set_of (trees_from (ts ++ t ∷ [])))) ps
-shut t (asked c ∷ ps) a_colon = ready (answered c t ∷ ps)
-shut t (condition_part bs ∷ ps) a_colon = ready (outcome_part bs t ∷ ps)
-shut t (outcome_part bs c ∷ ps) a_semicolon = branch_on (bs ++ (c, t) ∷ []) ps
+shut t (group_part ∷ ps) role.Closes = holds (other_hand t) ps
+shut t (next_part ∷ ps) role.Closes = holds (other_hand (next_of t)) ps
+shut t (set_part ts ∷ ps) role.Comma = ready (set_part (ts ++ t ∷ []) ∷ ps)
+shut t (set_part ts ∷ ps) role.ClosesSet = holds (other_hand (set_of (trees_from (ts ++ t ∷ [])))) ps
+shut t (asked c ∷ ps) role.Colon = ready (answered c t ∷ ps)
+shut t (condition_part bs ∷ ps) role.Colon = ready (outcome_part bs t ∷ ps)
+shut t (outcome_part bs c ∷ ps) role.Semicolon = branch_on (bs ++ (c, t) ∷ []) ps
 shut t _ _ = broken
 
 -- the same, of an operand with its parts
@@ -109,9 +108,9 @@ level None = at_iff
 
 -- an operator, a `?`, or what closes, behind an operand
 abbrev pub go_on : Tree Path → List Part → Role → Build
-go_on t ps (joins o) = left_held o (reduce (level (line_of o)) t ps)
-go_on t ps a_minus = left_held op.Minus (reduce at_sum t ps)
-go_on t ps asks = asked_held (reduce at_or t ps)
+go_on t ps (role.Joins o) = left_held o (reduce (level (line_of o)) t ps)
+go_on t ps role.Minus = left_held op.Minus (reduce at_sum t ps)
+go_on t ps role.Asks = asked_held (reduce at_or t ps)
 go_on t ps c = shut_held (reduce at_expr t ps) c
 
 -- a `-` before the first number of a span is its own
@@ -121,8 +120,8 @@ span_from n ps = high_on (pos n) ps
 
 -- what stands behind an operand: two dots, a dot, or what goes on
 abbrev pub after_hand : Hand → List Part → Role → Build
-after_hand (number_hand n) ps dots = span_from n ps
-after_hand (name_hand p) ps a_dot = name_on p ps
+after_hand (number_hand n) ps role.Dots = span_from n ps
+after_hand (name_hand p) ps role.Dot = name_on p ps
 after_hand h ps c = go_on (value h) ps c
 
 -- the text of a word
@@ -137,30 +136,30 @@ number_in _ = 0
 
 -- what begins an operand
 abbrev pub open_operand : List Part → Lexeme → Role → Build
-open_operand ps t (a_truth b) = holds (other_hand (truth b)) ps
-open_operand ps t a_name = holds (name_hand (name_in t ∷ [])) ps
-open_operand ps t a_number = holds (number_hand (number_in t)) ps
-open_operand ps t a_next = next_on ps
-open_operand ps t a_case = ready (condition_part [] ∷ ps)
-open_operand ps t a_minus = ready (minus_part ∷ ps)
-open_operand ps t a_bang = ready (bang_part ∷ ps)
-open_operand ps t opens = ready (group_part ∷ ps)
-open_operand ps t opens_set = ready (set_part [] ∷ ps)
+open_operand ps t (role.Truth b) = holds (other_hand (truth b)) ps
+open_operand ps t role.Name = holds (name_hand (name_in t ∷ [])) ps
+open_operand ps t role.Number = holds (number_hand (number_in t)) ps
+open_operand ps t role.Next = next_on ps
+open_operand ps t role.Case = ready (condition_part [] ∷ ps)
+open_operand ps t role.Minus = ready (minus_part ∷ ps)
+open_operand ps t role.Bang = ready (bang_part ∷ ps)
+open_operand ps t role.Opens = ready (group_part ∷ ps)
+open_operand ps t role.OpensSet = ready (set_part [] ∷ ps)
 open_operand ps t _ = broken
 
 -- the state after one more lexeme
 abbrev pub build_step : Build → Lexeme → Role → Build
 build_step (ready ps) t c = open_operand ps t c
-build_step (name_on p ps) t a_name = holds (name_hand (p ++ name_in t ∷ [])) ps
+build_step (name_on p ps) t role.Name = holds (name_hand (p ++ name_in t ∷ [])) ps
 build_step (name_on p ps) t c = broken
-build_step (high_on lo ps) t a_minus = minus_high_on lo ps
-build_step (high_on lo ps) t a_number = holds (other_hand (span lo (pos (number_in t)))) ps
+build_step (high_on lo ps) t role.Minus = minus_high_on lo ps
+build_step (high_on lo ps) t role.Number = holds (other_hand (span lo (pos (number_in t)))) ps
 build_step (high_on lo ps) t c = broken
-build_step (minus_high_on lo ps) t a_number = holds (other_hand (span lo (minus (number_in t)))) ps
+build_step (minus_high_on lo ps) t role.Number = holds (other_hand (span lo (minus (number_in t)))) ps
 build_step (minus_high_on lo ps) t c = broken
-build_step (next_on ps) t opens = ready (next_part ∷ ps)
+build_step (next_on ps) t role.Opens = ready (next_part ∷ ps)
 build_step (next_on ps) t c = broken
-build_step (branch_on bs ps) t an_esac = holds (other_hand (case_of (branches_from bs))) ps
+build_step (branch_on bs ps) t role.Esac = holds (other_hand (case_of (branches_from bs))) ps
 build_step (branch_on bs ps) t c = open_operand (condition_part bs ∷ ps) t c
 build_step (holds h ps) t c = after_hand h ps c
 build_step broken t c = broken

@@ -5,7 +5,6 @@
 ghost use Rattle.std.specs.Prelude.{◌≡◌, Err, IfOk, length, drop, if◌then◌else◌};
 ghost use Rattle.smv_language.specs.ExpressionTree.{tree_of};
 ghost use Rattle.smv_expression_reader.specs.declared.fault.BuildFault.TheVariants as stop;
-ghost use Rattle.smv_expression_reader.specs.MarkView.{mark_view};
 ghost use Rattle.smv_expression_reader.specs.SecondPass.{got, deep, none, mark_at, rest_of, has_next, expect_at, has_word, word_at, end_at};
 ghost use Rattle.smv_expression_reader.specs.SecondPass.{name_at, number_at, int_at, text_at, expr_at, goes_on, is_past};
 
@@ -44,7 +43,7 @@ impl<'t, 'a> Cursor<'t, 'a> {
 
     /// What the next token is, and nothing at the end.
     pub fn mark(&self) -> Mark
-        ensures { mark_view result ≡ mark_at self.now }
+        ensures { result ≡ mark_at self.now }
     {
         match self.rest {
             [token, ..] => token.mark(),
@@ -90,7 +89,7 @@ impl<'t, 'a> Cursor<'t, 'a> {
 
     /// Whether the next token has this mark.
     pub fn is_next(&self, mark: Mark) -> bool
-        ensures { result ≡ has_next (mark_view mark) self.now }
+        ensures { result ≡ has_next mark self.now }
     {
         is_same(mark, self.mark())
     }
@@ -107,8 +106,8 @@ impl<'t, 'a> Cursor<'t, 'a> {
 
     /// Passes over the next token where it has this mark.
     pub fn take(&mut self, mark: Mark) -> bool
-        ensures taken { result ≡ has_next (mark_view mark) self.old }
-        ensures rest { self.new ≡ (if has_next (mark_view mark) self.old then rest_of self.old else self.old) }
+        ensures taken { result ≡ has_next mark self.old }
+        ensures rest { self.new ≡ (if has_next mark self.old then rest_of self.old else self.old) }
     {
         if self.is_next(mark) {
             self.skip();
@@ -120,9 +119,9 @@ impl<'t, 'a> Cursor<'t, 'a> {
 
     /// Passes over the next token, which has this mark.
     pub fn expect(&mut self, mark: Mark) -> Result<(), BuildFault>
-        ensures ok { IfOk result (λ _. expect_at (mark_view mark) self.old ≡ got tt self.new) }
-        ensures deep { result ≡ Err stop.TooDeep → expect_at (mark_view mark) self.old ≡ deep }
-        ensures none { result ≡ Err stop.NoTree → expect_at (mark_view mark) self.old ≡ none }
+        ensures ok { IfOk result (λ _. expect_at mark self.old ≡ got tt self.new) }
+        ensures deep { result ≡ Err stop.TooDeep → expect_at mark self.old ≡ deep }
+        ensures none { result ≡ Err stop.NoTree → expect_at mark self.old ≡ none }
     {
         if self.take(mark) {
             Ok(())

@@ -2,7 +2,7 @@
 //!
 //! It counts its parentheses, so that how deep they are nested takes no walk.
 ghost use Rattle.std.specs.Prelude.{◌≡◌, ◌≤◌, ◌∷◌, [], OnOk, IfSome, None};
-ghost use Rattle.smv_expression_reader.specs.Views.{frame_view, has_no_frame};
+ghost use Rattle.smv_expression_reader.specs.Views.{has_no_frame};
 ghost use Rattle.smv_expression_reader.specs.Depth.{groups};
 
 use base_values::OutOfMemory;
@@ -29,11 +29,11 @@ pub struct OpenFrames {
 
 impl Model for OpenFrames {
     ghost use Rattle.std.specs.Prelude.{◌≡◌, List};
-    ghost use Rattle.smv_expression_reader.specs.Recogniser as machine;
+    ghost use Rattle.smv_expression_reader.specs.declared.frames.OpenFrame.{OpenFrame as Frame};
     ghost use Rattle.smv_expression_reader.specs.Views.{stack_of};
     ghost use Rattle.smv_expression_reader.specs.Depth.{groups as open_groups};
 
-    ghost Value = { List machine.Frame };
+    ghost Value = { List Frame };
 
     ghost view = { λ open_. stack_of open_.frames.items };
 
@@ -42,7 +42,7 @@ impl Model for OpenFrames {
 
 /// How many groups a frame is.
 fn weight(frame: OpenFrame) -> usize
-    ensures value { result ≡ groups (frame_view frame ∷ []) }
+    ensures value { result ≡ groups (frame ∷ []) }
     ensures small { result ≤ 1 }
 {
     match frame {
@@ -66,7 +66,7 @@ impl OpenFrames {
     /// Opens a frame.
     #[tactic(auto, using(crate::proofs::Stacks::pushed, crate::proofs::Stacks::groups_popped, crate::proofs::Stacks::groups_within))]
     pub fn push(&mut self, frame: OpenFrame) -> Result<(), OutOfMemory>
-        ensures { OnOk result (self.new ≡ frame_view frame ∷ self.old) }
+        ensures { OnOk result (self.new ≡ frame ∷ self.old) }
     {
         self.frames.push(frame)?;
         self.groups += weight(frame);
@@ -76,7 +76,7 @@ impl OpenFrames {
     /// Closes the innermost frame.
     #[tactic(auto, using(crate::proofs::Stacks::pushed, crate::proofs::Stacks::no_frames, crate::proofs::Stacks::groups_popped))]
     pub fn pop(&mut self) -> Option<OpenFrame>
-        ensures some { IfSome result (λ frame. self.old ≡ frame_view frame ∷ self.new) }
+        ensures some { IfSome result (λ frame. self.old ≡ frame ∷ self.new) }
         ensures none { result ≡ None → (self.old ≡ []) × (self.new ≡ []) }
     {
         match self.frames.pop() {

@@ -3,7 +3,7 @@
 //! A semicolon ends each expression but the last, where it may be left out, and there is at least one.
 ghost use Rattle.std.specs.Prelude.{◌≡◌, ◌∷◌, [], List, Some, false, Err, IfOk, IfSome, map};
 ghost use Rattle.smv_expression_reader.specs.Recogniser as machine;
-ghost use Rattle.smv_expression_reader.specs.Views.{role_view, state_with};
+ghost use Rattle.smv_expression_reader.specs.Views.{state_with};
 ghost use Rattle.smv_expression_reader.specs.Recogniser.{role_of};
 ghost use Rattle.smv_expression_reader.specs.PredictiveReader.{all_empty};
 ghost use Rattle.smv_expression_reader.specs.Formulas as lists;
@@ -76,7 +76,7 @@ fn inside_step(
 
 /// Whether a token ends an expression of a list.
 fn is_semicolon(role: TokenRole) -> bool
-    ensures { result ≡ lists.is_semicolon (role_view role) }
+    ensures { result ≡ lists.is_semicolon role }
 {
     match role {
         TokenRole::Semicolon => true,

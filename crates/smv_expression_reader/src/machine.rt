@@ -4,7 +4,8 @@
 //! so no precedence is needed to say which lists go on. `step` takes one token.
 ghost use Rattle.std.specs.Prelude.{◌≡◌, ◌∷◌, [], List, IfOk};
 ghost use Rattle.smv_expression_reader.specs.Recogniser as machine;
-ghost use Rattle.smv_expression_reader.specs.Views.{role_view, frame_view, state_with};
+ghost use Rattle.smv_expression_reader.specs.Views.{state_with};
+ghost use Rattle.smv_expression_reader.specs.declared.frames.OpenFrame.{OpenFrame};
 
 use crate::frames::{OpenFrame, OpenFrames};
 use base_values::OutOfMemory;
@@ -55,7 +56,7 @@ pub enum Mode {
 
 /// Opens a part, at the beginning of which an operand is wanted.
 fn open(frames: &mut OpenFrames, frame: OpenFrame) -> Result<Mode, OutOfMemory>
-    ensures { IfOk result (λ mode. state_with mode frames.new ≡ machine.wants (frame_view frame ∷ frames.old)) }
+    ensures { IfOk result (λ mode. state_with mode frames.new ≡ machine.wants (frame ∷ frames.old)) }
 {
     frames.push(frame)?;
     Ok(Mode::Wants)
@@ -63,7 +64,7 @@ fn open(frames: &mut OpenFrames, frame: OpenFrame) -> Result<Mode, OutOfMemory>
 
 /// What begins an operand, other than `-`.
 fn begin(frames: &mut OpenFrames, role: TokenRole) -> Result<Mode, OutOfMemory>
-    ensures { IfOk result (λ mode. state_with mode frames.new ≡ machine.begin frames.old (role_view role)) }
+    ensures { IfOk result (λ mode. state_with mode frames.new ≡ machine.begin frames.old role) }
 {
     match role {
         TokenRole::Truth(_) => Ok(Mode::Had),
@@ -80,7 +81,7 @@ fn begin(frames: &mut OpenFrames, role: TokenRole) -> Result<Mode, OutOfMemory>
 
 /// What closes this frame, or goes on inside it.
 fn shut(frames: &mut OpenFrames, frame: OpenFrame, role: TokenRole) -> Result<Mode, OutOfMemory>
-    ensures { IfOk result (λ mode. state_with mode frames.new ≡ machine.close (frame_view frame ∷ frames.old) (role_view role)) }
+    ensures { IfOk result (λ mode. state_with mode frames.new ≡ machine.close (frame ∷ frames.old) role) }
 {
     match (frame, role) {
         (OpenFrame::Group, TokenRole::Closes) => Ok(Mode::Had),
@@ -96,7 +97,7 @@ fn shut(frames: &mut OpenFrames, frame: OpenFrame, role: TokenRole) -> Result<Mo
 
 /// What closes the innermost frame, or goes on inside it.
 fn close(frames: &mut OpenFrames, role: TokenRole) -> Result<Mode, OutOfMemory>
-    ensures { IfOk result (λ mode. state_with mode frames.new ≡ machine.close frames.old (role_view role)) }
+    ensures { IfOk result (λ mode. state_with mode frames.new ≡ machine.close frames.old role) }
 {
     match frames.pop() {
         Some(frame) => shut(frames, frame, role),
@@ -106,7 +107,7 @@ fn close(frames: &mut OpenFrames, role: TokenRole) -> Result<Mode, OutOfMemory>
 
 /// What follows an operand.
 fn follow(frames: &mut OpenFrames, role: TokenRole) -> Result<Mode, OutOfMemory>
-    ensures { IfOk result (λ mode. state_with mode frames.new ≡ machine.follow frames.old (role_view role)) }
+    ensures { IfOk result (λ mode. state_with mode frames.new ≡ machine.follow frames.old role) }
 {
     match role {
         TokenRole::Joins(_) | TokenRole::Minus => Ok(Mode::Wants),
@@ -117,7 +118,7 @@ fn follow(frames: &mut OpenFrames, role: TokenRole) -> Result<Mode, OutOfMemory>
 
 /// What may come after one more token.
 pub fn step(mode: Mode, frames: &mut OpenFrames, role: TokenRole) -> Result<Mode, OutOfMemory>
-    ensures { IfOk result (λ new. state_with new frames.new ≡ machine.step (state_with mode frames.old) (role_view role)) }
+    ensures { IfOk result (λ new. state_with new frames.new ≡ machine.step (state_with mode frames.old) role) }
 {
     match (mode, role) {
         (Mode::Wants, TokenRole::Minus) => Ok(Mode::Wants),
@@ -146,7 +147,7 @@ pub fn step(mode: Mode, frames: &mut OpenFrames, role: TokenRole) -> Result<Mode
 
 /// Whether no list goes on.
 pub fn is_stuck(mode: Mode) -> bool
-    ensures { (frames : List machine.Frame) → result ≡ machine.is_stuck (state_with mode frames) }
+    ensures { (frames : List OpenFrame) → result ≡ machine.is_stuck (state_with mode frames) }
 {
     mode == Mode::Stuck
 }

@@ -2,7 +2,7 @@
 //!
 //! The readers of programs and of instructions decide by it what comes next. The words of instructions are names here.
 ghost use Rattle.std.specs.Prelude.{◌≡◌};
-ghost use Rattle.smv_expression_reader.specs.MarkView.{mark_view, is_mark};
+ghost use Rattle.smv_expression_reader.specs.Marks.{is_mark};
 
 /// What a token is outside expressions.
 #[derive(Clone, Copy, Debug, PartialEq, Eq)]
@@ -39,7 +39,7 @@ pub enum Mark {
 
 /// Whether two marks are the same.
 pub fn is_same(one: Mark, other: Mark) -> bool
-    ensures { result ≡ is_mark (mark_view one) (mark_view other) }
+    ensures { result ≡ is_mark one other }
 {
     one == other
 }

@@ -9,8 +9,6 @@ ghost use Rattle.smv_lexer.specs.Tokens.{number_of, StandsIn};
 ghost use Rattle.smv_expression_reader.specs.Recogniser.{role_of, role_of_word};
 ghost use Rattle.smv_expression_reader.specs.Marks.{mark_of, mark_of_word, is_section};
 ghost use Rattle.smv_expression_reader.specs.TreeBuilder.{name_in, number_in};
-ghost use Rattle.smv_expression_reader.specs.Views.{role_view};
-ghost use Rattle.smv_expression_reader.specs.MarkView.{mark_view};
 ghost use Rattle.smv_expression_reader.specs.Places.{lexeme_at, is_word, text_in};
 ghost use Rattle.smv_expression_reader.specs.Stops.{is_left_out};
 
@@ -70,7 +68,7 @@ impl<'a> Model for TokenText<'a> {
 
 /// What a word is in an expression.
 fn word_role(text: &[u8]) -> TokenRole
-    ensures { role_view result ≡ role_of_word text.now }
+    ensures { result ≡ role_of_word text.now }
 {
     if is_same(text, b"TRUE") {
         TokenRole::Truth(true)
@@ -101,7 +99,7 @@ fn word_role(text: &[u8]) -> TokenRole
 
 /// What a word is outside expressions.
 fn word_mark(text: &[u8]) -> Mark
-    ensures { mark_view result ≡ mark_of_word text.now }
+    ensures { result ≡ mark_of_word text.now }
 {
     if is_same(text, b"MODULE") {
         Mark::Module
@@ -154,7 +152,7 @@ fn value_of(text: &[u8]) -> u64
 impl<'a> TokenText<'a> {
     /// What the token is in an expression.
     pub fn role(&self) -> TokenRole
-        ensures { role_view result ≡ role_of self.now }
+        ensures { result ≡ role_of self.now }
     {
         match self.kind {
             TokenKind::Word => word_role(self.text),
@@ -191,7 +189,7 @@ impl<'a> TokenText<'a> {
 
     /// What the token is outside expressions.
     pub fn mark(&self) -> Mark
-        ensures { mark_view result ≡ mark_of self.now }
+        ensures { result ≡ mark_of self.now }
     {
         match self.kind {
             TokenKind::Word => word_mark(self.text),

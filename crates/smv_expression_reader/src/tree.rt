@@ -8,7 +8,6 @@ ghost use Rattle.smv_language.specs.Tree.{height_of};
 ghost use Rattle.smv_language.specs.ExpressionTree.{tree_of};
 ghost use Rattle.smv_language.specs.ProgramTree.{Formula};
 ghost use Rattle.smv_expression_reader.specs.TreeBuilder as machine;
-ghost use Rattle.smv_expression_reader.specs.Views.{role_view};
 ghost use Rattle.smv_expression_reader.specs.PartViews.{part_view, parts_of};
 ghost use Rattle.smv_expression_reader.specs.BuildViews.{hand_view, build_view};
 ghost use Rattle.smv_expression_reader.specs.Heights.{TooHigh};
@@ -72,9 +71,9 @@ fn shut_set(
     role: TokenRole,
 ) -> Result<Build, GrowFault>
     ensures ok { IfOk result (λ made. build_view made (parts_of parts.new.items)
-        ≡ machine.shut (tree_of operand.tree) (part_view (Pending.Set members) ∷ parts_of parts.old.items) (role_view role)) }
+        ≡ machine.shut (tree_of operand.tree) (part_view (Pending.Set members) ∷ parts_of parts.old.items) role) }
     ensures deep { result ≡ Err GrowFault.TooDeep →
-        TooHigh (machine.shut (tree_of operand.tree) (part_view (Pending.Set members) ∷ parts_of parts.old.items) (role_view role)) }
+        TooHigh (machine.shut (tree_of operand.tree) (part_view (Pending.Set members) ∷ parts_of parts.old.items) role) }
 {
     match role {
         TokenRole::Comma => {
@@ -97,7 +96,7 @@ fn shut_branch(
     role: TokenRole,
 ) -> Result<Build, OutOfMemory>
     ensures { (ps : List machine.Part) → IfOk result (λ made.
-        build_view made ps ≡ machine.shut (tree_of operand.tree) (part_view (Pending.Outcome branches condition) ∷ ps) (role_view role)) }
+        build_view made ps ≡ machine.shut (tree_of operand.tree) (part_view (Pending.Outcome branches condition) ∷ ps) role) }
 {
     match role {
         TokenRole::Semicolon => Ok(Build::BranchOn(branches.with(condition, operand)?)),
@@ -114,9 +113,9 @@ fn shut_part(
     role: TokenRole,
 ) -> Result<Build, GrowFault>
     ensures ok { IfOk result (λ made. build_view made (parts_of parts.new.items)
-        ≡ machine.shut (tree_of operand.tree) (part_view part ∷ parts_of parts.old.items) (role_view role)) }
+        ≡ machine.shut (tree_of operand.tree) (part_view part ∷ parts_of parts.old.items) role) }
     ensures deep { result ≡ Err GrowFault.TooDeep →
-        TooHigh (machine.shut (tree_of operand.tree) (part_view part ∷ parts_of parts.old.items) (role_view role)) }
+        TooHigh (machine.shut (tree_of operand.tree) (part_view part ∷ parts_of parts.old.items) role) }
 {
     match part {
         Pending::Group => match role {
@@ -153,9 +152,9 @@ fn shut(
     role: TokenRole,
 ) -> Result<Build, GrowFault>
     ensures ok { IfOk result (λ made. build_view made (parts_of parts.new.items)
-        ≡ machine.shut (tree_of operand.tree) (parts_of parts.old.items) (role_view role)) }
+        ≡ machine.shut (tree_of operand.tree) (parts_of parts.old.items) role) }
     ensures deep { result ≡ Err GrowFault.TooDeep →
-        TooHigh (machine.shut (tree_of operand.tree) (parts_of parts.old.items) (role_view role)) }
+        TooHigh (machine.shut (tree_of operand.tree) (parts_of parts.old.items) role) }
 {
     match pop(parts) {
         Some(part) => shut_part(alloc, parts, part, operand, role),
@@ -172,9 +171,9 @@ fn go_on(
     role: TokenRole,
 ) -> Result<Build, GrowFault>
     ensures ok { IfOk result (λ made. build_view made (parts_of parts.new.items)
-        ≡ machine.go_on (tree_of operand.tree) (parts_of parts.old.items) (role_view role)) }
+        ≡ machine.go_on (tree_of operand.tree) (parts_of parts.old.items) role) }
     ensures deep { result ≡ Err GrowFault.TooDeep →
-        TooHigh (machine.go_on (tree_of operand.tree) (parts_of parts.old.items) (role_view role)) }
+        TooHigh (machine.go_on (tree_of operand.tree) (parts_of parts.old.items) role) }
 {
     match role {
         TokenRole::Joins(op) => {
@@ -218,9 +217,9 @@ fn after_number(
     role: TokenRole,
 ) -> Result<Build, GrowFault>
     ensures ok { IfOk result (λ made. build_view made (parts_of parts.new.items)
-        ≡ machine.after_hand (machine.number_hand digits.value) (parts_of parts.old.items) (role_view role)) }
+        ≡ machine.after_hand (machine.number_hand digits.value) (parts_of parts.old.items) role) }
     ensures deep { result ≡ Err GrowFault.TooDeep →
-        TooHigh (machine.after_hand (machine.number_hand digits.value) (parts_of parts.old.items) (role_view role)) }
+        TooHigh (machine.after_hand (machine.number_hand digits.value) (parts_of parts.old.items) role) }
 {
     match role {
         TokenRole::Dots => Ok(span_from(parts, digits)?),
@@ -236,9 +235,9 @@ fn after_name(
     role: TokenRole,
 ) -> Result<Build, GrowFault>
     ensures ok { IfOk result (λ made. build_view made (parts_of parts.new.items)
-        ≡ machine.after_hand (machine.name_hand name) (parts_of parts.old.items) (role_view role)) }
+        ≡ machine.after_hand (machine.name_hand name) (parts_of parts.old.items) role) }
     ensures deep { result ≡ Err GrowFault.TooDeep →
-        TooHigh (machine.after_hand (machine.name_hand name) (parts_of parts.old.items) (role_view role)) }
+        TooHigh (machine.after_hand (machine.name_hand name) (parts_of parts.old.items) role) }
 {
     match role {
         TokenRole::Dot => Ok(Build::NameOn(name)),
@@ -254,9 +253,9 @@ fn after_hand(
     role: TokenRole,
 ) -> Result<Build, GrowFault>
     ensures ok { IfOk result (λ made. build_view made (parts_of parts.new.items)
-        ≡ machine.after_hand (hand_view hand) (parts_of parts.old.items) (role_view role)) }
+        ≡ machine.after_hand (hand_view hand) (parts_of parts.old.items) role) }
     ensures deep { result ≡ Err GrowFault.TooDeep →
-        TooHigh (machine.after_hand (hand_view hand) (parts_of parts.old.items) (role_view role)) }
+        TooHigh (machine.after_hand (hand_view hand) (parts_of parts.old.items) role) }
 {
     match hand {
         Hand::Number(digits) => after_number(alloc, parts, digits, role),
@@ -273,7 +272,7 @@ fn open_operand(
     role: TokenRole,
 ) -> Result<Build, OutOfMemory>
     ensures { IfOk result (λ made. build_view made (parts_of parts.new.items)
-        ≡ machine.open_operand (parts_of parts.old.items) token.now (role_view role)) }
+        ≡ machine.open_operand (parts_of parts.old.items) token.now role) }
 {
     match role {
         TokenRole::Truth(value) => Ok(Build::Holds(Hand::Other(Grown::truth(value)))),
@@ -300,7 +299,7 @@ fn after_dot(
     role: TokenRole,
 ) -> Result<Build, OutOfMemory>
     ensures { (ps : List machine.Part) → IfOk result (λ made.
-        build_view made ps ≡ machine.build_step (machine.name_on name ps) token.now (role_view role)) }
+        build_view made ps ≡ machine.build_step (machine.name_on name ps) token.now role) }
 {
     match role {
         TokenRole::Name => {
@@ -314,7 +313,7 @@ fn after_dot(
 
 /// What follows a `..`.
 fn after_dots(lo: i64, token: &TokenText, role: TokenRole) -> Build
-    ensures { (ps : List machine.Part) → build_view result ps ≡ machine.build_step (machine.high_on lo ps) token.now (role_view role) }
+    ensures { (ps : List machine.Part) → build_view result ps ≡ machine.build_step (machine.high_on lo ps) token.now role }
 {
     match role {
         TokenRole::Minus => Build::MinusHighOn(lo),
@@ -326,7 +325,7 @@ fn after_dots(lo: i64, token: &TokenText, role: TokenRole) -> Build
 /// What follows a `..` and a `-`.
 fn after_minus(lo: i64, token: &TokenText, role: TokenRole) -> Build
     ensures { (ps : List machine.Part) →
-        build_view result ps ≡ machine.build_step (machine.minus_high_on lo ps) token.now (role_view role) }
+        build_view result ps ≡ machine.build_step (machine.minus_high_on lo ps) token.now role }
 {
     match role {
         TokenRole::Number => Build::Holds(Hand::Other(Grown::span(lo, token.digits().negated()))),
@@ -341,7 +340,7 @@ fn after_next(
     role: TokenRole,
 ) -> Result<Build, OutOfMemory>
     ensures { IfOk result (λ made. build_view made (parts_of parts.new.items)
-        ≡ machine.build_step (machine.next_on (parts_of parts.old.items)) token.now (role_view role)) }
+        ≡ machine.build_step (machine.next_on (parts_of parts.old.items)) token.now role) }
 {
     match role {
         TokenRole::Opens => wait(parts, Pending::Next),
@@ -358,9 +357,9 @@ fn after_branch(
     role: TokenRole,
 ) -> Result<Build, GrowFault>
     ensures ok { IfOk result (λ made. build_view made (parts_of parts.new.items)
-        ≡ machine.build_step (build_view (Build.BranchOn branches) (parts_of parts.old.items)) token.now (role_view role)) }
+        ≡ machine.build_step (build_view (Build.BranchOn branches) (parts_of parts.old.items)) token.now role) }
     ensures deep { result ≡ Err GrowFault.TooDeep →
-        TooHigh (machine.build_step (build_view (Build.BranchOn branches) (parts_of parts.old.items)) token.now (role_view role)) }
+        TooHigh (machine.build_step (build_view (Build.BranchOn branches) (parts_of parts.old.items)) token.now role) }
 {
     match role {
         TokenRole::Esac => Ok(Build::Holds(Hand::Other(Grown::case(branches)?))),
@@ -380,9 +379,9 @@ fn step(
     role: TokenRole,
 ) -> Result<Build, GrowFault>
     ensures ok { IfOk result (λ made. build_view made (parts_of parts.new.items)
-        ≡ machine.build_step (build_view build (parts_of parts.old.items)) token.now (role_view role)) }
+        ≡ machine.build_step (build_view build (parts_of parts.old.items)) token.now role) }
     ensures deep { result ≡ Err GrowFault.TooDeep →
-        TooHigh (machine.build_step (build_view build (parts_of parts.old.items)) token.now (role_view role)) }
+        TooHigh (machine.build_step (build_view build (parts_of parts.old.items)) token.now role) }
 {
     match build {
         Build::Ready => Ok(open_operand(alloc, parts, token, role)?),

@@ -2,11 +2,7 @@
 use Rattle.std.proofs.Common.{◌≡◌, inl, inr, ℕ, zero, [], ◌∷◌, Some, refl, sym, ◌∙◌, ap, subst}
 use Rattle.std.specs.Prelude.{slice_get, codes, Vec}
 use Rattle.std.specs.declared.alloc.Global.{Global}
-use Rattle.smv_language.specs.Tree.{leaf}
-use Rattle.smv_language.specs.ProgramTree.{Text, Path, ModuleTree, ProgramTree}
-use Rattle.smv_language.specs.Scope.{Place, find_module, kind_at, module_of_kind}
-use Rattle.smv_language.specs.Trace.{IsInstance, EachBoth}
-use Rattle.smv_language.specs.Flat.{FlatInstance}
+use Rattle.smv_language.specs.Language.{leaf, Text, Path, ModuleTree, ProgramTree, Place, find_module, kind_at, module_of_kind, IsInstance, EachBoth, FlatInstance}
 use Rattle.smv_flat_laws.specs.Items.{instances_of}
 use Rattle.smv_flat_laws.specs.Looks.{ActualsMean}
 use Rattle.smv_flat_laws.specs.Rules.{IsWalkable, IsAccepted}

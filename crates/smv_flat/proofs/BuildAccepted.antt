@@ -1,12 +1,10 @@
 -- What the rules give at each item of each instance of an accepted program.
 use Rattle.std.proofs.Common.{◌≡◌, ℕ, zero, suc, true, false, List, [], ◌∷◌, ◌++◌, Some, refl, ◌∙◌, ap, subst}
 use Rattle.std.specs.Prelude.{slice_get, map, flat_map}
-use Rattle.smv_language.specs.ProgramTree.{Text, Formula, DeclaredTree, boolean, range, members, instance, DeclTree, DefineTree, AssignmentTree, ModuleTree, ProgramTree}
+use Rattle.smv_language.specs.Language.{Text, Formula, DeclaredTree, boolean, range, members, instance, DeclTree, DefineTree, AssignmentTree, ModuleTree, ProgramTree, Place, Role, state, input, frozen_role, Kind, a_formal, a_variable, an_instance, undeclared, kind_declared, kind_in, kind_at, module_at, find_module, nth_formula, a_variable_at, Means, means_in, by_kind, Each, IsInstance, FlatInstance}
 use Rattle.smv_language.specs.declared.program.Moment.{Moment}
 use Rattle.smv_language.specs.declared.program.Moment.TheVariants.{Always, First, After}
-use Rattle.smv_language.specs.Scope.{Place, Role, state, input, frozen_role, Kind, a_formal, a_variable, a_define, an_instance, undeclared, kind_declared, kind_in, kind_at, module_at, find_module, nth_formula, a_variable_at, Means, means_in, by_kind}
-use Rattle.smv_language.specs.Trace.{Each, IsInstance}
-use Rattle.smv_language.specs.Flat.{FlatInstance}
+use Rattle.smv_language.specs.Scope.{a_define}
 use Rattle.smv_flat_laws.specs.NameResolution.{has_next}
 use Rattle.smv_flat_laws.specs.Items.{a_declaration, a_definition, an_assignment, NumberedItem, items_of, items_named, visits, instances_of}
 use Rattle.smv_flat_laws.specs.Rules.{a_use, visit_sites, use_sites, IsKept, IsWalkable, IsAccepted, names_of_item, is_name_again, not_a_target, SomeHasNoValue, may_be_assigned, is_target, expression_of, NeedsItself, some_has_next}

@@ -5,12 +5,8 @@ use Rattle.smv_language.specs.declared.expr.Op.{Op}
 use Rattle.smv_language.specs.declared.expr.Op.TheVariants as op
 use Rattle.smv_language.specs.declared.program.Moment.{Moment}
 use Rattle.smv_language.specs.declared.program.Moment.TheVariants.{Always, First, After}
-use Rattle.smv_language.specs.Tree.{Tree, truth, number, leaf, not_of, negate, next_of, binary, choice, case_of, set_of, span}
-use Rattle.smv_language.specs.ProgramTree.{Text, Path, Formula, DeclaredTree, boolean, range, members, instance, ProgramTree}
-use Rattle.smv_language.specs.Leaves.{tree_map}
-use Rattle.smv_language.specs.Scope.{Place, state, input, frozen_role, Meaning, a_variable_at, Means}
-use Rattle.smv_language.specs.Trace.{Each, EachBoth}
-use Rattle.smv_language.specs.Flat.{FlatLeaf, flat_variable, flat_symbol, flat_definition, FlatInstance, FlatFormula, FlatModel}
+use Rattle.smv_language.specs.Language.{Tree, leaf, not_of, negate, next_of, binary, choice, case_of, set_of, span, Text, Path, Formula, DeclaredTree, boolean, range, members, instance, ProgramTree, tree_map, Place, state, input, frozen_role, Meaning, a_variable_at, Means, Each, EachBoth, FlatLeaf, flat_variable, flat_symbol, flat_definition, FlatInstance, FlatFormula, FlatModel, role_of, flat_tree, formula_tree}
+use Rattle.smv_language.specs.Tree.{truth, number}
 use Rattle.smv_flat_laws.specs.NameResolution.{StandsFor, IsLeafOf, IsResolved}
 use Rattle.smv_flat_laws.specs.Items.{Item, a_declaration, a_definition, an_assignment, some_constants, an_init, an_invar, a_trans, NumberedItem, items_named, Visit, instances_of, variables_of}
 use Rattle.smv_flat_laws.specs.Rules.{IsAccepted, IsKept, a_use, no_such_name, SomeHasNoValue}
@@ -23,7 +19,6 @@ use Rattle.smv_scope.specs.declared.names.Scene.{Scene}
 use Rattle.smv_scope.specs.declared.needs.Needs.{Needs}
 use Rattle.smv_flat.specs.declared.clauses.AskedFormulas.{AskedFormulas}
 use Rattle.smv_flat.specs.declared.clauses.AskedFormulas.TheVariants as asked
-use Rattle.smv_language.specs.ModelTree.{role_of, flat_tree, formula_tree}
 use Rattle.smv_scope.specs.SceneTree.{Denotes, IsFound, program_of, IsScene, items_of_instance}
 use Rattle.smv_scope.specs.NeedsTree.{AreNeeds}
 use Rattle.smv_scope.specs.WalkFindings.{IsDeclaredBy}

@@ -2,12 +2,9 @@
 use Rattle.std.proofs.Common.{◌≡◌, ℕ, suc, ◌<◌, Bool, true, false, List, [], ◌∷◌, ◌++◌, length, Some, None, refl, sym, ◌∙◌, ap, subst, arith, inl, inr}
 use Rattle.std.specs.Prelude.{◌⊎◌, slice_get, map}
 use Rattle.std.proofs.lemmas.Bool.{lt-ltb}
-use Rattle.smv_language.specs.Tree.{Tree, Trees, Branches, truth, number, leaf, not_of, negate, next_of, binary, choice, case_of, set_of, span, no_tree, tree_then, no_branch, branch_then}
-use Rattle.smv_language.specs.ProgramTree.{Path, Formula, ProgramTree}
-use Rattle.smv_language.specs.ExpressionTree.{tree_of}
-use Rattle.smv_language.specs.Scope.{Place, Key, Meaning, a_variable_at, an_expression_at, an_instance_at, a_symbol, Means}
-use Rattle.smv_language.specs.Trace.{Each, AtSome, EachBoth}
-use Rattle.smv_language.specs.Flat.{FlatInstance}
+use Rattle.smv_language.specs.Language.{Tree, Trees, Branches, leaf, not_of, negate, next_of, binary, choice, case_of, set_of, span, no_tree, tree_then, no_branch, branch_then, Path, Formula, ProgramTree, tree_of, Place, Key, Meaning, a_variable_at, an_expression_at, an_instance_at, Means, Each, AtSome, EachBoth, FlatInstance}
+use Rattle.smv_language.specs.Tree.{truth, number}
+use Rattle.smv_language.specs.Scope.{a_symbol}
 use Rattle.smv_flat_laws.specs.NameResolution.{leaves_in, trees_leaves, branches_leaves}
 use Rattle.smv_flat_laws.specs.Items.{instances_of, variables_of}
 use Rattle.smv_flat_laws.specs.Rules.{IsAccepted, HasNoValue, nothing, only_an_instance, SomeHasNoValue, Needs as NeedsOf, NeedsItself, expression_of}

@@ -1,13 +1,12 @@
 -- What is asked of a list is what is asked of its first item and of the rest.
 use Rattle.std.proofs.Common.{◌≡◌, ℕ, zero, suc, ◌+◌, ◌<◌, ◌≤◌, List, [], ◌∷◌, ◌++◌, length, drop, Option, Some, None, refl, sym, ◌∙◌, ap, arith, append_assoc, append-nil, slice_index_or}
 use Rattle.std.specs.Prelude.{slice_get}
-use Rattle.smv_language.specs.Flat.{FlatInstance}
+use Rattle.smv_language.specs.Language.{FlatInstance, place_of}
 use Rattle.smv_flat_laws.specs.Items.{Item, NumberedItem, instances_of}
 use Rattle.smv_flat_laws.specs.Model.{Condition}
 use Rattle.smv_scope.specs.declared.names.Scene.{Scene}
 use Rattle.smv_scope.specs.declared.walk.Spot.{Spot}
 use Rattle.smv_scope.specs.declared.modules.ModuleNames.{ModuleNames}
-use Rattle.smv_language.specs.ModelTree.{place_of}
 use Rattle.smv_scope.specs.declared.needs.Needs.{Needs}
 use Rattle.smv_scope.specs.SceneTree.{program_of, IsScene, IsSpot, items_of_instance, items_at}
 use Rattle.smv_flat.specs.ResolverOf.{leaf_at}

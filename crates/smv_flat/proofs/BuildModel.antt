@@ -3,13 +3,8 @@ use Rattle.std.proofs.Common.{◌≡◌, ℕ, zero, suc, ◌+◌, ◌<◌, true,
 use Rattle.std.specs.Prelude.{slice_get, map, flat_map}
 use Rattle.std.proofs.lemmas.Bool.{ltb-true}
 use Rattle.std.proofs.lemmas.List.{length-map}
-use Rattle.smv_language.specs.Tree.{Tree, Trees, Branches, truth, number, leaf, not_of, negate, next_of, binary, choice, case_of, set_of, span, no_tree, tree_then, no_branch, branch_then}
-use Rattle.smv_language.specs.ProgramTree.{Text, Formula, ModuleTree}
-use Rattle.smv_language.specs.Leaves.{tree_map, trees_map, branches_map}
-use Rattle.smv_language.specs.ExpressionTree.{tree_of}
-use Rattle.smv_language.specs.Scope.{Place, Key}
-use Rattle.smv_language.specs.Trace.{Each, EachBoth}
-use Rattle.smv_language.specs.Flat.{FlatInstance, FlatVariable, FlatFormula, FlatModel}
+use Rattle.smv_language.specs.Language.{Tree, Trees, Branches, leaf, not_of, negate, next_of, binary, choice, case_of, set_of, span, no_tree, tree_then, no_branch, branch_then, Text, Formula, ModuleTree, tree_map, trees_map, branches_map, tree_of, Place, Key, Each, EachBoth, FlatInstance, FlatVariable, FlatFormula, FlatModel, leaf_of, flat_tree, place_of, instance_tree, variable_tree, formula_tree, model_tree, texts}
+use Rattle.smv_language.specs.Tree.{truth, number}
 use Rattle.smv_flat_laws.specs.NameResolution.{leaves_in, trees_leaves, branches_leaves, has_next, Definition, IsBefore, IsResolved, AreDefinitions}
 use Rattle.smv_flat_laws.specs.Items.{modules_of, Visit, instances_of, variables_of}
 use Rattle.smv_flat_laws.specs.Rules.{IsAccepted, expression_of}
@@ -30,8 +25,6 @@ use Rattle.smv_scope.specs.declared.needs.Needs.{Needs}
 use Rattle.smv_flat.specs.declared.clauses.AskedFormulas.{AskedFormulas}
 use Rattle.smv_flat.specs.declared.clauses.AskedFormulas.TheVariants as asked
 use Rattle.smv_scope.specs.ClosedModels.{is_within, tree_all, trees_all, branches_all, is_closed, are_earlier}
-use Rattle.smv_language.specs.ModelTree.{leaf_of, flat_tree, place_of, instance_tree, variable_tree, formula_tree, model_tree}
-use Rattle.smv_language.specs.BorrowedTexts.{texts}
 use Rattle.smv_scope.specs.SceneTree.{HasNames, IsPlaced, IsSpot, IsDefined, program_of, IsScene}
 use Rattle.smv_scope.specs.NeedsTree.{keys_of, IsKeyAt, AreNeeds}
 use Rattle.smv_scope.specs.WalkFindings.{IsDeclaredBy, AreDeclared}

@@ -1,8 +1,7 @@
 -- No two instances have one place, so that a place has one number.
 use Rattle.std.proofs.Common.{◌≡◌, List, [], ◌∷◌}
 use Rattle.std.specs.Prelude.{flat_map, codes}
-use Rattle.smv_language.specs.ProgramTree.{DeclaredTree, boolean, range, members, instance, ProgramTree}
-use Rattle.smv_language.specs.Trace.{Each}
+use Rattle.smv_language.specs.Language.{DeclaredTree, boolean, range, members, instance, ProgramTree, Each}
 use Rattle.smv_flat_laws.specs.Items.{Visit, visits, instance_declared, instances_of_visit, instances_of}
 use Rattle.smv_flat_laws.specs.Rules.{IsWalkable}
 use Rattle.smv_flat_laws.proofs.Conditions.{each_join}

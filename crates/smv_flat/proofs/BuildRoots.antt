@@ -1,11 +1,8 @@
 -- In an accepted program no definition needs itself, each has its value, and no formal comes back.
 use Rattle.std.proofs.Common.{◌≡◌, ℕ, zero, suc, ◌+◌, Bool, true, false, List, [], ◌∷◌, ◌++◌, Option, Some, None, refl, sym, ◌∙◌, ap, subst, arith, eqb-true}
 use Rattle.std.specs.Prelude.{slice_get, flat_map, length, nat_eq}
-use Rattle.smv_language.specs.ProgramTree.{Text, Path, Formula, DeclaredTree, boolean, range, members, instance, DeclTree, ModuleTree, ProgramTree}
-use Rattle.smv_language.specs.Values.{opposite}
-use Rattle.smv_language.specs.Scope.{Place, Role, Kind, a_formal, a_variable, a_define, an_instance, undeclared, kind_declared, kind_in, kind_in_sections, formal_from, kind_after_formals, kind_at, module_of_kind, module_at, find_module, actual_of_kind, plain_name}
-use Rattle.smv_language.specs.Trace.{Each, IsInstance}
-use Rattle.smv_language.specs.Flat.{FlatInstance}
+use Rattle.smv_language.specs.Language.{Text, Path, Formula, DeclaredTree, boolean, range, members, instance, DeclTree, ModuleTree, ProgramTree, opposite, Place, Role, Kind, a_formal, a_variable, an_instance, undeclared, kind_declared, kind_in, kind_in_sections, formal_from, kind_after_formals, kind_at, module_of_kind, module_at, find_module, actual_of_kind, plain_name, Each, IsInstance, FlatInstance}
+use Rattle.smv_language.specs.Scope.{a_define}
 use Rattle.smv_flat_laws.specs.NameResolution.{has_next}
 use Rattle.smv_flat_laws.specs.Items.{Item, a_declaration, a_definition, an_assignment, some_constants, an_init, an_invar, a_trans, NumberedItem, items_of, items_named, Visit, visits_of, walk, visits, instances_of}
 use Rattle.smv_flat_laws.specs.Looks.{at_actual, plain_of, step_kind, step_of, look_after, ComesBack}

@@ -2,9 +2,8 @@
 use Rattle.std.proofs.Common.{◌≡◌, ℕ, zero, suc, ◌+◌, Bool, true, false, List, [], ◌∷◌, Option, Some, None, refl, sym, ◌∙◌, ap, subst, arith}
 use Rattle.std.specs.Prelude.{slice_get, map, if◌then◌else◌}
 use Rattle.smv_language.specs.Tree.{truth}
-use Rattle.smv_language.specs.ProgramTree.{Path, Formula, ProgramTree}
-use Rattle.smv_language.specs.Scope.{Place, Key, Meaning, a_variable_at, an_expression_at, an_instance_at, a_symbol}
-use Rattle.smv_language.specs.Flat.{FlatLeaf, flat_variable, flat_symbol, flat_definition, FlatInstance, FlatVariable, FlatModel}
+use Rattle.smv_language.specs.Language.{Path, Formula, ProgramTree, Place, Key, Meaning, a_variable_at, an_expression_at, an_instance_at, FlatLeaf, flat_variable, flat_symbol, flat_definition, FlatInstance, FlatVariable, FlatModel, EachBoth}
+use Rattle.smv_language.specs.Scope.{a_symbol}
 use Rattle.smv_flat_laws.specs.NameResolution.{Definition, StandsFor, IsLeafOf, IsSound}
 use Rattle.smv_flat_laws.specs.Items.{instances_of, variables_of}
 use Rattle.smv_flat_laws.specs.Rules.{IsAccepted, expression_of}
@@ -27,7 +26,6 @@ use Rattle.smv_flat_laws.proofs.Conditions.{each_at}
 use Rattle.smv_flat_laws.proofs.Numbered.{same_place_refl, same_place_equal}
 use Rattle.smv_language.proofs.ListLaws.{get_map}
 use Rattle.smv_flat_laws.proofs.KeysApart.{OtherPlace}
-use Rattle.smv_language.specs.Trace.{EachBoth}
 use Rattle.smv_scope.proofs.RootLaws.{PlacesApart}
 
 -- The number of a place.

@@ -1,7 +1,6 @@
 -- A program's definitions have one order.
 use Rattle.std.proofs.Common.{◌≡◌, List, [], ◌∷◌, ◌++◌, Option, Some, None, refl, sym, ◌∙◌, ap, subst}
-use Rattle.smv_language.specs.ProgramTree.{Formula, ProgramTree}
-use Rattle.smv_language.specs.Scope.{Place, Key}
+use Rattle.smv_language.specs.Language.{Formula, ProgramTree, Place, Key}
 use Rattle.smv_flat_laws.specs.NameResolution.{leaves_in}
 use Rattle.smv_flat_laws.specs.Rules.{expression_of}
 use Rattle.smv_flat_laws.specs.Model.{AreNamed, is_key_among, Adds, AddsAll, stands, comes, no_more, one_more}

@@ -3,9 +3,7 @@ use Rattle.std.proofs.Common.{◌≡◌, ℕ, suc, Bool, true, false, [], ◌∷
 use Rattle.std.specs.Prelude.{codes, IfSome, IfOk, IfErr, IsTrue, ◌<◌}
 use Rattle.std.specs.declared.result.Result.{Result}
 use Rattle.std.specs.declared.result.Result.TheVariants.{Ok, Err}
-use Rattle.smv_language.specs.ProgramTree.{Text, ModuleTree, ProgramTree}
-use Rattle.smv_language.specs.Texts.{same_text}
-use Rattle.smv_language.specs.Scope.{find_module}
+use Rattle.smv_language.specs.Language.{Text, ModuleTree, ProgramTree, same_text, find_module, is_missing}
 use Rattle.smv_flat_laws.specs.Rules as rules
 use Rattle.smv_flat_laws.specs.Rules.{IsFirstBroken, IsAccepted, use_sites}
 use Rattle.smv_flat_laws.specs.Items.{visits}
@@ -53,7 +51,7 @@ no_main_fault p e = record {
   after = rules.module_sites p ++ (rules.visit_sites [] (visits p) ++ rules.use_sites p);
   in_order = refl;
   kept_before = tt;
-  broken = subst (λ o. IsTrue (rules.is_missing o)) (sym e) refl;
+  broken = subst (λ o. IsTrue (is_missing o)) (sym e) refl;
   lowest = λ other less. absurd (none_lower other less);
   at_item = refl;
 }
@@ -77,7 +75,7 @@ no_main_fault p e = record {
 pub told_no_main : (p : ProgramTree) (item : ℕ) → IsFirstBroken p rules.no_main item → find_module p (codes "main") ≡ None
 told_no_main p item b = by_site b.site b.broken
   where
-    missing : (o : Option ModuleTree) → IsTrue (rules.is_missing o) → o ≡ None
+    missing : (o : Option ModuleTree) → IsTrue (is_missing o) → o ≡ None
     missing None h = refl
     missing (Some m) h = cc
 

@@ -2,9 +2,7 @@
 use Rattle.std.proofs.Common.{◌≡◌, ℕ, zero, suc, ◌+◌, arith, true, false, List, [], ◌∷◌, Option, Some, None, refl, sym, ◌∙◌, ap, subst}
 use Rattle.std.specs.Prelude.{◌↔◌, slice_get}
 use Rattle.std.proofs.lemmas.List.{append-nil}
-use Rattle.smv_language.specs.Tree.{leaf}
-use Rattle.smv_language.specs.ProgramTree.{Text, Path, Formula, ModuleTree, ProgramTree}
-use Rattle.smv_language.specs.Scope.{Place, a_formal, an_instance, Key, actual_key, Meaning, an_expression_at, Means, means_in, find_module, kind_after_formals, kind_in_sections, kind_at, module_of_kind, module_at, actual_of_kind, plain_name, through_actual, through_plain, by_kind}
+use Rattle.smv_language.specs.Language.{leaf, Text, Path, Formula, ModuleTree, ProgramTree, Place, a_formal, an_instance, Key, actual_key, Meaning, an_expression_at, Means, means_in, find_module, kind_after_formals, kind_in_sections, kind_at, module_of_kind, module_at, actual_of_kind, plain_name, through_actual, through_plain, by_kind}
 use Rattle.smv_flat_laws.specs.Looks.{Look, at_actual, plain_of, step_kind, step_of, look_after, ComesBack, MeetsLoop, MeansNothing}
 use Rattle.smv_flat_laws.specs.NameResolution.{has_next}
 use Rattle.smv_flat_laws.specs.Rules.{has_twice, ActualHasNoMeaning, ActualLoops}

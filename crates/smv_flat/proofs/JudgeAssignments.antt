@@ -3,11 +3,7 @@ use Rattle.std.proofs.Common.{◌≡◌, ℕ, Bool, true, false, List, [], ◌�
 use Rattle.std.specs.Prelude.{◌↔◌, IsTrue, slice_get}
 use Rattle.smv_language.specs.declared.program.Moment.{Moment}
 use Rattle.smv_language.specs.declared.program.Moment.TheVariants.{Always, First, After}
-use Rattle.smv_language.specs.Texts.{same_text}
-use Rattle.smv_language.specs.ProgramTree.{Text, Path, Formula, AssignmentTree, ProgramTree}
-use Rattle.smv_language.specs.Scope.{Place}
-use Rattle.smv_language.specs.Trace.{AtSome}
-use Rattle.smv_language.specs.Flat.{FlatInstance}
+use Rattle.smv_language.specs.Language.{same_text, Text, Path, Formula, AssignmentTree, ProgramTree, Place, AtSome, FlatInstance}
 use Rattle.smv_flat_laws.specs.Items.{an_assignment, NumberedItem, instances_of}
 use Rattle.smv_flat_laws.specs.Rules.{is_target, is_later, has_bad_next, inputs_judged, GivesInput, BreaksNames, BreaksOnce, a_use}
 use Rattle.smv_flat.specs.Assignments.{IsTargetTold, with_moment, is_met, times_of, assignment_rule, IsItemTold}

@@ -3,10 +3,7 @@ use Rattle.std.proofs.Common.{◌≡◌, ℕ, zero, suc, ◌+◌, ◌<◌, ◌�
 use Rattle.std.specs.Prelude.{◌↔◌, ◌⊎◌, slice_get}
 use Rattle.std.proofs.lemmas.List.{map-append}
 use Rattle.smv_language.specs.declared.expr.Expr.{Expr}
-use Rattle.smv_language.specs.ExpressionTree.{tree_of}
-use Rattle.smv_language.specs.ProgramTree.{Text, Path, Formula, instance, ModuleTree, ProgramTree}
-use Rattle.smv_language.specs.Scope.{Place, Role, find_module, plain_name}
-use Rattle.smv_language.specs.Flat.{FlatInstance}
+use Rattle.smv_language.specs.Language.{tree_of, Text, Path, Formula, instance, ModuleTree, ProgramTree, Place, Role, find_module, plain_name, FlatInstance}
 use Rattle.smv_flat_laws.specs.Items.{a_declaration, NumberedItem}
 use Rattle.smv_flat_laws.specs.NameResolution.{has_next}
 use Rattle.smv_flat_laws.specs.Rules.{ActualHasNoMeaning, SomeActualLoops, LoopsInside, some_has_next, a_use}

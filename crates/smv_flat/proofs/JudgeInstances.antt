@@ -2,9 +2,7 @@
 use Rattle.std.proofs.Common.{◌≡◌, ℕ, zero, suc, ◌+◌, ◌<◌, ◌≤◌, List, [], ◌∷◌, ◌++◌, length, take, Option, Some, None, map, refl, sym, ◌∙◌, ap, subst, Bor}
 use Rattle.std.specs.Prelude.{slice_get, flat_map, option_map, IfSome}
 use Rattle.std.proofs.lemmas.List.{take_all}
-use Rattle.smv_language.specs.ProgramTree.{ProgramTree}
-use Rattle.smv_language.specs.Trace.{Each}
-use Rattle.smv_language.specs.Flat.{FlatInstance}
+use Rattle.smv_language.specs.Language.{ProgramTree, Each, FlatInstance}
 use Rattle.smv_flat_laws.specs.Items.{Item, NumberedItem, NumberedModule, numbered_from, items_of, items_named, visits, instances_of}
 use Rattle.smv_flat_laws.specs.Rules as rules
 use Rattle.smv_flat_laws.specs.Rules.{Site, the_program, a_use, use_sites, module_sites, visit_sites, IsKept, IsWalkable, IsFirstBroken}

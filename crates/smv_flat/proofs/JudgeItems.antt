@@ -1,9 +1,7 @@
 -- The first of the rules that an item breaks at an instance, by what is judged of its value.
 use Rattle.std.proofs.Common.{◌≡◌, ℕ, suc, ◌<◌, arith, Bool, true, false, List, [], ◌∷◌, Option, Some, None, refl, sym, ◌∙◌, subst}
 use Rattle.std.specs.Prelude.{◌↔◌, IsTrue, slice_get}
-use Rattle.smv_language.specs.ProgramTree.{Text, Formula, DeclaredTree, boolean, range, members, instance, DefineTree, ProgramTree}
-use Rattle.smv_language.specs.Scope.{Role, define_key}
-use Rattle.smv_language.specs.Flat.{FlatInstance}
+use Rattle.smv_language.specs.Language.{Text, Formula, DeclaredTree, boolean, range, members, instance, DefineTree, ProgramTree, Role, define_key, FlatInstance}
 use Rattle.smv_flat_laws.specs.Items.{Item, a_declaration, a_definition, some_constants, an_init, an_invar, a_trans, NumberedItem, instances_of}
 use Rattle.smv_flat_laws.specs.NameResolution.{has_next}
 use Rattle.smv_flat_laws.specs.Rules.{Rule, number_of, no_main, main_has_parameters, double_module, double_name, no_such_module, wrong_count, module_loop, no_such_name, not_a_target, double_assign, define_loop, next_here, input_here, too_many, a_use, BreaksNames, BreaksTarget, BreaksOnce, BreaksLoops, BreaksInputs, breaks_next, BreaksAtUse, IsKept, NeedsItself, next_under_next}

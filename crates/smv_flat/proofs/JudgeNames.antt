@@ -1,9 +1,8 @@
 -- What is found for a name tells whether it has no value, and whether it gives an input.
 use Rattle.std.proofs.Common.{◌≡◌, ℕ, Bool, true, List, Some, refl, sym, ◌∙◌, ap, subst, inl, inr}
 use Rattle.std.specs.Prelude.{◌↔◌, IsTrue, slice_get, codes}
-use Rattle.smv_language.specs.ProgramTree.{Text, Path, Formula, DeclaredTree, instance, ModuleTree, ProgramTree}
-use Rattle.smv_language.specs.Scope.{Place, a_variable, kind_at, module_at, Key, Meaning, a_variable_at, an_expression_at, an_instance_at, a_symbol, Means, find_module}
-use Rattle.smv_language.specs.Trace.{EachBoth}
+use Rattle.smv_language.specs.Language.{Text, Path, Formula, DeclaredTree, instance, ModuleTree, ProgramTree, Place, a_variable, kind_at, module_at, Key, Meaning, a_variable_at, an_expression_at, an_instance_at, Means, find_module, EachBoth, role_of}
+use Rattle.smv_language.specs.Scope.{a_symbol}
 use Rattle.smv_flat_laws.specs.Items.{Visit, visits, variables_of}
 use Rattle.smv_flat_laws.specs.Looks.{MeansNothing, MeetsLoop}
 use Rattle.smv_flat_laws.specs.Rules.{HasNoValue, nothing, only_an_instance, ReadsInput, GivesInput, is_input_kind, IsWalkable}
@@ -12,7 +11,6 @@ use Rattle.smv_flat_laws.proofs.Conditions.{each_at}
 use Rattle.smv_flat_laws.proofs.Places.{has_main}
 use Rattle.smv_flat_laws.proofs.Variables.{both_at, RealVariable, real_variables}
 use Rattle.smv_flat_laws.proofs.Walkable.{main_is_there}
-use Rattle.smv_language.specs.ModelTree.{role_of}
 use Rattle.smv_scope.specs.SceneTree.{Denotes, IsFound}
 use Rattle.smv_scope.specs.NeedsTree.{AreNeeds, KeyReadsInput, HasInput, HasCircle, keys_of}
 use Rattle.smv_flat.specs.Verdicts.{is_without_value, is_input_found, is_circle_found}

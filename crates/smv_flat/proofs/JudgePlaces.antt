@@ -2,11 +2,7 @@
 use Rattle.std.proofs.Common.{◌≡◌, ℕ, Bool, true, false, List, [], ◌∷◌, ◌++◌, length, Some, refl, sym, ◌∙◌, ap, subst, eqb-true}
 use Rattle.std.specs.Prelude.{slice_get, codes, nat_eq, flat_map, Vec}
 use Rattle.std.specs.declared.alloc.Global.{Global}
-use Rattle.smv_language.specs.ProgramTree.{Text, Formula, instance, DeclTree, ModuleTree, ProgramTree}
-use Rattle.smv_language.specs.Scope.{Place, Role, Kind, an_instance, kind_declared, kind_at, module_at, find_module}
-use Rattle.smv_language.specs.Trace.{IsInstance, EachBoth}
-use Rattle.smv_language.specs.Values.{opposite}
-use Rattle.smv_language.specs.Flat.{FlatInstance}
+use Rattle.smv_language.specs.Language.{Text, Formula, instance, DeclTree, ModuleTree, ProgramTree, Place, Role, Kind, an_instance, kind_declared, kind_at, module_at, find_module, IsInstance, EachBoth, opposite, FlatInstance}
 use Rattle.smv_flat_laws.specs.Items.{a_declaration, NumberedItem, items_of, items_named, Visit, visits_of, walk, visits, instances_of}
 use Rattle.smv_flat_laws.specs.Rules.{is_other_count, is_miscounted, names_of_item, is_name_again, IsWalkable}
 use Rattle.smv_flat_laws.proofs.Conditions.{each_at}

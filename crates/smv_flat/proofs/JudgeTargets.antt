@@ -3,10 +3,8 @@ use Rattle.std.proofs.Common.{◌≡◌, ℕ, suc, ◌+◌, arith, Bool, true, f
 use Rattle.std.specs.Prelude.{slice_get}
 use Rattle.smv_language.specs.declared.program.Moment.{Moment}
 use Rattle.smv_language.specs.declared.program.Moment.TheVariants.{Always, First, After}
-use Rattle.smv_language.specs.Texts.{same_text, first_with}
-use Rattle.smv_language.specs.ProgramTree.{Text, DeclaredTree, boolean, range, members, instance, ModuleTree, ProgramTree}
-use Rattle.smv_language.specs.Scope.{Place, a_formal, a_variable, a_define, an_instance, undeclared, Key, define_key, a_variable_at, an_expression_at, an_instance_at, kind_declared, formal_from, kind_after_formals, kind_in, kind_in_sections, kind_at, module_at}
-use Rattle.smv_language.specs.Flat.{FlatInstance}
+use Rattle.smv_language.specs.Language.{same_text, first_with, Text, DeclaredTree, boolean, range, members, instance, ModuleTree, ProgramTree, Place, a_formal, a_variable, an_instance, undeclared, Key, define_key, a_variable_at, an_expression_at, an_instance_at, kind_declared, formal_from, kind_after_formals, kind_in, kind_in_sections, kind_at, module_at, FlatInstance, role_of}
+use Rattle.smv_language.specs.Scope.{a_define}
 use Rattle.smv_flat_laws.specs.Items.{Item, a_declaration, a_definition, an_assignment, some_constants, an_init, an_invar, a_trans, NumberedItem, items_of, items_named, modules_of, instances_of}
 use Rattle.smv_flat_laws.specs.Rules.{may_be_assigned, is_target, IsWalkable}
 use Rattle.smv_flat_laws.proofs.KindLaws.{kind_of_item, kind_in_items, sections_kind, not_assigned_none}
@@ -14,7 +12,6 @@ use Rattle.smv_flat_laws.proofs.Places.{found_at}
 use Rattle.smv_flat_laws.proofs.Variables.{both_at}
 use Rattle.smv_flat.specs.Assignments.{meant_by, local_meant, may_assign}
 use Rattle.smv_scope.specs.TableLookUps.{names_of_spot, local_in, local_at, own_at}
-use Rattle.smv_language.specs.ModelTree.{role_of}
 use Rattle.smv_scope.specs.SceneTree.{gives_name, formal_entries, item_entries, local_entries, HasNames, Denotes, meaning_of_declared, meaning_of_item, IsOwnMeaning, IsScene, program_of}
 use Rattle.smv_language.specs.declared.model.Role.TheVariants.{State, Input, Frozen}
 use Rattle.smv_scope.specs.declared.modules.Local.{Local}

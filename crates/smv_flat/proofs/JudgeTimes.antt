@@ -6,9 +6,7 @@ use Rattle.std.specs.Map.{lookup}
 use Rattle.indexmap.specs.IndexMap.{insert_entry}
 use Rattle.smv_language.specs.declared.program.Moment.{Moment}
 use Rattle.smv_language.specs.declared.program.Moment.TheVariants.{Always, First, After}
-use Rattle.smv_language.specs.ProgramTree.{Text, Path, AssignmentTree}
-use Rattle.smv_language.specs.Texts.{same_text}
-use Rattle.smv_language.specs.Trace.{AtSome}
+use Rattle.smv_language.specs.Language.{Text, Path, AssignmentTree, same_text, AtSome, same_borrowed}
 use Rattle.smv_language.proofs.ValueLaws.{same_text_refl}
 use Rattle.smv_flat_laws.specs.Items.{Item, a_declaration, a_definition, an_assignment, some_constants, an_init, an_invar, a_trans}
 use Rattle.smv_flat_laws.specs.Rules.{at_one_time, Assigns, is_later}
@@ -19,7 +17,6 @@ use Rattle.smv_lexer.proofs.SignLemmas.{both_true}
 use Rattle.smv_language.proofs.OneTree.{same_text_equal}
 use Rattle.smv_flat_laws.proofs.Apart.{or_true}
 use Rattle.smv_language.proofs.BoolLaws.{or_false, or_assoc}
-use Rattle.smv_language.specs.BorrowedTexts.{same_borrowed}
 
 abbrev pub times_or : Option Times → Times
 times_or None = no_times

@@ -6,17 +6,13 @@ use Rattle.smv_language.specs.declared.expr.Expr.{Expr}
 use Rattle.smv_language.specs.declared.program.Assignment.{Assignment}
 use Rattle.smv_language.specs.declared.program.Decl.{Decl}
 use Rattle.smv_language.specs.declared.program.Define.{Define}
-use Rattle.smv_language.specs.ExpressionTree.{tree_of}
-use Rattle.smv_language.specs.ProgramTree.{Text, Path, Formula, DeclaredTree, boolean, range, members, instance, DeclTree, DefineTree, ModuleTree, ProgramTree, decl_tree, define_tree, assignment_tree}
-use Rattle.smv_language.specs.Scope.{Place, Role, define_key, an_expression_at, an_instance_at, find_module}
-use Rattle.smv_language.specs.Flat.{FlatInstance}
+use Rattle.smv_language.specs.Language.{tree_of, Text, Path, Formula, DeclaredTree, boolean, range, members, instance, DeclTree, DefineTree, ModuleTree, ProgramTree, decl_tree, define_tree, assignment_tree, Place, Role, define_key, an_expression_at, an_instance_at, find_module, FlatInstance, role_of}
 use Rattle.smv_flat_laws.specs.Items.{Item, a_declaration, a_definition, an_assignment, some_constants, an_init, an_invar, a_trans, NumberedItem, items_named, instances_of}
 use Rattle.smv_flat_laws.specs.Rules.{a_use}
 use Rattle.smv_flat.specs.Assignments.{IsItemTold}
 use Rattle.smv_scope.specs.Faults.{first_of}
 use Rattle.smv_scope.specs.TableLookUps.{own_at}
 use Rattle.smv_scope.specs.ItemTree.{item_tree}
-use Rattle.smv_language.specs.ModelTree.{role_of}
 use Rattle.smv_scope.specs.NeedsTree.{AreNeeds, HasCircle}
 use Rattle.smv_scope.specs.SceneTree.{Denotes, meaning_of_item, IsOwnMeaning, IsScene, program_of}
 use Rattle.smv_flat.specs.Verdicts.{is_circle_found, IsTold, IsToldOf, IsToldHere, AreActuals, instance_in, IsHanded, JudgesActuals}

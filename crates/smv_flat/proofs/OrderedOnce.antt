@@ -1,8 +1,7 @@
 -- An order of definitions has none twice.
 use Rattle.std.proofs.Common.{◌≡◌, ℕ, zero, suc, List, [], ◌∷◌, Some, refl, sym, ◌∙◌, ap, subst}
 use Rattle.std.specs.Prelude.{slice_get, map}
-use Rattle.smv_language.specs.ProgramTree.{ProgramTree}
-use Rattle.smv_language.specs.Scope.{Key}
+use Rattle.smv_language.specs.Language.{ProgramTree, Key}
 use Rattle.smv_flat_laws.specs.NameResolution.{Definition}
 use Rattle.smv_flat_laws.specs.Rules.{IsWalkable}
 use Rattle.smv_flat_laws.specs.Model.{KeysDiffer, Root, roots_of}

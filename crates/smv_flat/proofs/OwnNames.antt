@@ -2,18 +2,14 @@
 use Rattle.std.proofs.Common.{◌≡◌, ℕ, suc, true, ◌&&◌, List, [], ◌∷◌, ◌++◌, length, map, subst, sym}
 use Rattle.std.proofs.lemmas.Bool.{ltb-true}
 use Rattle.std.proofs.lemmas.List.{length-map}
-use Rattle.smv_language.specs.Tree.{Tree, Trees, Branches, truth, number, leaf, not_of, negate, next_of, binary, choice, case_of, set_of, span, no_tree, tree_then, no_branch, branch_then}
-use Rattle.smv_language.specs.Leaves.{tree_map, trees_map, branches_map}
-use Rattle.smv_language.specs.ExpressionTree.{tree_of}
-use Rattle.smv_language.specs.Trace.{Each}
+use Rattle.smv_language.specs.Language.{Tree, Trees, Branches, leaf, not_of, negate, next_of, binary, choice, case_of, set_of, span, no_tree, tree_then, no_branch, branch_then, tree_map, trees_map, branches_map, tree_of, Each, leaf_of, variable_tree, formula_tree, model_tree, FlatFormula}
+use Rattle.smv_language.specs.Tree.{truth, number}
 use Rattle.smv_language.specs.declared.model.Flat.{Flat}
 use Rattle.smv_language.specs.declared.model.Flat.TheVariants.{Var, Symbol, Definition}
 use Rattle.smv_language.specs.declared.model.Formula.{Formula}
 use Rattle.smv_language.specs.declared.model.FlatModel.{FlatModel}
 use Rattle.smv_scope.specs.declared.bounds.Bounds.{Bounds}
 use Rattle.smv_scope.specs.ClosedModels.{is_within, tree_all, trees_all, branches_all, are_closed, are_earlier, IsClosedModel, bounds_of}
-use Rattle.smv_language.specs.ModelTree.{leaf_of, variable_tree, formula_tree, model_tree}
-use Rattle.smv_language.specs.Flat.{FlatFormula}
 use Rattle.smv_flat_laws.specs.NameResolution.{leaves_in, trees_leaves, branches_leaves}
 use Rattle.smv_flat_laws.specs.FlatTrace.{IsOwnName, IsOwnFormula, NamesOwn}
 use Rattle.smv_flat_laws.proofs.Conditions.{each_join}

@@ -2,11 +2,7 @@
 use Rattle.std.proofs.Common.{◌≡◌, ℕ, Bool, true, false, not, ◌&&◌, List, [], ◌∷◌, length, Some, None, refl, sym, ◌∙◌, ap, subst}
 use Rattle.std.specs.Prelude.{slice_get, map, IfSome}
 use Rattle.std.proofs.lemmas.List.{length-map}
-use Rattle.smv_language.specs.Tree.{Tree}
-use Rattle.smv_language.specs.ProgramTree.{Text, Formula, ProgramTree}
-use Rattle.smv_language.specs.Leaves.{tree_map}
-use Rattle.smv_language.specs.Scope.{Place}
-use Rattle.smv_language.specs.Flat.{FlatLeaf, FlatInstance, FlatVariable, FlatFormula, FlatModel}
+use Rattle.smv_language.specs.Language.{Tree, Text, Formula, ProgramTree, tree_map, Place, FlatLeaf, FlatInstance, FlatVariable, FlatFormula, FlatModel, variable_tree, formula_tree, model_tree, EachBoth}
 use Rattle.smv_flat_laws.specs.NameResolution.{Definition, IsSound}
 use Rattle.smv_flat_laws.specs.Items.{Visit, instances_of, variables_of}
 use Rattle.smv_flat_laws.specs.Rules.{no_main, main_has_parameters, double_module, double_name, no_such_module, wrong_count, module_loop, no_such_name, not_a_target, double_assign, define_loop, next_here, input_here, too_many, SomeHasNoValue, IsAccepted, expression_of}
@@ -19,7 +15,6 @@ use Rattle.smv_scope.specs.declared.names.Scene.{Scene}
 use Rattle.smv_scope.specs.declared.needs.Needs.{Needs}
 use Rattle.smv_scope.specs.Faults.{first_of, rule_of, IsWant}
 use Rattle.smv_scope.specs.ClosedModels.{bounds_of}
-use Rattle.smv_language.specs.ModelTree.{variable_tree, formula_tree, model_tree}
 use Rattle.smv_scope.specs.SceneTree.{program_of, IsScene}
 use Rattle.smv_scope.specs.NeedsTree.{IsKeyAt, AreNeeds}
 use Rattle.smv_scope.specs.WalkFindings.{IsDeclaredBy}
@@ -34,7 +29,6 @@ use Rattle.smv_flat.proofs.BuildSound.{definition_of, written_with, definitions,
 use Rattle.smv_flat.proofs.BuildUnique.{all_one}
 use Rattle.smv_flat.proofs.OnlyModel.{second_not}
 use Rattle.smv_flat_laws.proofs.BothLaws.{both_size}
-use Rattle.smv_language.specs.Trace.{EachBoth}
 use Rattle.smv_flat.proofs.BuildModel.{bounds_made}
 
 -- a definition is what its key stands for

@@ -4,15 +4,10 @@ use Rattle.std.specs.List.{All}
 use Rattle.std.proofs.lemmas.List.Elements.{All-nil, All-cons}
 use Rattle.smv_language.specs.declared.expr.Expr.{Expr}
 use Rattle.smv_language.specs.declared.expr.Expr.TheVariants.{Case, SetOf}
-use Rattle.smv_language.specs.ProgramTree.{Path}
-use Rattle.smv_language.specs.Tree.{case_of, set_of, tree_then, branch_then, trees_from, branches_from}
-use Rattle.smv_language.specs.Leaves.{tree_map, trees_map, branches_map}
-use Rattle.smv_language.specs.ExpressionTree.{trees_of, branches_of}
+use Rattle.smv_language.specs.Language.{Path, case_of, set_of, tree_then, branch_then, trees_from, branches_from, tree_map, trees_map, branches_map, trees_of, branches_of, FlatLeaf, leaf_of}
 use Rattle.smv_language.proofs.WrittenLaws.{tree_of_case, tree_of_set}
-use Rattle.smv_language.specs.Flat.{FlatLeaf}
 use Rattle.smv_scope.specs.declared.bounds.Bounds.{Bounds}
 use Rattle.smv_language.specs.declared.model.Flat.{Flat}
-use Rattle.smv_language.specs.ModelTree.{leaf_of}
 use Rattle.smv_flat.specs.ResolverOf.{is_leaf_within, TreeAll, TreesAll, BranchesAll, told_tree, asked_tree, told_branch, asked_branch, IsKnown, IsBranchKnown}
 use Rattle.smv_scope.proofs.ClosedLaws.{closed_case, closed_set}
 use Rattle.smv_flat.proofs.ShapeLaws.{shape_of_case, shape_of_set}

@@ -2,9 +2,7 @@
 use Rattle.std.proofs.Common.{◌≡◌, List, [], ◌∷◌, map, ap, ◌∙◌, refl}
 use Rattle.smv_language.specs.declared.expr.Expr.{Expr}
 use Rattle.smv_language.specs.declared.expr.Expr.TheVariants.{Case, SetOf}
-use Rattle.smv_language.specs.Tree.{case_of, set_of, tree_then, branch_then, trees_from, branches_from}
-use Rattle.smv_language.specs.Leaves.{trees_map, branches_map}
-use Rattle.smv_language.specs.ExpressionTree.{trees_of, branches_of}
+use Rattle.smv_language.specs.Language.{case_of, set_of, tree_then, branch_then, trees_from, branches_from, trees_map, branches_map, trees_of, branches_of}
 use Rattle.smv_language.proofs.WrittenLaws.{tree_of_case, tree_of_set}
 use Rattle.smv_flat.specs.Shape.{shape_of, shape, branch_shapes}
 

@@ -3,9 +3,7 @@ use Rattle.std.specs.Prelude.{◌≡◌, ℕ, Bool, true, false, ◌||◌, ◌&&
 use Rattle.std.specs.Borrow.{Bor}
 use Rattle.smv_language.specs.declared.program.Moment.{Moment}
 use Rattle.smv_language.specs.declared.program.Moment.TheVariants.{Always, First, After}
-use Rattle.smv_language.specs.ProgramTree.{Text, Path, ProgramTree}
-use Rattle.smv_language.specs.Texts.{same_text}
-use Rattle.smv_language.specs.Flat.{FlatInstance}
+use Rattle.smv_language.specs.Language.{Text, Path, ProgramTree, same_text, FlatInstance}
 use Rattle.smv_flat_laws.specs.Items.{Item, NumberedItem, items_named, instances_of, a_declaration, a_definition, an_assignment}
 use Rattle.smv_flat_laws.specs.Items.{some_constants, an_init, an_invar, a_trans}
 use Rattle.smv_flat_laws.specs.Rules.{Site, item_of, a_use, is_later}

@@ -1,16 +1,12 @@
 -- What the lists of a flat model are to be, by the tables of a scene: each formula with what its names get.
 use Rattle.std.specs.Prelude.{◌≡◌, ℕ, suc, nat_lt, Bool, true, false, List, [], ◌∷◌, ◌++◌, map, flat_map, Option, Some, None, slice_get}
 use Rattle.smv_language.specs.declared.expr.Op.TheVariants as op
-use Rattle.smv_language.specs.Tree.{Tree, truth, leaf, next_of, binary}
-use Rattle.smv_language.specs.ProgramTree.{Path}
-use Rattle.smv_language.specs.Leaves.{tree_map}
-use Rattle.smv_language.specs.ExpressionTree.{tree_of}
-use Rattle.smv_language.specs.Trace.{Each}
-use Rattle.smv_language.specs.Flat.{FlatLeaf, flat_variable, flat_symbol, flat_definition, FlatInstance}
+use Rattle.smv_language.specs.Language.{Tree, leaf, next_of, binary, Path, tree_map, tree_of, Each, FlatLeaf, flat_variable, flat_symbol}
+use Rattle.smv_language.specs.Language.{flat_definition, FlatInstance, place_of}
+use Rattle.smv_language.specs.Tree.{truth}
 use Rattle.smv_flat_laws.specs.Items.{Item, NumberedItem, items_named}
 use Rattle.smv_flat_laws.specs.Model.{Condition, plain, now_among, next_among, kept, first_conditions, each_conditions, step_conditions}
 use Rattle.smv_flat_laws.specs.Model.{kept_conditions}
-use Rattle.smv_language.specs.ModelTree.{place_of}
 use Rattle.smv_scope.specs.SceneTree.{program_of, items_at}
 use Rattle.smv_flat.specs.ResolverOf.{leaf_at, told_tree, asked_tree, AreKnown, IsKnown}
 use Rattle.smv_scope.specs.declared.bounds.Bounds.{Bounds}

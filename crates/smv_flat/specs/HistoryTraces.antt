@@ -1,9 +1,8 @@
 -- The traces of a model with history bits.
 use Rattle.std.specs.Prelude.{List, map}
-use Rattle.smv_language.specs.Trace.{Each}
+use Rattle.smv_language.specs.Language.{Each, model_tree}
 use Rattle.smv_language.specs.declared.model.FlatModel.{FlatModel}
 use Rattle.smv_language.specs.declared.model.Fault.{Fault}
-use Rattle.smv_language.specs.ModelTree.{model_tree}
 use Rattle.smv_flat_laws.specs.FaultModes.{mode_of}
 use Rattle.smv_flat_laws.specs.FlatTrace.{NamesOwn, IsModeOf, TellsHistory}
 

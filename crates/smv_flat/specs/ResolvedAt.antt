@@ -1,10 +1,6 @@
 -- An instance of a program by its number in the flat model, and which rule an expression breaks there.
 use Rattle.std.specs.Prelude.{◌≡◌, ℕ, Bool, false, Some, slice_get, IfSome, Result, IfOk, IfErr, OnOk}
-use Rattle.smv_language.specs.ProgramTree.{Path, Formula, ProgramTree}
-use Rattle.smv_language.specs.Scope.{Place}
-use Rattle.smv_language.specs.ExpressionTree.{tree_of}
-use Rattle.smv_language.specs.Flat.{FlatInstance, FlatModel}
-use Rattle.smv_language.specs.ModelTree.{flat_tree}
+use Rattle.smv_language.specs.Language.{Path, Formula, ProgramTree, Place, tree_of, FlatInstance, FlatModel, flat_tree}
 use Rattle.smv_language.specs.declared.expr.Expr.{Expr}
 use Rattle.smv_language.specs.declared.model.Flat.{Flat}
 use Rattle.smv_flat_laws.specs.Rules.{IsAccepted}

@@ -1,17 +1,13 @@
 -- Which leaf a name gets at an instance, by the tables of a scene and the order of its definitions.
 use Rattle.std.specs.Prelude.{◌≡◌, ℕ, suc, nat_lt, Bool, true, false, if◌then◌else◌, List, [], ◌∷◌, Option, Some, None, slice_get}
-use Rattle.smv_language.specs.Tree.{Tree, Trees, Branches, truth, number, leaf, not_of, negate, next_of, binary, choice, case_of, set_of}
-use Rattle.smv_language.specs.Tree.{span, no_tree, tree_then, no_branch, branch_then}
-use Rattle.smv_language.specs.ProgramTree.{Path, Formula}
-use Rattle.smv_language.specs.Scope.{Place}
-use Rattle.smv_language.specs.Leaves.{tree_map}
-use Rattle.smv_language.specs.ExpressionTree.{tree_of}
+use Rattle.smv_language.specs.Language.{Tree, Trees, Branches, leaf, not_of, negate, next_of, binary, choice, case_of, set_of, span}
+use Rattle.smv_language.specs.Language.{no_tree, tree_then, no_branch, branch_then, Path, Formula, Place, tree_map, tree_of, FlatLeaf}
+use Rattle.smv_language.specs.Language.{flat_variable, flat_symbol, flat_definition, FlatInstance, flat_tree}
+use Rattle.smv_language.specs.Tree.{truth, number}
 use Rattle.smv_language.specs.declared.expr.Expr.{Expr}
-use Rattle.smv_language.specs.Flat.{FlatLeaf, flat_variable, flat_symbol, flat_definition, FlatInstance}
 use Rattle.smv_flat_laws.specs.Items.{instances_of}
 use Rattle.smv_flat_laws.specs.NameResolution.{Resolver}
 use Rattle.smv_flat_laws.specs.Model.{same_place}
-use Rattle.smv_language.specs.ModelTree.{flat_tree}
 use Rattle.smv_scope.specs.SceneTree.{program_of}
 use Rattle.smv_scope.specs.TableLookUps.{found_at}
 use Rattle.smv_scope.specs.declared.bounds.Bounds.{Bounds}

@@ -1,7 +1,5 @@
 -- The shape of an expression, whatever its names are.
-use Rattle.smv_language.specs.Tree.{Tree}
-use Rattle.smv_language.specs.Leaves.{tree_map}
-use Rattle.smv_language.specs.ExpressionTree.{tree_of}
+use Rattle.smv_language.specs.Language.{Tree, tree_map, tree_of}
 use Rattle.smv_language.specs.declared.expr.Expr.{Expr}
 
 -- a tree without its leaves

@@ -1,8 +1,6 @@
 -- What is judged of a value at an instance.
 use Rattle.std.specs.Prelude.{◌≡◌, ◌↔◌, true}
-use Rattle.smv_language.specs.ProgramTree.{Formula, ProgramTree}
-use Rattle.smv_language.specs.Scope.{Place}
-use Rattle.smv_language.specs.Trace.{AtSome}
+use Rattle.smv_language.specs.Language.{Formula, ProgramTree, Place, AtSome}
 use Rattle.smv_flat_laws.specs.NameResolution.{leaves_in, has_next}
 use Rattle.smv_flat_laws.specs.Rules.{SomeHasNoValue, GivesInput, next_under_next, leaves_under}
 use Rattle.smv_flat.specs.declared.values.JudgedValue.{JudgedValue}

@@ -11,7 +11,7 @@ ghost use Rattle.smv_flat.specs.Shape.{shape};
 ghost use Rattle.smv_scope.specs.ClosedModels.{is_closed, bounds_of, IsClosedModel};
 ghost use Rattle.smv_language.specs.ModelTree.{model_tree};
 ghost use Rattle.smv_flat_laws.specs.FlatTrace.{NamesOwn};
-ghost use Rattle.smv_scope.specs.Faults.{first_of, IsFaultOf};
+ghost use Rattle.smv_scope.specs.Faults.{first_of, rule_of, IsFaultOf};
 ghost use Rattle.std.specs.Prelude.{Some};
 ghost use Rattle.smv_flat_laws.specs.Rules.{IsAccepted};
 ghost use Rattle.smv_flat_laws.specs.Model.{IsFlatOf};
@@ -50,6 +50,16 @@ impl<'a> Scope<'a> {
         ensures fault { IfErr result (IsFaultOf (program_tree p.now)) }
     {
         let (scope, _variables) = scope_of(alloc, p)?;
+        Ok(scope)
+    }
+
+    /// The scope of a program that breaks no rule: nothing but want of memory keeps it from being made.
+    pub fn of_accepted(alloc: Global, p: &'a Program) -> Result<Scope<'a>, FlatFault>
+        requires { IsAccepted (program_tree p.now) }
+        ensures scope { IfOk result (IsScopeOf (program_tree p.now)) }
+        ensures want { IfErr result (λ fault. rule_of fault.rule ≡ None) }
+    {
+        let scope = Scope::of_program(alloc, p)?;
         Ok(scope)
     }
 

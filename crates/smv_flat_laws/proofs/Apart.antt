@@ -1,10 +1,8 @@
 -- No variable is listed twice, and each list of values is that of a valuation.
 use Rattle.std.proofs.Common.{◌≡◌, ℕ, zero, suc, ◌+◌, arith, Bool, true, false, ◌||◌, List, [], ◌∷◌, ◌++◌, length, Some, refl, sym, ◌∙◌, ap, subst}
 use Rattle.std.specs.Prelude.{flat_map, if◌then◌else◌, codes}
-use Rattle.smv_language.specs.ProgramTree.{Text, DeclaredTree, boolean, range, members, instance, DeclTree, ModuleTree, ProgramTree}
+use Rattle.smv_language.specs.Language.{Text, DeclaredTree, boolean, range, members, instance, DeclTree, ModuleTree, ProgramTree, Place, Role, find_module, Each, same_text, is_among}
 use Rattle.smv_language.proofs.ValueLaws.{same_text_refl}
-use Rattle.smv_language.specs.Scope.{Place, Role, find_module}
-use Rattle.smv_language.specs.Trace.{Each}
 use Rattle.smv_flat_laws.specs.Items.{Item, a_declaration, a_definition, an_assignment, some_constants, an_init, an_invar, a_trans, NumberedItem, items_of, items_named, items_found, numbered_from, modules_from, Visit, visits_inside, visits_of, walk_items, walk, visits, variable_declared, variables_of}
 use Rattle.smv_flat_laws.specs.Rules.{names_of_item, is_name_again, is_missing_instance, IsWalkable}
 use Rattle.smv_flat_laws.proofs.Reaches.{each_left, each_right}
@@ -12,7 +10,6 @@ use Rattle.smv_flat_laws.proofs.Lists.{each_more}
 use Rattle.smv_flat_laws.proofs.Conditions.{each_join}
 use Rattle.smv_flat_laws.proofs.KindLaws.{ItemFacts}
 use Rattle.smv_flat_laws.proofs.Places.{VisitFacts, facts_named, all_visit_facts, there}
-use Rattle.smv_language.specs.Texts.{same_text, is_among}
 
 -- other place or other name
 abbrev pub Differ : Visit → Visit → Type 0

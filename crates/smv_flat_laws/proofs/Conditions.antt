@@ -1,21 +1,14 @@
 -- The formulas of a flat model hold exactly where the conditions of the written program do.
 use Rattle.std.proofs.Common.{◌≡◌, ℕ, zero, suc, Bool, true, false, List, [], ◌∷◌, ◌++◌, Option, Some, None, refl, sym, ◌∙◌, ap, subst, eq-eqb}
 use Rattle.std.specs.Prelude.{slice_get, map, flat_map, ◌↔◌, IsTrue}
-use Rattle.smv_language.specs.Tree.{Tree}
-use Rattle.smv_language.specs.ProgramTree.{Text, ProgramTree}
-use Rattle.smv_language.specs.Values.{Value, truth, number, Values, one, has}
-use Rattle.smv_language.specs.Evaluate.{evaluate, gives_within}
-use Rattle.smv_language.specs.Scope.{Place}
-use Rattle.smv_language.specs.May.{Valuation, May}
-use Rattle.smv_language.specs.Trace.{Each, EachBoth}
+use Rattle.smv_language.specs.Language.{Tree, Text, ProgramTree, Value, Values, one, has, evaluate, gives_within, Place, Valuation, May, Each, EachBoth, FlatLeaf, flat_variable, FlatFormula, FlatModel, one_of, leaves_at, FlatMay, Holds, Numbers, same_text}
+use Rattle.smv_language.specs.Values.{truth, number}
 use Rattle.smv_language.proofs.ValueLaws.{same_value_equal, same_value_refl}
-use Rattle.smv_language.specs.Flat.{FlatLeaf, flat_variable, FlatFormula, FlatModel, one_of, leaves_at, FlatMay, Holds, Numbers}
 use Rattle.smv_flat_laws.specs.NameResolution.{Definition, Resolver, IsSound, AreDefinitions}
 use Rattle.smv_flat_laws.specs.Model.{Condition, plain, now_among, next_among, kept, Written, IsVariableNumber, IsConditionTree, IsFormulaOf}
 use Rattle.smv_flat_laws.proofs.Reaches.{each_left, each_right}
 use Rattle.smv_flat_laws.proofs.Lists.{each_map, each_of_map, each_more}
 use Rattle.smv_flat_laws.proofs.Resolving.{may_exactly}
-use Rattle.smv_language.specs.Texts.{same_text}
 use Rattle.std.proofs.lemmas.Option.{same_Some as one_same}
 use Rattle.smv_language.proofs.BoolLaws.{iff_trans, iff_sym}
 

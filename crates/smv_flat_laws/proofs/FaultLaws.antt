@@ -1,7 +1,6 @@
 -- The first broken rule of sites, part by part.
 use Rattle.std.proofs.Common.{◌≡◌, ℕ, ◌<◌, List, [], ◌∷◌, ◌++◌, Option, Some, None, refl, ◌∙◌, ap}
-use Rattle.smv_language.specs.ProgramTree.{ProgramTree}
-use Rattle.smv_language.specs.Trace.{Each}
+use Rattle.smv_language.specs.Language.{ProgramTree, Each}
 use Rattle.smv_flat_laws.specs.Rules.{Rule, number_of, Site, item_of, sites, Breaks, IsKept, IsFirstBroken}
 
 -- the rule broken at a site with the lowest number

@@ -1,9 +1,7 @@
 -- Worked examples: the first broken rules of small programs.
 use Rattle.std.proofs.Common.{◌≡◌, ℕ, zero, suc, ◌<◌, arith, true, false, [], ◌∷◌, Option, Some, None, refl, sym, ◌∙◌, ap, subst, inl}
 use Rattle.std.specs.Prelude.{codes}
-use Rattle.smv_language.specs.Tree.{leaf}
-use Rattle.smv_language.specs.ProgramTree.{Text, Path, boolean, instance, var, define, init, ModuleTree, ProgramTree}
-use Rattle.smv_language.specs.Scope.{Place, define_key, means_in, state}
+use Rattle.smv_language.specs.Language.{leaf, Text, Path, boolean, instance, var, define, init, ModuleTree, ProgramTree, Place, define_key, means_in, state}
 use Rattle.smv_flat_laws.specs.Items.{a_declaration, a_definition, an_init, visits, NumberedItem, NumberedModule}
 use Rattle.smv_flat_laws.specs.Looks.{Look, look_after, step_on, ComesBack, MeansNothing}
 use Rattle.smv_flat_laws.specs.Rules.{Rule, number_of, no_main, main_has_parameters, double_module, double_name, module_loop, no_such_name, define_loop, the_program, a_header, an_item, a_visit, a_use, nothing, Needs, Breaks, IsKept, IsFirstBroken}

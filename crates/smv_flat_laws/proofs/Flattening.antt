@@ -1,9 +1,7 @@
 -- The model of an accepted program holds what the program's conditions hold.
 use Rattle.std.proofs.Common.{◌≡◌, Some}
 use Rattle.std.specs.Prelude.{codes}
-use Rattle.smv_language.specs.ProgramTree.{ModuleTree, ProgramTree}
-use Rattle.smv_language.specs.Scope.{find_module}
-use Rattle.smv_language.specs.Flat.{FlatModel}
+use Rattle.smv_language.specs.Language.{ModuleTree, ProgramTree, find_module, FlatModel}
 use Rattle.smv_flat_laws.specs.Rules.{IsWalkable, IsAccepted}
 use Rattle.smv_flat_laws.specs.Model.{IsFlatOf, IsFlattened}
 use Rattle.smv_flat_laws.proofs.Sections.{AreInstances, flattened}

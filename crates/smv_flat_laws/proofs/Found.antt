@@ -1,10 +1,8 @@
 -- What is found by its name is a member.
 use Rattle.std.proofs.Common.{◌≡◌, suc, Bool, true, false, List, [], ◌∷◌, Some, refl, ap, ◌⊎◌, inl, inr, zero, ◌++◌, subst}
-use Rattle.smv_language.specs.ProgramTree.{Text, ModuleTree, ProgramTree}
-use Rattle.smv_language.specs.Texts.{same_text, is_among}
+use Rattle.smv_language.specs.Language.{Text, ModuleTree, ProgramTree, same_text, is_among, find_module}
 use Rattle.smv_language.proofs.ValueLaws.{same_text_equal}
 use Rattle.smv_flat_laws.proofs.Places.{In, in_left, in_right}
-use Rattle.smv_language.specs.Scope.{find_module}
 use Rattle.std.specs.Prelude.{if◌then◌else◌}
 use Rattle.smv_flat_laws.specs.Model.{first_appearances}
 

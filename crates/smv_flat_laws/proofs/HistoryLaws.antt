@@ -1,9 +1,8 @@
 -- A history of no fault adds nothing, and that of one fault more adds its bit last.
 use Rattle.std.proofs.Common.{◌≡◌, ℕ, suc, ◌+◌, ◌<◌, List, [], ◌∷◌, ◌++◌, length, map, take, get_or, refl, ap, ◌∙◌, sym, arith}
 use Rattle.std.proofs.lemmas.List.{append-nil, append_assoc, length-append, map_more, length-map, length-take-le}
-use Rattle.smv_language.specs.Flat.{FlatVariable, FlatFormula, FlatModel}
+use Rattle.smv_language.specs.Language.{FlatVariable, FlatFormula, FlatModel, Value}
 use Rattle.smv_flat_laws.specs.History.{Mode, bit_variable, bit_at_first, bit_at_step, bit_variables, bits_at_first, bits_at_step, with_history, with_bit}
-use Rattle.smv_language.specs.Values.{Value}
 use Rattle.smv_flat_laws.specs.FlatTrace.{told_from}
 
 -- a model with other variables and other formulas at first and at each step

@@ -3,11 +3,8 @@ use Rattle.std.proofs.Common.{◌≡◌, ℕ, zero, suc, ◌<◌, Bool, true, �
 use Rattle.std.proofs.lemmas.List.{append_assoc, length-map}
 use Rattle.std.specs.Prelude.{slice_get, ◌↔◌, IsTrue}
 use Rattle.smv_language.specs.declared.expr.Op.TheVariants as op
-use Rattle.smv_language.specs.ProgramTree.{Text, boolean}
-use Rattle.smv_language.specs.Values.{Value, truth, number, symbol, Values, one}
-use Rattle.smv_language.specs.Evaluate.{evaluate, gives_within, gives_applied}
-use Rattle.smv_language.specs.Trace.{Each, EachPair, in_domain}
-use Rattle.smv_language.specs.Flat.{FlatLeaf, flat_variable, flat_symbol, flat_definition, FlatVariable, FlatFormula, FlatModel, one_of, symbol_of, flat_leaves, definition_gives, table_after, leaves_at, Holds}
+use Rattle.smv_language.specs.Language.{Text, boolean, Value, symbol, Values, one, evaluate, gives_within, gives_applied, Each, EachPair, in_domain, FlatLeaf, flat_variable, flat_symbol, flat_definition, FlatVariable, FlatFormula, FlatModel, one_of, symbol_of, flat_leaves, definition_gives, table_after, leaves_at, Holds}
+use Rattle.smv_language.specs.Values.{truth, number}
 use Rattle.smv_flat_laws.specs.NameResolution.{leaves_in}
 use Rattle.smv_flat_laws.specs.History.{Mode, bit_variables, bit_at_first, bit_at_step, bits_at_first, bits_at_step, with_history}
 use Rattle.smv_flat_laws.specs.FlatTrace.{AreInDomains, IsFlatMoment, IsFlatStep, IsFlatTrace, is_symbol_value, stands, stands_in_some, bits_after, told_from, IsOwnName, IsOwnFormula, NamesOwn, IsModeOf}

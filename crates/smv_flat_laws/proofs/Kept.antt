@@ -2,11 +2,7 @@
 use Rattle.std.proofs.Common.{◌≡◌, ℕ, Bool, true, false, List, [], ◌∷◌, ◌++◌, length, Some, refl, sym, ◌∙◌, subst}
 use Rattle.std.specs.Prelude.{codes, slice_get, map, nat_eq}
 use Rattle.std.proofs.Common.{eqb-true}
-use Rattle.smv_language.specs.ProgramTree.{Text, Formula, instance, ModuleTree, ProgramTree}
-use Rattle.smv_language.specs.Values.{opposite}
-use Rattle.smv_language.specs.Scope.{Place, an_instance, find_module, formal_from, kind_in_sections, kind_in}
-use Rattle.smv_language.specs.Trace.{Each, IsInstance}
-use Rattle.smv_language.specs.Flat.{FlatInstance}
+use Rattle.smv_language.specs.Language.{Text, Formula, instance, ModuleTree, ProgramTree, opposite, Place, an_instance, find_module, formal_from, kind_in_sections, kind_in, Each, IsInstance, FlatInstance}
 use Rattle.smv_flat_laws.specs.Items.{Item, a_declaration, NumberedItem, items_of, items_named, Visit, visits, visits_of, walk, instances_of}
 use Rattle.smv_flat_laws.specs.Rules.{is_missing_instance, is_miscounted, is_other_count, a_use, module_sites, visit_sites, use_sites, IsKept, IsWalkable, IsAccepted}
 use Rattle.smv_flat_laws.proofs.Reaches.{each_right}

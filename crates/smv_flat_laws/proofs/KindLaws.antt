@@ -1,15 +1,13 @@
 -- What is declared by a module's items, and by which of them.
 use Rattle.std.proofs.Common.{◌≡◌, ℕ, suc, ◌+◌, Bool, true, false, List, [], ◌∷◌, ◌++◌, Option, Some, None, refl, sym, ◌∙◌, ap, subst}
 use Rattle.std.specs.Prelude.{slice_get, map, flat_map, length, if◌then◌else◌}
-use Rattle.smv_language.specs.ProgramTree.{Text, Formula, DeclaredTree, boolean, range, members, instance, DeclTree, DefineTree, AssignmentTree, SectionTree, var, ivar, frozen, define, constants, assign, init, invar, trans, ModuleTree, ProgramTree}
+use Rattle.smv_language.specs.Language.{Text, Formula, DeclaredTree, boolean, range, members, instance, DeclTree, DefineTree, AssignmentTree, SectionTree, var, ivar, frozen, define, constants, assign, init, invar, trans, ModuleTree, ProgramTree, Role, state, input, frozen_role, Kind, an_instance, undeclared, kind_declared, kind_in_decls, kind_in_defines, kind_in_sections, kind_after_formals, kind_in, find_module, Each, same_text, is_among}
 use Rattle.smv_language.proofs.ValueLaws.{same_text_refl}
-use Rattle.smv_language.specs.Scope.{Role, state, input, frozen_role, Kind, a_define, an_instance, undeclared, kind_declared, kind_in_decls, kind_in_defines, kind_in_sections, kind_after_formals, kind_in, find_module}
-use Rattle.smv_language.specs.Trace.{Each}
+use Rattle.smv_language.specs.Scope.{a_define}
 use Rattle.smv_flat_laws.specs.Items.{Item, a_declaration, a_definition, an_assignment, some_constants, an_init, an_invar, a_trans, NumberedItem, NumberedModule, items_of_section, items_of, numbered_from, modules_from, modules_of, numbered_items, items_found}
 use Rattle.smv_flat_laws.specs.Rules.{names_of_item, is_name_again, double_name, a_header, an_item, IsKept, IsWalkable, may_be_assigned}
 use Rattle.smv_flat_laws.proofs.Lists.{each_of_map, each_more}
 use Rattle.smv_flat_laws.proofs.Conditions.{each_flat}
-use Rattle.smv_language.specs.Texts.{same_text, is_among}
 use Rattle.smv_language.proofs.OneTree.{same_text_equal}
 use Rattle.std.proofs.lemmas.Bool.{false_from_ne_true as not_true, or_parts as neither}
 use Rattle.smv_language.specs.declared.program.Moment.{Moment}

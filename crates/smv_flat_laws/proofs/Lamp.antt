@@ -3,16 +3,12 @@ use Rattle.std.proofs.Common.{◌≡◌, ℕ, zero, suc, arith, Bool, true, fals
 use Rattle.std.specs.Prelude.{codes, slice_get, if◌then◌else◌}
 use Rattle.smv_language.specs.declared.expr.Op.TheVariants as op
 use Rattle.smv_language.specs.declared.program.Moment.TheVariants.{First, After}
-use Rattle.smv_language.specs.Tree.{truth as is_truth, leaf, not_of, next_of, binary}
-use Rattle.smv_language.specs.ProgramTree.{Text, Formula, boolean, var, define, assign, ModuleTree, ProgramTree}
-use Rattle.smv_language.specs.Scope.{Place, state, Key, define_key, a_variable_at, an_expression_at, an_instance_at, Means, means_in}
-use Rattle.smv_language.specs.Trace.{Each, AtSome}
-use Rattle.smv_language.specs.Flat.{FlatLeaf, flat_variable, flat_definition, FlatFormula, FlatModel}
+use Rattle.smv_language.specs.Language.{leaf, not_of, next_of, binary, Text, Formula, boolean, var, define, assign, ModuleTree, ProgramTree, Place, state, Key, define_key, a_variable_at, an_expression_at, an_instance_at, Means, means_in, Each, AtSome, FlatLeaf, flat_variable, flat_definition, FlatFormula, FlatModel, same_text}
+use Rattle.smv_language.specs.Tree.{truth as is_truth}
 use Rattle.smv_flat_laws.specs.NameResolution.{leaves_in, has_next, IsResolved, IsBefore, Definition, IsLeafOf, Resolver, IsSound, AreDefinitions}
 use Rattle.smv_flat_laws.specs.Items.{Item, a_declaration, a_definition, an_assignment, NumberedModule, main_instance}
 use Rattle.smv_flat_laws.specs.Rules.{no_main, main_has_parameters, double_module, double_name, no_such_module, wrong_count, module_loop, no_such_name, not_a_target, double_assign, define_loop, next_here, too_many, the_program, a_header, an_item, a_visit, a_use, HasNoValue, nothing, only_an_instance, Needs, IsKept, IsAccepted}
 use Rattle.smv_flat_laws.specs.Model.{IsFlatOf, comes, no_more, one_more}
-use Rattle.smv_language.specs.Texts.{same_text}
 use Rattle.smv_language.proofs.OneTree.{same_text_equal}
 use Rattle.std.proofs.lemmas.Option.{none-some as never_some}
 

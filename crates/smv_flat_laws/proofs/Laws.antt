@@ -1,7 +1,6 @@
 -- A program has at most one first broken rule, and none where it is accepted.
 use Rattle.std.proofs.Common.{◌≡◌, ℕ, ◌<◌, arith, List, [], ◌∷◌, ◌++◌, sym, ◌∙◌, ap, subst}
-use Rattle.smv_language.specs.ProgramTree.{ProgramTree}
-use Rattle.smv_language.specs.Trace.{Each}
+use Rattle.smv_language.specs.Language.{ProgramTree, Each}
 use Rattle.smv_flat_laws.specs.Rules.{Rule, number_of, Site, item_of, Breaks, IsKept, IsFirstBroken, IsAccepted}
 
 -- of two splits of a list at places where something is broken, all before being kept, the places are one

@@ -2,11 +2,8 @@
 use Rattle.std.proofs.Common.{◌≡◌, ℕ, zero, suc, ◌+◌, arith, Bool, true, false, List, [], ◌∷◌, Option, Some, None, refl, sym, ◌∙◌, ap, subst}
 use Rattle.std.specs.Prelude.{codes, slice_get, map, flat_map, nat_eq}
 use Rattle.std.proofs.Common.{eqb-true}
-use Rattle.smv_language.specs.ProgramTree.{Text, Formula, DeclaredTree, boolean, range, members, instance, DefineTree, ModuleTree, ProgramTree}
-use Rattle.smv_language.specs.Texts.{same_text}
-use Rattle.smv_language.specs.Scope.{Place, Role, Kind, a_define, Key, define_key, actual_key, kind_declared, kind_after_formals, kind_in_sections, kind_in, formal_from, find_module, plain_name, nth_formula}
-use Rattle.smv_language.specs.Trace.{Each, IsInstance}
-use Rattle.smv_language.specs.Flat.{FlatInstance, FlatModel}
+use Rattle.smv_language.specs.Language.{Text, Formula, DeclaredTree, boolean, range, members, instance, DefineTree, ModuleTree, ProgramTree, same_text, Place, Role, Kind, Key, define_key, actual_key, kind_declared, kind_after_formals, kind_in_sections, kind_in, formal_from, find_module, plain_name, nth_formula, Each, IsInstance, FlatInstance, FlatModel}
+use Rattle.smv_language.specs.Scope.{a_define}
 use Rattle.smv_flat_laws.specs.NameResolution.{Definition}
 use Rattle.smv_flat_laws.specs.Items.{Item, a_declaration, a_definition, an_assignment, some_constants, an_init, an_invar, a_trans, NumberedItem, items_of, items_named, instances_of}
 use Rattle.smv_flat_laws.specs.Rules.{IsWalkable}

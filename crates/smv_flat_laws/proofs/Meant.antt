@@ -1,11 +1,9 @@
 -- In an accepted program what formals stand for means something, where each look-up of a formal is decided.
 use Rattle.std.proofs.Common.{◌≡◌, ℕ, zero, suc, ◌<◌, arith, List, [], ◌∷◌, ◌++◌, length, Option, Some, None, refl, sym, ◌∙◌, ap, subst, inl, inr, append-nil}
 use Rattle.std.specs.Prelude.{slice_get, map, flat_map, ◌⊎◌, ◌+◌, ◌||◌, Bool, true, false}
-use Rattle.smv_language.specs.ProgramTree.{Text, Path, Formula, DeclaredTree, boolean, range, members, instance, DeclTree, SectionTree, ModuleTree, ProgramTree}
-use Rattle.smv_language.specs.Texts.{same_text, is_among}
+use Rattle.smv_language.specs.Language.{Text, Path, Formula, DeclaredTree, boolean, range, members, instance, DeclTree, SectionTree, ModuleTree, ProgramTree, same_text, is_among, Place, Kind, a_formal, a_variable, an_instance, undeclared, Meaning, Means, means_in, find_module, formal_from, kind_after_formals, kind_in_sections, kind_declared, kind_in, kind_at, module_at, module_of_kind, plain_name, nth_formula, actual_of_kind, Each, AtSome, IsInstance}
 use Rattle.smv_language.proofs.ValueLaws.{same_text_refl}
-use Rattle.smv_language.specs.Scope.{Place, Kind, a_formal, a_variable, a_define, an_instance, undeclared, Meaning, Means, means_in, find_module, formal_from, kind_after_formals, kind_in_sections, kind_declared, kind_in, kind_at, module_at, module_of_kind, plain_name, nth_formula, actual_of_kind}
-use Rattle.smv_language.specs.Trace.{Each, AtSome, IsInstance}
+use Rattle.smv_language.specs.Scope.{a_define}
 use Rattle.smv_flat_laws.specs.Items.{Item, a_declaration, a_definition, an_assignment, some_constants, an_init, an_invar, a_trans, items_of, items_of_section, NumberedModule, modules_from, modules_of, numbered_items}
 use Rattle.smv_flat_laws.specs.Looks.{Look, at_actual, plain_of, step_formal, step_kind, step_of, look_after, ComesBack, MeetsLoop, MeansNothing}
 use Rattle.smv_flat_laws.specs.Rules.{no_such_name, define_loop, double_name, has_twice, a_header, an_item, ActualHasNoMeaning, BreaksNames, ActualLoops, SomeActualLoops, LoopsInside, BreaksLoops, IsKept, IsWalkable, IsAccepted}

@@ -2,17 +2,10 @@
 use Rattle.std.proofs.Common.{◌≡◌, ℕ, zero, suc, arith, Bool, true, false, [], ◌∷◌, ◌++◌, Option, Some, None, refl, sym, ◌∙◌, subst, inl, inr}
 use Rattle.std.specs.Prelude.{◌≤◌, ◌↔◌, List, IsTrue, codes, slice_get}
 use Rattle.smv_language.specs.declared.program.Moment.TheVariants.{Always}
-use Rattle.smv_language.specs.Tree.{leaf}
-use Rattle.smv_language.specs.ProgramTree.{Text, Path, Formula, boolean, instance, DeclTree, var, assign, ModuleTree, ProgramTree}
-use Rattle.smv_language.specs.Values.{Value, truth, number, symbol, one, same_value}
-use Rattle.smv_language.specs.Texts.{same_text}
-use Rattle.smv_language.specs.Scope.{Place, state, Meaning, a_variable_at, an_expression_at, an_instance_at, kind_in, module_of_kind, kind_at, module_at, Means, plain_name}
-use Rattle.smv_language.specs.Evaluate.{evaluate}
-use Rattle.smv_language.specs.May.{Valuation, May, name_values}
-use Rattle.smv_language.specs.Trace.{IsTrace, IsFirst, IsMoment, InDomains, IsInvariant, IsInstance, Each, DomainSection, FirstSection, EachSection, is_truth}
+use Rattle.smv_language.specs.Language.{leaf, Text, Path, Formula, boolean, instance, DeclTree, var, assign, ModuleTree, ProgramTree, Value, symbol, one, same_value, same_text, Place, state, Meaning, a_variable_at, an_expression_at, an_instance_at, kind_in, module_of_kind, kind_at, module_at, Means, plain_name, evaluate, Valuation, May, name_values, IsTrace, IsFirst, IsMoment, InDomains, IsInvariant, IsInstance, Each, DomainSection, FirstSection, EachSection, is_truth, FlatInstance}
+use Rattle.smv_language.specs.Values.{truth, number}
 use Rattle.smv_language.proofs.ValueLaws.{same_text_equal, same_value_equal}
 use Rattle.smv_language.proofs.Monotone.{same_values}
-use Rattle.smv_language.specs.Flat.{FlatInstance}
 use Rattle.smv_flat_laws.specs.Looks.{ComesBack}
 use Rattle.smv_flat_laws.specs.Items.{Item, a_declaration, an_assignment, NumberedModule, Visit, visits, main_instance}
 use Rattle.smv_flat_laws.specs.Rules.{no_main, main_has_parameters, double_module, double_name, no_such_module, wrong_count, module_loop, no_such_name, not_a_target, double_assign, define_loop, next_here, input_here, too_many, the_program, a_header, an_item, a_visit, a_use, visit_sites, use_sites, instances_before, variables_before, HasNoValue, nothing, only_an_instance, ActualLoops, SomeActualLoops, is_input_kind, GivesInput, IsKept, IsAccepted}

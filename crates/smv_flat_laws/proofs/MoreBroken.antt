@@ -2,9 +2,8 @@
 use Rattle.std.proofs.Common.{true, List, [], ◌∷◌, refl, inl, inr}
 use Rattle.std.specs.Prelude.{codes}
 use Rattle.smv_language.specs.declared.program.Moment.TheVariants.{Always, First}
-use Rattle.smv_language.specs.Tree.{truth as is_truth, leaf, next_of}
-use Rattle.smv_language.specs.ProgramTree.{boolean, instance, var, ivar, define, assign, init, ModuleTree, ProgramTree}
-use Rattle.smv_language.specs.Scope.{state, define_key}
+use Rattle.smv_language.specs.Language.{leaf, next_of, boolean, instance, var, ivar, define, assign, init, ModuleTree, ProgramTree, state, define_key}
+use Rattle.smv_language.specs.Tree.{truth as is_truth}
 use Rattle.smv_flat_laws.specs.Items.{Item, an_assignment, an_init, main_instance}
 use Rattle.smv_flat_laws.specs.Rules.{main_has_parameters, double_module, no_such_module, wrong_count, not_a_target, double_assign, next_here, input_here, a_header, a_visit, a_use, Breaks}
 

@@ -1,9 +1,7 @@
 -- What an expression gives depends on its leaves alone, and on those now alone where it has no `next`.
 use Rattle.std.proofs.Common.{◌≡◌, false, ◌||◌, Option, Some, None, refl, sym, ◌∙◌}
-use Rattle.smv_language.specs.Tree.{Tree, Trees, Branches, truth as is_truth, number as is_number, leaf, not_of, negate, next_of, binary, choice, case_of, set_of, span, no_tree, tree_then, no_branch, branch_then}
-use Rattle.smv_language.specs.Values.{Values}
-use Rattle.smv_language.specs.Evaluate.{Leaves, evaluate, evaluate_trees, evaluate_branches}
-use Rattle.smv_language.specs.Trace.{Each}
+use Rattle.smv_language.specs.Language.{Tree, Trees, Branches, leaf, not_of, negate, next_of, binary, choice, case_of, set_of, span, no_tree, tree_then, no_branch, branch_then, Values, Leaves, evaluate, evaluate_trees, evaluate_branches, Each}
+use Rattle.smv_language.specs.Tree.{truth as is_truth, number as is_number}
 use Rattle.smv_language.proofs.Monotone.{Below}
 use Rattle.smv_flat_laws.specs.NameResolution.{leaves_in, has_next, trees_have_next, branches_have_next}
 use Rattle.smv_flat_laws.proofs.Reaches.{BothReach, tree_reaches}

@@ -1,19 +1,14 @@
 -- Each list of values by number is that of a valuation.
 use Rattle.std.proofs.Common.{◌≡◌, ℕ, zero, suc, arith, Bool, true, false, ◌&&◌, List, [], ◌∷◌, length, Some, refl, sym, ◌∙◌, subst, eq-eqb}
 use Rattle.std.specs.Prelude.{slice_get, if◌then◌else◌, codes}
-use Rattle.smv_language.specs.ProgramTree.{ModuleTree, ProgramTree}
-use Rattle.smv_language.specs.Values.{Value, truth}
+use Rattle.smv_language.specs.Language.{ModuleTree, ProgramTree, Value, Place, Key, define_key, actual_key, find_module, Valuation, Each, EachBoth, FlatVariable, FlatModel, Numbers, same_text}
+use Rattle.smv_language.specs.Values.{truth}
 use Rattle.smv_language.proofs.ValueLaws.{same_text_refl}
-use Rattle.smv_language.specs.Scope.{Place, Key, define_key, actual_key, find_module}
-use Rattle.smv_language.specs.May.{Valuation}
-use Rattle.smv_language.specs.Trace.{Each, EachBoth}
-use Rattle.smv_language.specs.Flat.{FlatVariable, FlatModel, Numbers}
 use Rattle.smv_flat_laws.specs.Items.{Visit, variables_of}
 use Rattle.smv_flat_laws.specs.Rules.{IsAccepted}
 use Rattle.smv_flat_laws.specs.Model.{same_place, same_key, IsVariableOf, IsFlatOf}
 use Rattle.smv_flat_laws.proofs.Apart.{Differ, Apart, variables_apart}
 use Rattle.smv_flat_laws.proofs.Walkable.{accepted_walkable, main_is_there}
-use Rattle.smv_language.specs.Texts.{same_text}
 use Rattle.smv_lexer.proofs.SignLemmas.{both_true}
 use Rattle.smv_language.proofs.OneTree.{same_text_equal}
 

@@ -1,10 +1,7 @@
 -- Two flat expressions that resolve one written expression are one, where their leaves are.
 use Rattle.std.proofs.Common.{◌≡◌, Option, Some, None, refl, sym, ◌∙◌, ap}
-use Rattle.smv_language.specs.Tree.{Tree, Trees, Branches, truth, number, leaf, not_of, negate, next_of, binary, choice, case_of, set_of, span, no_tree, tree_then, no_branch, branch_then}
-use Rattle.smv_language.specs.Leaves.{tree_map, trees_map, branches_map}
-use Rattle.smv_language.specs.ProgramTree.{Path, Formula}
-use Rattle.smv_language.specs.Trace.{Each}
-use Rattle.smv_language.specs.Flat.{FlatLeaf, flat_symbol}
+use Rattle.smv_language.specs.Language.{Tree, Trees, Branches, leaf, not_of, negate, next_of, binary, choice, case_of, set_of, span, no_tree, tree_then, no_branch, branch_then, tree_map, trees_map, branches_map, Path, Formula, Each, FlatLeaf, flat_symbol}
+use Rattle.smv_language.specs.Tree.{truth, number}
 use Rattle.smv_flat_laws.specs.NameResolution.{leaves_in, trees_leaves, branches_leaves, IsResolved}
 use Rattle.smv_flat_laws.proofs.Reaches.{each_left, each_right}
 use Rattle.smv_flat_laws.proofs.Resolving.{Known, names_known, each_leaf}

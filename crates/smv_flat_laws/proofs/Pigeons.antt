@@ -1,11 +1,8 @@
 -- Different names of modules that are all there are no more than the modules.
 use Rattle.std.proofs.Common.{◌≡◌, suc, ◌≤◌, arith, Bool, true, false, List, [], ◌∷◌, length, refl, sym, ◌∙◌, subst}
 use Rattle.std.specs.Prelude.{if◌then◌else◌}
-use Rattle.smv_language.specs.ProgramTree.{Text, ModuleTree, ProgramTree}
+use Rattle.smv_language.specs.Language.{Text, ModuleTree, ProgramTree, find_module, is_missing, Each, same_text, is_among}
 use Rattle.smv_language.proofs.ValueLaws.{same_text_refl}
-use Rattle.smv_language.specs.Scope.{find_module, is_missing}
-use Rattle.smv_language.specs.Trace.{Each}
-use Rattle.smv_language.specs.Texts.{same_text, is_among}
 use Rattle.smv_language.proofs.OneTree.{same_text_equal}
 use Rattle.std.proofs.lemmas.Bool.{or_parts as neither}
 

@@ -1,10 +1,8 @@
 -- The walk comes to every instance, and to nothing else.
 use Rattle.std.proofs.Common.{◌≡◌, ℕ, zero, suc, ◌+◌, ◌≤◌, arith, Bool, true, false, List, [], ◌∷◌, ◌++◌, length, Option, Some, None, refl, sym, ◌∙◌, ap, subst}
 use Rattle.std.specs.Prelude.{slice_get, flat_map, if◌then◌else◌, codes}
-use Rattle.smv_language.specs.ProgramTree.{Text, Formula, DeclaredTree, boolean, range, members, instance, ModuleTree, ProgramTree}
-use Rattle.smv_language.specs.Scope.{Place, Role, Kind, a_formal, a_variable, a_define, an_instance, undeclared, kind_declared, kind_in, kind_in_sections, formal_from, kind_at, module_of_kind, module_at, find_module}
-use Rattle.smv_language.specs.Trace.{Each, IsInstance}
-use Rattle.smv_language.specs.Flat.{FlatInstance}
+use Rattle.smv_language.specs.Language.{Text, Formula, DeclaredTree, boolean, range, members, instance, ModuleTree, ProgramTree, Place, Role, Kind, a_formal, a_variable, an_instance, undeclared, kind_declared, kind_in, kind_in_sections, formal_from, kind_at, module_of_kind, module_at, find_module, Each, IsInstance, FlatInstance, same_text, is_among}
+use Rattle.smv_language.specs.Scope.{a_define}
 use Rattle.smv_flat_laws.specs.Items.{Item, a_declaration, a_definition, an_assignment, some_constants, an_init, an_invar, a_trans, NumberedItem, items_of, items_named, items_found, numbered_from, modules_from, Visit, visits_inside, visits_of, walk_items, walk, visits, instance_declared, instances_of_visit, instances_of}
 use Rattle.smv_flat_laws.specs.Rules.{is_missing_instance, is_miscounted, is_on_path, no_such_module, wrong_count, module_loop, visit_sites, IsKept, IsWalkable}
 use Rattle.smv_flat_laws.proofs.Reaches.{each_left, each_right}
@@ -12,7 +10,6 @@ use Rattle.smv_flat_laws.proofs.Conditions.{each_join, each_at}
 use Rattle.smv_flat_laws.proofs.Sections.{AreInstances}
 use Rattle.smv_flat_laws.proofs.KindLaws.{no_formal_instance, ItemFacts, kind_of_declaration, sections_kind, DeclaredBy, declared_by, all_facts, found_facts}
 use Rattle.smv_flat_laws.proofs.Pigeons.{IsThere, AreApart, no_more_names}
-use Rattle.smv_language.specs.Texts.{same_text, is_among}
 use Rattle.std.proofs.lemmas.Bool.{false_from_ne_true as not_true}
 use Rattle.base_values.proofs.ListLaws.{get_left}
 

@@ -2,10 +2,9 @@
 use Rattle.std.proofs.Common.{◌≡◌, ℕ, zero, suc, ◌+◌, arith, true, false, List, [], ◌∷◌, ◌++◌, Option, Some, None, refl, sym, ◌∙◌, ap, subst}
 use Rattle.smv_language.specs.declared.expr.Op.{Op}
 use Rattle.smv_language.specs.declared.expr.Op.TheVariants as op
-use Rattle.smv_language.specs.Tree.{Tree, Trees, Branches, truth as is_truth, number as is_number, leaf, not_of, negate, next_of, binary, choice, case_of, set_of, span, no_tree, tree_then, no_branch, branch_then}
-use Rattle.smv_language.specs.Values.{truth, number, symbol, Values, no_value, one, from_to, either}
-use Rattle.smv_language.specs.Evaluate.{Leaves, gives_not, gives_negative, gives_either, gives_within, gives_applied, gives_binary, gives_choice, evaluate, evaluate_trees, evaluate_branches}
-use Rattle.smv_language.specs.Trace.{Each}
+use Rattle.smv_language.specs.Language.{Tree, Trees, Branches, leaf, not_of, negate, next_of, binary, choice, case_of, set_of, span, no_tree, tree_then, no_branch, branch_then, symbol, Values, no_value, one, from_to, either, Leaves, gives_not, gives_negative, gives_either, gives_within, gives_applied, gives_binary, gives_choice, evaluate, evaluate_trees, evaluate_branches, Each}
+use Rattle.smv_language.specs.Tree.{truth as is_truth, number as is_number}
+use Rattle.smv_language.specs.Values.{truth, number}
 use Rattle.smv_language.proofs.Monotone.{Extends, evaluate_below, trees_below, branches_below}
 use Rattle.smv_flat_laws.specs.NameResolution.{leaves_in, trees_leaves, branches_leaves}
 

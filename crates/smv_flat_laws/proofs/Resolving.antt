@@ -1,17 +1,10 @@
 -- A resolved expression has exactly the values of the written one at its instance.
 use Rattle.std.proofs.Common.{◌≡◌, ℕ, zero, suc, ◌+◌, ◌<◌, arith, false, List, [], ◌∷◌, Option, Some, None, refl, sym, ◌∙◌, ap, subst}
 use Rattle.std.specs.Prelude.{slice_get, ◌↔◌}
-use Rattle.smv_language.specs.Tree.{Tree}
-use Rattle.smv_language.specs.ProgramTree.{Path, Formula, ProgramTree}
-use Rattle.smv_language.specs.Leaves.{tree_map}
-use Rattle.smv_language.specs.Values.{Value, Values, one}
-use Rattle.smv_language.specs.Evaluate.{Leaves, evaluate}
-use Rattle.smv_language.specs.Scope.{Place, Key, Meaning, a_variable_at, an_expression_at, an_instance_at, a_symbol, means_in}
-use Rattle.smv_language.specs.May.{Valuation, values_of_meaning, name_values, May}
-use Rattle.smv_language.specs.Trace.{Each}
+use Rattle.smv_language.specs.Language.{Tree, Path, Formula, ProgramTree, tree_map, Value, Values, one, Leaves, evaluate, Place, Key, Meaning, a_variable_at, an_expression_at, an_instance_at, means_in, Valuation, values_of_meaning, name_values, May, Each, FlatLeaf, flat_variable, flat_symbol, flat_definition, FlatFormula, FlatModel, one_of, symbol_of, leaves_at, FlatGives, FlatMay, Numbers}
+use Rattle.smv_language.specs.Scope.{a_symbol}
 use Rattle.smv_language.proofs.Monotone.{means_more, name_values_more}
 use Rattle.smv_language.proofs.Substituted.{evaluate_map}
-use Rattle.smv_language.specs.Flat.{FlatLeaf, flat_variable, flat_symbol, flat_definition, FlatFormula, FlatModel, one_of, symbol_of, leaves_at, FlatGives, FlatMay, Numbers}
 use Rattle.smv_flat_laws.specs.NameResolution.{leaves_in, has_next, Definition, StandsFor, IsLeafOf, Resolver, IsSound, IsResolved, IsBefore, AreDefinitions, leaf_gives}
 use Rattle.smv_flat_laws.proofs.Reaches.{stays_on, IsChain, BothReach, tree_reaches, tree_stays}
 use Rattle.smv_flat_laws.proofs.Lists.{each_map, each_of_map, each_more, leaves_map}

@@ -3,16 +3,11 @@ use Rattle.std.proofs.Common.{◌≡◌, ℕ, suc, ◌+◌, Bool, true, false, L
 use Rattle.std.specs.Prelude.{slice_get, map, flat_map, ◌↔◌, length}
 use Rattle.smv_language.specs.declared.program.Moment.{Moment}
 use Rattle.smv_language.specs.declared.program.Moment.TheVariants.{Always, First, After}
-use Rattle.smv_language.specs.ProgramTree.{Text, Path, Formula, DeclaredTree, boolean, range, members, instance, DeclTree, AssignmentTree, SectionTree, var, ivar, frozen, define, constants, assign, init, invar, trans, ModuleTree, ProgramTree}
-use Rattle.smv_language.specs.Scope.{Place, state, input, frozen_role, find_module}
-use Rattle.smv_language.specs.May.{Valuation}
-use Rattle.smv_language.specs.Trace.{Keeps, Each, IsInstance, FirstAssigned, FirstSection, EachAssigned, EachSection, NextAssigned, StepSection, IsStep}
-use Rattle.smv_language.specs.Flat.{FlatInstance, FlatModel}
+use Rattle.smv_language.specs.Language.{Text, Path, Formula, DeclaredTree, boolean, range, members, instance, DeclTree, AssignmentTree, SectionTree, var, ivar, frozen, define, constants, assign, init, invar, trans, ModuleTree, ProgramTree, Place, state, input, frozen_role, find_module, Valuation, Keeps, Each, IsInstance, FirstAssigned, FirstSection, EachAssigned, EachSection, NextAssigned, StepSection, IsStep, FlatInstance, FlatModel, same_text}
 use Rattle.smv_flat_laws.specs.Items.{Item, a_declaration, a_definition, an_assignment, NumberedItem, items_of_section, items_of, numbered_from, modules_from, items_found, items_named, instances_of}
 use Rattle.smv_flat_laws.specs.Model.{Condition, kept_declared, assigned_first, assigned_each, assigned_step, first_conditions, each_conditions, step_conditions, kept_conditions, Written, written_at, conditions, IsFlatOf, IsFlattened}
 use Rattle.smv_flat_laws.proofs.Reaches.{each_left, each_right}
 use Rattle.smv_flat_laws.proofs.Conditions.{each_iff, each_join, each_flat, each_mapped, each_at, each_from, Asks, formulas_exactly}
-use Rattle.smv_language.specs.Texts.{same_text}
 use Rattle.smv_language.proofs.BoolLaws.{iff_trans}
 
 -- the listed instances are those of the program

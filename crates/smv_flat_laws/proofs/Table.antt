@@ -1,11 +1,7 @@
 -- What a flat definition gives is what its expression gives.
 use Rattle.std.proofs.Common.{◌≡◌, ℕ, zero, suc, ◌+◌, arith, List, [], ◌∷◌, ◌++◌, length, Option, Some, refl, sym, ◌∙◌, ap, subst}
 use Rattle.std.specs.Prelude.{slice_get}
-use Rattle.smv_language.specs.ProgramTree.{Text}
-use Rattle.smv_language.specs.Values.{Value, Values}
-use Rattle.smv_language.specs.Evaluate.{evaluate}
-use Rattle.smv_language.specs.Trace.{Each}
-use Rattle.smv_language.specs.Flat.{FlatLeaf, flat_variable, flat_symbol, flat_definition, FlatFormula, FlatModel, given, flat_leaves, definition_gives, table_after, leaves_at}
+use Rattle.smv_language.specs.Language.{Text, Value, Values, evaluate, Each, FlatLeaf, flat_variable, flat_symbol, flat_definition, FlatFormula, FlatModel, given, flat_leaves, definition_gives, table_after, leaves_at}
 use Rattle.smv_flat_laws.specs.NameResolution.{leaves_in, IsBefore}
 use Rattle.smv_flat_laws.proofs.Lists.{get_end, length_end, each_more}
 use Rattle.smv_flat_laws.proofs.Now.{BothSame, same_on}

@@ -1,10 +1,8 @@
 -- The flat variables are the variables of the program's instances.
 use Rattle.std.proofs.Common.{◌≡◌, ℕ, zero, suc, Bool, true, false, List, [], ◌∷◌, Option, Some, None, refl, sym, ◌∙◌, ap, subst}
 use Rattle.std.specs.Prelude.{slice_get, flat_map, codes, ◌↔◌}
-use Rattle.smv_language.specs.ProgramTree.{Text, DeclaredTree, boolean, range, members, instance, DeclTree, ModuleTree, ProgramTree}
-use Rattle.smv_language.specs.Scope.{Place, Role, Kind, a_variable, a_define, kind_declared, kind_in_sections, formal_from, kind_after_formals, find_module}
-use Rattle.smv_language.specs.Trace.{Each, IsVariable, EachBoth}
-use Rattle.smv_language.specs.Flat.{FlatVariable, FlatModel}
+use Rattle.smv_language.specs.Language.{Text, DeclaredTree, boolean, range, members, instance, DeclTree, ModuleTree, ProgramTree, Place, Role, Kind, a_variable, kind_declared, kind_in_sections, formal_from, kind_after_formals, find_module, Each, IsVariable, EachBoth, FlatVariable, FlatModel, same_text}
+use Rattle.smv_language.specs.Scope.{a_define}
 use Rattle.smv_flat_laws.specs.Items.{Item, a_declaration, a_definition, an_assignment, some_constants, an_init, an_invar, a_trans, NumberedItem, items_of, items_named, Visit, visits_of, walk, visits, variable_declared, variables_of}
 use Rattle.smv_flat_laws.specs.Rules.{IsWalkable}
 use Rattle.smv_flat_laws.specs.Model.{IsVariableOf, IsFlatOf}
@@ -12,7 +10,6 @@ use Rattle.smv_flat_laws.proofs.Conditions.{each_join, each_at}
 use Rattle.smv_flat_laws.proofs.KindLaws.{kind_in_items, sections_kind}
 use Rattle.smv_flat_laws.proofs.Places.{In, in_flat, Real, Walked, in_items, found_at, walked, has_main}
 use Rattle.smv_flat_laws.proofs.Walkable.{main_is_there}
-use Rattle.smv_language.specs.Texts.{same_text}
 use Rattle.smv_language.proofs.OneTree.{same_text_equal}
 
 -- a variable is declared by an item

@@ -1,9 +1,7 @@
 -- Programs that keep the rules of modules and of the walk: accepted ones among them, and what is left to be kept.
 use Rattle.std.proofs.Common.{◌≡◌, Option, Some, None, [], ◌++◌, refl}
 use Rattle.std.specs.Prelude.{codes}
-use Rattle.smv_language.specs.ProgramTree.{ModuleTree, ProgramTree}
-use Rattle.smv_language.specs.Scope.{find_module}
-use Rattle.smv_language.specs.Trace.{Each}
+use Rattle.smv_language.specs.Language.{ModuleTree, ProgramTree, find_module, Each}
 use Rattle.smv_flat_laws.specs.Items.{visits}
 use Rattle.smv_flat_laws.specs.Rules.{no_main, module_sites, visit_sites, use_sites, IsKept, IsWalkable, IsAccepted}
 use Rattle.smv_flat_laws.proofs.Reaches.{each_left, each_right}

@@ -1,10 +1,8 @@
 -- The traces of a flat model, and what its history bits say of them.
 use Rattle.std.specs.Prelude.{◌≡◌, ◌↔◌, ℕ, ◌<◌, Bool, false, ◌||◌, IsTrue, List, [], ◌∷◌, ◌++◌, length, map, Option, Some, slice_get}
-use Rattle.smv_language.specs.ProgramTree.{Text}
-use Rattle.smv_language.specs.Values.{Value, truth, symbol}
-use Rattle.smv_language.specs.Texts.{same_text}
-use Rattle.smv_language.specs.Trace.{Each, EachPair, AtFirst, in_domain}
-use Rattle.smv_language.specs.Flat.{FlatLeaf, flat_variable, flat_symbol, flat_definition, FlatVariable, FlatFormula, FlatModel, Holds}
+use Rattle.smv_language.specs.Language.{Text, Value, symbol, same_text, Each, EachPair, AtFirst, in_domain, FlatLeaf, flat_variable}
+use Rattle.smv_language.specs.Language.{flat_symbol, flat_definition, FlatVariable, FlatFormula, FlatModel, Holds}
+use Rattle.smv_language.specs.Values.{truth}
 use Rattle.smv_flat_laws.specs.NameResolution.{leaves_in}
 use Rattle.smv_flat_laws.specs.History.{Mode, with_history}
 

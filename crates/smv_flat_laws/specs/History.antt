@@ -1,10 +1,8 @@
 -- A flat model with one more boolean for each fault, which is TRUE from the moment on at which the fault's mode stands.
 use Rattle.std.specs.Prelude.{ℕ, suc, List, [], ◌∷◌, ◌++◌, codes, decimal, length}
 use Rattle.smv_language.specs.declared.expr.Op.TheVariants as op
-use Rattle.smv_language.specs.Tree.{Tree, leaf, next_of, binary}
-use Rattle.smv_language.specs.ProgramTree.{Text, boolean}
-use Rattle.smv_language.specs.Scope.{state}
-use Rattle.smv_language.specs.Flat.{FlatLeaf, flat_variable, flat_symbol, FlatVariable, FlatFormula, FlatModel}
+use Rattle.smv_language.specs.Language.{Tree, leaf, next_of, binary, Text, boolean, state, FlatLeaf, flat_variable, flat_symbol}
+use Rattle.smv_language.specs.Language.{FlatVariable, FlatFormula, FlatModel}
 
 -- a mode, by the number of its variable and that of the symbol that it has while the mode stands
 pub record Mode : Type 0 where

@@ -1,10 +1,8 @@
 -- The items of a program with their numbers, and the walk over its instances, depth first by items.
 use Rattle.std.specs.Prelude.{ℕ, zero, suc, ◌+◌, List, [], ◌∷◌, ◌++◌, codes, length, map, flat_map, if◌then◌else◌}
-use Rattle.smv_language.specs.ProgramTree.{Text, Formula, DeclaredTree, instance, DeclTree, DefineTree, AssignmentTree, SectionTree, var}
-use Rattle.smv_language.specs.ProgramTree.{ivar, frozen, define, constants, assign, init, invar, trans, ModuleTree, ProgramTree}
-use Rattle.smv_language.specs.Scope.{Place, Role, state, input, frozen_role}
-use Rattle.smv_language.specs.Flat.{FlatInstance}
-use Rattle.smv_language.specs.Texts.{same_text, is_among}
+use Rattle.smv_language.specs.Language.{Text, Formula, DeclaredTree, instance, DeclTree, DefineTree, AssignmentTree, SectionTree, var, ivar}
+use Rattle.smv_language.specs.Language.{frozen, define, constants, assign, init, invar, trans, ModuleTree, ProgramTree, Place, Role, state}
+use Rattle.smv_language.specs.Language.{input, frozen_role, FlatInstance, same_text, is_among}
 
 -- what stands below a module's header, one declaration, definition, assignment or formula each; constants are one item
 pub data Item : Type 0 where

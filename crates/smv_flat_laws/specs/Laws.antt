@@ -1,11 +1,7 @@
 -- The laws of flattening, as statements.
 use Rattle.std.specs.Prelude.{◌≡◌, ◌↔◌, ℕ, Some, List, length, slice_get}
-use Rattle.smv_language.specs.ProgramTree.{Text, DeclaredTree, ProgramTree}
-use Rattle.smv_language.specs.Scope.{Place, Role}
-use Rattle.smv_language.specs.Values.{Value}
-use Rattle.smv_language.specs.May.{Valuation}
-use Rattle.smv_language.specs.Trace.{IsVariable}
-use Rattle.smv_language.specs.Flat.{FlatVariable, FlatModel, Numbers}
+use Rattle.smv_language.specs.Language.{Text, DeclaredTree, ProgramTree, Place, Role, Value, Valuation, IsVariable, FlatVariable, FlatModel}
+use Rattle.smv_language.specs.Language.{Numbers}
 use Rattle.smv_flat_laws.specs.Rules.{Rule, number_of, IsFirstBroken, IsWalkable, IsAccepted}
 use Rattle.smv_flat_laws.specs.Model.{KeysDiffer, IsFlatOf, IsFlattened}
 

@@ -1,10 +1,9 @@
 -- A look-up step by step, and when it comes back to a formal.
 use Rattle.std.specs.Prelude.{◌≡◌, ℕ, zero, suc, List, [], ◌∷◌, ◌++◌, Option, Some, None}
-use Rattle.smv_language.specs.Tree.{leaf}
-use Rattle.smv_language.specs.ProgramTree.{Text, Path, Formula, ModuleTree, ProgramTree}
-use Rattle.smv_language.specs.Trace.{IsInstance}
-use Rattle.smv_language.specs.Scope.{Place, Kind, a_formal, a_variable, a_define, an_instance, undeclared, plain_name, nth_formula, kind_in}
-use Rattle.smv_language.specs.Scope.{kind_at, module_at, actual_of_kind, means_in, Meaning, Means}
+use Rattle.smv_language.specs.Language.{leaf, Text, Path, Formula, ModuleTree, ProgramTree, IsInstance, Place, Kind, a_formal, a_variable}
+use Rattle.smv_language.specs.Language.{an_instance, undeclared, plain_name, nth_formula, kind_in, kind_at, module_at, actual_of_kind}
+use Rattle.smv_language.specs.Language.{means_in, Meaning, Means}
+use Rattle.smv_language.specs.Scope.{a_define}
 
 -- a name that is looked up at an instance
 pub record Look : Type 0 where

@@ -6,18 +6,14 @@ use Rattle.smv_language.specs.declared.program.Moment.{Moment}
 use Rattle.smv_language.specs.declared.program.Moment.TheVariants.{Always, First, After}
 use Rattle.smv_language.specs.declared.program.Member.{Member}
 use Rattle.smv_language.specs.declared.program.Member.TheVariants as member
-use Rattle.smv_language.specs.Tree.{Tree, leaf, next_of, binary}
-use Rattle.smv_language.specs.ProgramTree.{ModuleTree, Text, Path, Formula, DeclaredTree, members, instance, ProgramTree}
-use Rattle.smv_language.specs.Values.{Value}
-use Rattle.smv_language.specs.Scope.{Place, frozen_role, Key, define_key, actual_key, Meaning, an_expression_at, Means, plain_name}
-use Rattle.smv_language.specs.May.{Valuation}
-use Rattle.smv_language.specs.Trace.{Each, IsFirst, IsInvariant, IsStep, EachBoth}
-use Rattle.smv_language.specs.Flat.{FlatLeaf, flat_variable, FlatInstance, FlatVariable, FlatFormula, FlatModel, Holds, Numbers}
+use Rattle.smv_language.specs.Language.{Tree, leaf, next_of, binary, ModuleTree, Text, Path, Formula, DeclaredTree, members, instance}
+use Rattle.smv_language.specs.Language.{ProgramTree, Value, Place, frozen_role, Key, define_key, actual_key, Meaning, an_expression_at}
+use Rattle.smv_language.specs.Language.{Means, plain_name, Valuation, Each, IsFirst, IsInvariant, IsStep, EachBoth, FlatLeaf, flat_variable}
+use Rattle.smv_language.specs.Language.{FlatInstance, FlatVariable, FlatFormula, FlatModel, Holds, Numbers, same_text, is_among}
 use Rattle.smv_flat_laws.specs.NameResolution.{leaves_in, Definition, Resolver, IsSound, IsResolved, AreDefinitions}
 use Rattle.smv_flat_laws.specs.Items.{Item, a_declaration, a_definition, an_assignment, some_constants, an_init, an_invar, a_trans}
 use Rattle.smv_flat_laws.specs.Items.{NumberedItem, items_named, items_of, Visit, instances_of, variables_of}
 use Rattle.smv_flat_laws.specs.Rules.{expression_of}
-use Rattle.smv_language.specs.Texts.{same_text, is_among}
 
 -- what an item asks at an instance: an expression is TRUE, a variable has now or next one of an expression's values, or keeps its own
 pub data Condition : Type 0 where

@@ -1,14 +1,11 @@
 -- What a written name is in a flat model, and when a flat expression is a written one with its names resolved.
 use Rattle.std.specs.Prelude.{◌≡◌, ℕ, ◌<◌, Bool, true, false, ◌||◌, List, [], ◌∷◌, ◌++◌, Option, Some, None, slice_get}
-use Rattle.smv_language.specs.Tree.{Tree, Trees, Branches, truth, number, leaf, not_of, negate, next_of, binary, choice, case_of, set_of}
-use Rattle.smv_language.specs.Tree.{span, no_tree, tree_then, no_branch, branch_then}
-use Rattle.smv_language.specs.ProgramTree.{Path, Formula, ProgramTree}
-use Rattle.smv_language.specs.Evaluate.{Leaves}
-use Rattle.smv_language.specs.Values.{Values}
-use Rattle.smv_language.specs.Leaves.{tree_map}
-use Rattle.smv_language.specs.Scope.{Place, Key, Meaning, a_variable_at, an_expression_at, a_symbol, Means}
-use Rattle.smv_language.specs.Trace.{Each}
-use Rattle.smv_language.specs.Flat.{FlatLeaf, flat_variable, flat_symbol, flat_definition, FlatVariable, FlatFormula, FlatModel}
+use Rattle.smv_language.specs.Language.{Tree, Trees, Branches, leaf, not_of, negate, next_of, binary, choice, case_of, set_of, span}
+use Rattle.smv_language.specs.Language.{no_tree, tree_then, no_branch, branch_then, Path, Formula, ProgramTree, Leaves, Values, tree_map}
+use Rattle.smv_language.specs.Language.{Place, Key, Meaning, a_variable_at, an_expression_at, Means, Each, FlatLeaf, flat_variable}
+use Rattle.smv_language.specs.Language.{flat_symbol, flat_definition, FlatVariable, FlatFormula, FlatModel}
+use Rattle.smv_language.specs.Tree.{truth, number}
+use Rattle.smv_language.specs.Scope.{a_symbol}
 
 -- the leaves of a tree, left to right
 abbrev mutual

@@ -1,8 +1,5 @@
 -- What an expression is at an instance of a program's flat model.
-use Rattle.smv_language.specs.Tree.{Tree}
-use Rattle.smv_language.specs.ProgramTree.{Formula, ProgramTree}
-use Rattle.smv_language.specs.Scope.{Place}
-use Rattle.smv_language.specs.Flat.{FlatLeaf, FlatModel}
+use Rattle.smv_language.specs.Language.{Tree, Formula, ProgramTree, Place, FlatLeaf, FlatModel}
 use Rattle.smv_flat_laws.specs.NameResolution.{Resolver, IsSound, IsResolved}
 use Rattle.smv_flat_laws.specs.Model.{IsFlatOf}
 

@@ -4,22 +4,19 @@ use Rattle.std.specs.Prelude.{Some, None, codes, length, map, flat_map, slice_ge
 use Rattle.base_values.specs.declared.limits.TheConstants.{MOST_INSTANCES, MOST_VARIABLES}
 use Rattle.smv_language.specs.declared.program.Moment.{Moment}
 use Rattle.smv_language.specs.declared.program.Moment.TheVariants.{Always, First, After}
-use Rattle.smv_language.specs.Tree.{Tree, Trees, Branches, truth, number, leaf, not_of, negate, next_of, binary, choice, case_of, set_of}
-use Rattle.smv_language.specs.Tree.{span, no_tree, tree_then, no_branch, branch_then}
-use Rattle.smv_language.specs.ProgramTree.{Text, Path, Formula, DeclaredTree, boolean, range, members, instance, AssignmentTree, ModuleTree}
-use Rattle.smv_language.specs.ProgramTree.{ProgramTree}
-use Rattle.smv_language.specs.Values.{opposite}
-use Rattle.smv_language.specs.Scope.{Place, state, input, frozen_role, Kind, a_variable, a_define, Key, define_key, actual_key, is_missing}
-use Rattle.smv_language.specs.Scope.{a_variable_at, an_expression_at, an_instance_at, Means, find_module, kind_at, module_at}
-use Rattle.smv_language.specs.Scope.{actual_of_kind, plain_name}
-use Rattle.smv_language.specs.Trace.{Each, AtSome}
-use Rattle.smv_language.specs.Flat.{FlatInstance}
+use Rattle.smv_language.specs.Language.{Tree, Trees, Branches, leaf, not_of, negate, next_of, binary, choice, case_of, set_of, span}
+use Rattle.smv_language.specs.Language.{no_tree, tree_then, no_branch, branch_then, Text, Path, Formula, DeclaredTree, boolean, range}
+use Rattle.smv_language.specs.Language.{members, instance, AssignmentTree, ModuleTree, ProgramTree, opposite, Place, state, input}
+use Rattle.smv_language.specs.Language.{frozen_role, Kind, a_variable, Key, define_key, actual_key, is_missing, a_variable_at}
+use Rattle.smv_language.specs.Language.{an_expression_at, an_instance_at, Means, find_module, kind_at, module_at, actual_of_kind}
+use Rattle.smv_language.specs.Language.{plain_name, Each, AtSome, FlatInstance, same_text, is_among}
+use Rattle.smv_language.specs.Tree.{truth, number}
+use Rattle.smv_language.specs.Scope.{a_define}
 use Rattle.smv_flat_laws.specs.NameResolution.{leaves_in, has_next}
 use Rattle.smv_flat_laws.specs.Items.{Item, a_declaration, a_definition, an_assignment, some_constants, an_init, an_invar, a_trans}
 use Rattle.smv_flat_laws.specs.Items.{NumberedItem, NumberedModule, modules_of, numbered_items, items_named, Visit, visits, instances_of}
 use Rattle.smv_flat_laws.specs.Items.{instance_declared, variable_declared}
 use Rattle.smv_flat_laws.specs.Looks.{ComesBack, MeansNothing}
-use Rattle.smv_language.specs.Texts.{same_text, is_among}
 
 -- the fourteen rules of names, in the order of their numbers
 pub data Rule : Type 0 where

@@ -1,8 +1,6 @@
 -- Which rules an expression breaks as the value of a DEFINE of an instance.
 use Rattle.std.specs.Prelude.{◌≡◌, ◌<◌, Bool, true, false}
-use Rattle.smv_language.specs.ProgramTree.{Formula, ProgramTree}
-use Rattle.smv_language.specs.Scope.{Place}
-use Rattle.smv_language.specs.Trace.{AtSome}
+use Rattle.smv_language.specs.Language.{Formula, ProgramTree, Place, AtSome}
 use Rattle.smv_flat_laws.specs.NameResolution.{leaves_in, has_next}
 use Rattle.smv_flat_laws.specs.Rules.{Rule, number_of, no_such_name, next_here, input_here, SomeHasNoValue, GivesInput}
 

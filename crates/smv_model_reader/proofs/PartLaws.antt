@@ -3,12 +3,11 @@ use Rattle.std.proofs.Common.{◌≡◌, ℕ, suc, ◌+◌, ◌-◌, ◌<◌, �
 use Rattle.std.specs.Prelude.{if◌then◌else◌}
 use Rattle.std.proofs.lemmas.List.{map-append}
 use Rattle.smv_language.specs.declared.program.Section.{Section}
-use Rattle.smv_language.specs.ProgramTree.{SectionTree, section_tree}
-use Rattle.smv_language.specs.Lexemes.{Lexeme}
-use Rattle.smv_expression_reader.specs.Marks.{w_skipped}
+use Rattle.smv_language.specs.Language.{SectionTree, section_tree, Lexeme}
 use Rattle.smv_expression_reader.specs.SecondPass.{Read, got, deep, none, and_then, with_front, mark_at, rest_of, has_next, is_past}
 use Rattle.smv_model_reader.specs.ProgramParts.{past_skipped, section_at, is_kept, sections_at}
 use Rattle.smv_expression_reader.proofs.ReadLaws.{front_next}
+use Rattle.smv_expression_reader.specs.declared.mark.Mark.TheVariants as mark
 
 -- one lexeme more is passed over
 pub skipped_more : (ts : List Lexeme) → is_past ts ≡ false → past_skipped (rest_of ts) ≡ past_skipped ts
@@ -24,13 +23,13 @@ skipped_spent [] i most h e = refl
 skipped_spent (t ∷ ts) i most h e = absurd (omega (arith, h, e))
 
 sections_more : (n i : ℕ) (ts : List Lexeme) → i < n → sections_at (n - i) ts ≡
-    (if has_next w_skipped ts then sections_at (n - (i + 1)) (past_skipped (rest_of ts)) else
+    (if has_next mark.Skipped ts then sections_at (n - (i + 1)) (past_skipped (rest_of ts)) else
     (if is_kept (mark_at ts) then and_then (section_at (mark_at ts) (rest_of ts)) (λ a r. and_then (sections_at (n - (i + 1)) r) (λ more s. got (a ∷ more) s)) else got [] ts))
 sections_more n i ts h = let e : n - i ≡ suc (n - (i + 1)) = omega (arith, h) in ap (λ m. sections_at m ts) e
 
 -- a section is passed over
 pub sections_skip : (whole : Read (List SectionTree)) (xs : List SectionTree) (n i : ℕ) (ts r : List Lexeme) → whole ≡ with_front xs (sections_at (n - i) ts) → i < n →
-    has_next w_skipped ts ≡ true → r ≡ past_skipped (rest_of ts) → whole ≡ with_front xs (sections_at (n - (i + 1)) r)
+    has_next mark.Skipped ts ≡ true → r ≡ past_skipped (rest_of ts) → whole ≡ with_front xs (sections_at (n - (i + 1)) r)
 sections_skip whole xs n i ts r before h skip left =
     before ∙ ap (with_front xs) (sections_more n i ts h
     ∙ ap (λ b. if b then sections_at (n - (i + 1)) (past_skipped (rest_of ts)) else
@@ -38,7 +37,7 @@ sections_skip whole xs n i ts r before h skip left =
     ∙ ap (sections_at (n - (i + 1))) (sym left))
 
 section_reads : (whole : Read (List SectionTree)) (xs : List SectionTree) (n i : ℕ) (ts : List Lexeme) (y : Read SectionTree) → whole ≡ with_front xs (sections_at (n - i) ts) → i < n →
-    has_next w_skipped ts ≡ false → is_kept (mark_at ts) ≡ true → section_at (mark_at ts) (rest_of ts) ≡ y →
+    has_next mark.Skipped ts ≡ false → is_kept (mark_at ts) ≡ true → section_at (mark_at ts) (rest_of ts) ≡ y →
     whole ≡ with_front xs (and_then y (λ a r. and_then (sections_at (n - (i + 1)) r) (λ more s. got (a ∷ more) s)))
 section_reads whole xs n i ts y before h plain kept read =
     before ∙ ap (with_front xs) (sections_more n i ts h
@@ -49,7 +48,7 @@ section_reads whole xs n i ts y before h plain kept read =
 
 -- a section is read
 pub sections_next : (whole : Read (List SectionTree)) (xs ys : List Section) (n i : ℕ) (ts r : List Lexeme) (v : Section) → whole ≡ with_front (map section_tree xs) (sections_at (n - i) ts) → i < n →
-    has_next w_skipped ts ≡ false → is_kept (mark_at ts) ≡ true → section_at (mark_at ts) (rest_of ts) ≡ got (section_tree v) r → ys ≡ xs ++ v ∷ [] →
+    has_next mark.Skipped ts ≡ false → is_kept (mark_at ts) ≡ true → section_at (mark_at ts) (rest_of ts) ≡ got (section_tree v) r → ys ≡ xs ++ v ∷ [] →
     whole ≡ with_front (map section_tree ys) (sections_at (n - (i + 1)) r)
 sections_next whole xs ys n i ts r v before h plain kept read more =
     section_reads whole (map section_tree xs) n i ts (got (section_tree v) r) before h plain kept read
@@ -58,7 +57,7 @@ sections_next whole xs ys n i ts r v before h plain kept read more =
 
 -- no section begins
 pub sections_end : (whole : Read (List SectionTree)) (xs : List SectionTree) (n i : ℕ) (ts : List Lexeme) → whole ≡ with_front xs (sections_at (n - i) ts) → i < n →
-    has_next w_skipped ts ≡ false → is_kept (mark_at ts) ≡ false → whole ≡ got xs ts
+    has_next mark.Skipped ts ≡ false → is_kept (mark_at ts) ≡ false → whole ≡ got xs ts
 sections_end whole xs n i ts before h plain stops =
     before ∙ ap (with_front xs) (sections_more n i ts h
     ∙ ap (λ b. if b then sections_at (n - (i + 1)) (past_skipped (rest_of ts)) else
@@ -67,9 +66,9 @@ sections_end whole xs n i ts before h plain stops =
     ∙ ap (λ z. got z ts) (append-nil xs)
 
 pub sections_deep : (whole : Read (List SectionTree)) (xs : List SectionTree) (n i : ℕ) (ts : List Lexeme) → whole ≡ with_front xs (sections_at (n - i) ts) → i < n →
-    has_next w_skipped ts ≡ false → is_kept (mark_at ts) ≡ true → section_at (mark_at ts) (rest_of ts) ≡ deep → whole ≡ deep
+    has_next mark.Skipped ts ≡ false → is_kept (mark_at ts) ≡ true → section_at (mark_at ts) (rest_of ts) ≡ deep → whole ≡ deep
 sections_deep whole xs n i ts before h plain kept read = section_reads whole xs n i ts deep before h plain kept read
 
 pub sections_none : (whole : Read (List SectionTree)) (xs : List SectionTree) (n i : ℕ) (ts : List Lexeme) → whole ≡ with_front xs (sections_at (n - i) ts) → i < n →
-    has_next w_skipped ts ≡ false → is_kept (mark_at ts) ≡ true → section_at (mark_at ts) (rest_of ts) ≡ none → whole ≡ none
+    has_next mark.Skipped ts ≡ false → is_kept (mark_at ts) ≡ true → section_at (mark_at ts) (rest_of ts) ≡ none → whole ≡ none
 sections_none whole xs n i ts before h plain kept read = section_reads whole xs n i ts none before h plain kept read

@@ -9,16 +9,11 @@ use Rattle.smv_language.specs.declared.program.Member.{Member}
 use Rattle.smv_language.specs.declared.program.Member.TheVariants as mem
 use Rattle.smv_language.specs.declared.program.Moment.{Moment}
 use Rattle.smv_language.specs.declared.program.Moment.TheVariants.{Always, First, After}
-use Rattle.smv_language.specs.ProgramTree.{Text, Path, Formula, DeclaredTree, instance, members, range, DeclTree, DefineTree, AssignmentTree, SectionTree, var, ivar, frozen, define, constants, assign, init, invar, trans, ModuleTree, ProgramTree}
-use Rattle.smv_language.specs.Lexemes.{Lexeme, word, num, sign, is_reserved, lexemes_of}
-use Rattle.smv_language.specs.Spells.{plain_int, minus_int, SpellsDotted, one_name, more_names}
+use Rattle.smv_language.specs.Language.{Text, Path, Formula, DeclaredTree, instance, members, range, DeclTree, DefineTree, AssignmentTree, SectionTree, var, ivar, frozen, define, constants, assign, init, invar, trans, ModuleTree, ProgramTree, Lexeme, word, num, sign, is_reserved, lexemes_of, plain_int, minus_int, SpellsDotted, one_name, more_names, SpellsMany, no_more, one_more, SpellsCommas, last_one, one_comma, SpellsBracketed, no_brackets, brackets, SpellsName, a_name, SpellsExpr, SpellsMember, SpellsType, is_boolean, is_range, is_members, SpellsDeclared, is_type, is_instance, is_empty_instance, SpellsDecl, declares, SpellsDefine, SpellsTarget, always, first, after, SpellsAssignment, SpellsFormula, open_ended, ended, HasNoSection, SpellsSection, a_var, an_ivar, a_frozen, some_constants, an_assign, an_init, an_invar, a_trans, SpellsSections, no_section, a_section, skipped, SpellsFormals, some_formals, empty_formals, SpellsModule, a_module, SpellsProgram, BytesSpellProgram}
 use Rattle.smv_language.specs.SpellsProgram as g
-use Rattle.smv_language.specs.SpellsProgram.{SpellsMany, no_more, one_more, SpellsCommas, last_one, one_comma, SpellsBracketed, no_brackets, brackets, SpellsName, a_name, SpellsExpr, SpellsMember, a_symbol, SpellsType, is_boolean, is_range, is_members, SpellsDeclared, is_type, is_instance, is_empty_instance, SpellsDecl, declares, SpellsDefine, SpellsTarget, always, first, after, SpellsAssignment, SpellsFormula, open_ended, ended, HasNoSection, SpellsSection, a_var, an_ivar, a_frozen, a_define, some_constants, an_assign, an_init, an_invar, a_trans, SpellsSections, no_section, a_section, skipped, SpellsFormals, some_formals, empty_formals, SpellsModule, a_module, SpellsProgram}
-use Rattle.smv_language.specs.Bytes.{BytesSpellProgram}
+use Rattle.smv_language.specs.SpellsProgram.{a_symbol, a_define}
 use Rattle.smv_expression_reader.specs.Recogniser.{stuck, run, is_whole, start}
-use Rattle.smv_expression_reader.specs.Marks.{Mark, mark_of, w_module, w_skipped, w_first, w_after, s_becomes, s_open, s_close, s_close_brace, s_comma, s_semicolon, s_colon, s_dot}
-use Rattle.smv_expression_reader.specs.Marks as m
-use Rattle.smv_expression_reader.specs.MarkView.{is_mark}
+use Rattle.smv_expression_reader.specs.Marks.{mark_of, is_mark}
 use Rattle.smv_model_reader.specs.Symbols.{IsProgram}
 use Rattle.smv_expression_reader.specs.ExpressionDepths.{Spelling, AreWithin, is_too_deep, are_too_deep, spelling, in_formula, in_many}
 use Rattle.smv_model_reader.specs.ProgramDepths.{in_commas, in_actuals, in_actual, in_declared, in_decl, in_define, in_assignment, in_section, in_sections, in_module, in_program, HasProgramDepths, IsProgramTooDeep}
@@ -29,6 +24,8 @@ use Rattle.smv_expression_reader.proofs.Marks.{Marked, marked, mark_of_name, mar
 use Rattle.smv_expression_reader.proofs.PartsRead.{too_append, mapped, closes_with, each_none_left, cons_answer, each_joined, some_joined, many_read, name_read, int_read, answer_got, answer_deep, answer_none}
 use Rattle.smv_model_reader.proofs.ProgramReads.{section_ends, is_sectional, section_marks}
 use Rattle.smv_expression_reader.proofs.ReadLaws.{ends_expr, read_expr, are_within, within_are}
+use Rattle.smv_expression_reader.specs.declared.mark.Mark.{Mark}
+use Rattle.smv_expression_reader.specs.declared.mark.Mark.TheVariants as mark
 
 -- parts with commas between
 module _ (A : Type 0) (One : List Lexeme → A → Type 0) (one : List Lexeme → Read A) (within : (ts : List Lexeme) (a : A) → One ts a → List Spelling) (ok : List Lexeme → Bool)
@@ -37,28 +34,28 @@ module _ (A : Type 0) (One : List Lexeme → A → Type 0) (one : List Lexeme �
   abbrev next : List Lexeme → Read A
   next z = one (rest_of z)
 
-  commas_more : {us : List Lexeme} {vs : List A} (q : SpellsCommas One us vs) (n : ℕ) (r : List Lexeme) → length us ≤ n → ok r ≡ true → has_next s_comma r ≡ false →
-      each_at (has_next s_comma) next (suc n) (sign k.Comma ∷ (us ++ r)) ≡ answer (are_too_deep (in_commas One within q)) vs r
+  commas_more : {us : List Lexeme} {vs : List A} (q : SpellsCommas One us vs) (n : ℕ) (r : List Lexeme) → length us ≤ n → ok r ≡ true → has_next mark.Comma r ≡ false →
+      each_at (has_next mark.Comma) next (suc n) (sign k.Comma ∷ (us ++ r)) ≡ answer (are_too_deep (in_commas One within q)) vs r
   commas_more (last_one {ts} {a} p) n r h ends off =
-      each_joined (has_next s_comma) next n (sign k.Comma ∷ (ts ++ r)) r (are_too_deep (within ts a p)) false a [] r refl (reads ts a p r ends) (each_none_left (has_next s_comma) next n r off)
+      each_joined (has_next mark.Comma) next n (sign k.Comma ∷ (ts ++ r)) r (are_too_deep (within ts a p)) false a [] r refl (reads ts a p r ends) (each_none_left (has_next mark.Comma) next n r off)
       ∙ ap (λ b. answer b (a ∷ []) r) (or-false (are_too_deep (within ts a p)))
   commas_more (one_comma {ts} {us} {a} {more} p q) zero r h ends off = let size = length-append ts (sign k.Comma ∷ us) in absurd (omega (arith, h, size))
   commas_more (one_comma {ts} {us} {a} {more} p q) (suc n) r h ends off =
       let size = length-append ts (sign k.Comma ∷ us) in
-      ap (λ z. each_at (has_next s_comma) next (suc (suc n)) (sign k.Comma ∷ z)) (append_assoc ts (sign k.Comma ∷ us) r)
-      ∙ each_joined (has_next s_comma) next (suc n) (sign k.Comma ∷ (ts ++ sign k.Comma ∷ (us ++ r))) (sign k.Comma ∷ (us ++ r)) (are_too_deep (within ts a p)) (are_too_deep (in_commas One within q)) a more r
+      ap (λ z. each_at (has_next mark.Comma) next (suc (suc n)) (sign k.Comma ∷ z)) (append_assoc ts (sign k.Comma ∷ us) r)
+      ∙ each_joined (has_next mark.Comma) next (suc n) (sign k.Comma ∷ (ts ++ sign k.Comma ∷ (us ++ r))) (sign k.Comma ∷ (us ++ r)) (are_too_deep (within ts a p)) (are_too_deep (in_commas One within q)) a more r
       refl (reads ts a p (sign k.Comma ∷ (us ++ r)) (comma_ok (us ++ r))) (commas_more q n r (omega (arith, h, size)) ends off)
       ∙ ap (λ b. answer b (a ∷ more) r) (sym (too_append (within ts a p) (in_commas One within q)))
 
-  commas_read : {us : List Lexeme} {vs : List A} (q : SpellsCommas One us vs) (r : List Lexeme) → ok r ≡ true → has_next s_comma r ≡ false →
-      some_at (has_next s_comma) one next (us ++ r) ≡ answer (are_too_deep (in_commas One within q)) vs r
+  commas_read : {us : List Lexeme} {vs : List A} (q : SpellsCommas One us vs) (r : List Lexeme) → ok r ≡ true → has_next mark.Comma r ≡ false →
+      some_at (has_next mark.Comma) one next (us ++ r) ≡ answer (are_too_deep (in_commas One within q)) vs r
   commas_read (last_one {ts} {a} p) r ends off =
-      some_joined (has_next s_comma) one next (ts ++ r) r (are_too_deep (within ts a p)) false a [] r (reads ts a p r ends) (each_none_left (has_next s_comma) next (length r) r off)
+      some_joined (has_next mark.Comma) one next (ts ++ r) r (are_too_deep (within ts a p)) false a [] r (reads ts a p r ends) (each_none_left (has_next mark.Comma) next (length r) r off)
       ∙ ap (λ b. answer b (a ∷ []) r) (or-false (are_too_deep (within ts a p)))
   commas_read (one_comma {ts} {us} {a} {more} p q) r ends off =
       let size = length-append us r in
-      ap (some_at (has_next s_comma) one next) (append_assoc ts (sign k.Comma ∷ us) r)
-      ∙ some_joined (has_next s_comma) one next (ts ++ sign k.Comma ∷ (us ++ r)) (sign k.Comma ∷ (us ++ r)) (are_too_deep (within ts a p)) (are_too_deep (in_commas One within q)) a more r
+      ap (some_at (has_next mark.Comma) one next) (append_assoc ts (sign k.Comma ∷ us) r)
+      ∙ some_joined (has_next mark.Comma) one next (ts ++ sign k.Comma ∷ (us ++ r)) (sign k.Comma ∷ (us ++ r)) (are_too_deep (within ts a p)) (are_too_deep (in_commas One within q)) a more r
       (reads ts a p (sign k.Comma ∷ (us ++ r)) (comma_ok (us ++ r))) (commas_more q (length (us ++ r)) r (omega (arith, size)) ends off)
       ∙ ap (λ b. answer b (a ∷ more) r) (sym (too_append (within ts a p) (in_commas One within q)))
 
@@ -67,45 +64,45 @@ no_commas : {A : Type 0} (One : List Lexeme → A → Type 0) {us : List Lexeme}
 no_commas One (last_one p) = refl
 no_commas One (one_comma p q) = no_commas One q
 
-name_next : (x : Text) → is_reserved x ≡ false → (c : Mark) (r : List Lexeme) → has_next c (word x ∷ r) ≡ is_mark c m.a_name
+name_next : (x : Text) → is_reserved x ≡ false → (c : Mark) (r : List Lexeme) → has_next c (word x ∷ r) ≡ is_mark c mark.Name
 name_next x n c r = ap (is_mark c) (mark_of_name x n)
 
 a_name_read : (ts : List Lexeme) (x : Text) (p : SpellsName ts x) (r : List Lexeme) → true ≡ true → name_at (ts ++ r) ≡ answer false x r
 a_name_read ts x (a_name n) r e = name_read x n r
 
-names_read : {us : List Lexeme} {xs : List Text} (q : SpellsCommas SpellsName us xs) (r : List Lexeme) → has_next s_comma r ≡ false → names_at (us ++ r) ≡ got xs r
+names_read : {us : List Lexeme} {xs : List Text} (q : SpellsCommas SpellsName us xs) (r : List Lexeme) → has_next mark.Comma r ≡ false → names_at (us ++ r) ≡ got xs r
 names_read {us} {xs} q r off =
     commas_read Text SpellsName name_at (λ ts a p. []) (λ z. true) (λ z. refl) a_name_read q r refl off ∙ ap (λ b. answer b xs r) (no_commas SpellsName q)
 
-dots_more : {us : List Lexeme} {d : Path} (q : SpellsDotted us d) (n : ℕ) (r : List Lexeme) → length us ≤ n → has_next s_dot r ≡ false →
-    each_at (has_next s_dot) next_name (suc n) (sign k.Dot ∷ (us ++ r)) ≡ got d r
+dots_more : {us : List Lexeme} {d : Path} (q : SpellsDotted us d) (n : ℕ) (r : List Lexeme) → length us ≤ n → has_next mark.Dot r ≡ false →
+    each_at (has_next mark.Dot) next_name (suc n) (sign k.Dot ∷ (us ++ r)) ≡ got d r
 dots_more (one_name {x = x} f) n r h off =
-    each_joined (has_next s_dot) next_name n (sign k.Dot ∷ word x ∷ r) r false false x [] r refl (name_read x f r) (each_none_left (has_next s_dot) next_name n r off)
+    each_joined (has_next mark.Dot) next_name n (sign k.Dot ∷ word x ∷ r) r false false x [] r refl (name_read x f r) (each_none_left (has_next mark.Dot) next_name n r off)
 dots_more (more_names {x = x} {ts = ts} f q) zero r h off = absurd (omega (arith, h))
 dots_more (more_names {x = x} {ts = ts} {p = p} f q) (suc n) r h off =
-    each_joined (has_next s_dot) next_name (suc n) (sign k.Dot ∷ word x ∷ sign k.Dot ∷ (ts ++ r)) (sign k.Dot ∷ (ts ++ r)) false false x p r refl
+    each_joined (has_next mark.Dot) next_name (suc n) (sign k.Dot ∷ word x ∷ sign k.Dot ∷ (ts ++ r)) (sign k.Dot ∷ (ts ++ r)) false false x p r refl
     (name_read x f (sign k.Dot ∷ (ts ++ r))) (dots_more q n r (omega (arith, h)) off)
 
-dotted_read : {us : List Lexeme} {d : Path} (q : SpellsDotted us d) (r : List Lexeme) → has_next s_dot r ≡ false → dotted_at (us ++ r) ≡ got d r
+dotted_read : {us : List Lexeme} {d : Path} (q : SpellsDotted us d) (r : List Lexeme) → has_next mark.Dot r ≡ false → dotted_at (us ++ r) ≡ got d r
 dotted_read (one_name {x = x} f) r off =
-    some_joined (has_next s_dot) name_at next_name (word x ∷ r) r false false x [] r (name_read x f r) (each_none_left (has_next s_dot) next_name (length r) r off)
+    some_joined (has_next mark.Dot) name_at next_name (word x ∷ r) r false false x [] r (name_read x f r) (each_none_left (has_next mark.Dot) next_name (length r) r off)
 dotted_read (more_names {x = x} {ts = ts} {p = p} f q) r off =
     let size = length-append ts r in
-    some_joined (has_next s_dot) name_at next_name (word x ∷ sign k.Dot ∷ (ts ++ r)) (sign k.Dot ∷ (ts ++ r)) false false x p r
+    some_joined (has_next mark.Dot) name_at next_name (word x ∷ sign k.Dot ∷ (ts ++ r)) (sign k.Dot ∷ (ts ++ r)) false false x p r
     (name_read x f (sign k.Dot ∷ (ts ++ r))) (dots_more q (length (ts ++ r)) r (omega (arith, size)) off)
 
-dotted_mark : {us : List Lexeme} {d : Path} (q : SpellsDotted us d) (r : List Lexeme) → mark_at (us ++ r) ≡ m.a_name
+dotted_mark : {us : List Lexeme} {d : Path} (q : SpellsDotted us d) (r : List Lexeme) → mark_at (us ++ r) ≡ mark.Name
 dotted_mark (one_name {x = x} f) r = mark_of_name x f
 dotted_mark (more_names {x = x} f q) r = mark_of_name x f
 
 a_member_read : (ts : List Lexeme) (x : Member) (p : SpellsMember ts x) (r : List Lexeme) → true ≡ true → member_at (ts ++ r) ≡ answer false x r
 a_member_read ts x (a_symbol {x = w} n) r e =
-    ap (λ b. if b then and_then (name_at (word w ∷ r)) (λ y s. got (mem.Symbol y) s) else and_then (int_at (word w ∷ r)) (λ y s. got (mem.Number y) s)) (name_next w n m.a_name r)
+    ap (λ b. if b then and_then (name_at (word w ∷ r)) (λ y s. got (mem.Symbol y) s) else and_then (int_at (word w ∷ r)) (λ y s. got (mem.Number y) s)) (name_next w n mark.Name r)
     ∙ ap (λ y. and_then y (λ y s. got (mem.Symbol y) s)) (name_read w n r)
 a_member_read ts x (g.a_number plain_int) r e = refl
 a_member_read ts x (g.a_number minus_int) r e = refl
 
-members_read : {us : List Lexeme} {xs : List Member} (q : SpellsCommas SpellsMember us xs) (r : List Lexeme) → has_next s_comma r ≡ false → members_at (us ++ r) ≡ got xs r
+members_read : {us : List Lexeme} {xs : List Member} (q : SpellsCommas SpellsMember us xs) (r : List Lexeme) → has_next mark.Comma r ≡ false → members_at (us ++ r) ≡ got xs r
 members_read {us} {xs} q r off =
     commas_read Member SpellsMember member_at (λ ts a p. []) (λ z. true) (λ z. refl) a_member_read q r refl off ∙ ap (λ b. answer b xs r) (no_commas SpellsMember q)
 
@@ -115,10 +112,10 @@ type_read ts d (is_range {lo = lo} plain_int q) r = ap (λ y. and_then y (λ hi 
 type_read ts d (is_range {lo = lo} minus_int q) r = ap (λ y. and_then y (λ hi s. got (range lo hi) s)) (int_read q r)
 type_read ts d (is_members {ts = us} {ms} p) r =
     ap braced_at (append_assoc us (sign k.CloseBrace ∷ []) r)
-    ∙ closes_with members s_close_brace (sign k.CloseBrace) (members_at (us ++ sign k.CloseBrace ∷ r)) false ms r refl (members_read p (sign k.CloseBrace ∷ r) refl)
+    ∙ closes_with members mark.CloseBrace (sign k.CloseBrace) (members_at (us ++ sign k.CloseBrace ∷ r)) false ms r refl (members_read p (sign k.CloseBrace ∷ r) refl)
 
 -- no type begins with a name
-type_next : (ts : List Lexeme) (d : DeclaredTree) (p : SpellsType ts d) (r : List Lexeme) → has_next m.a_name (ts ++ r) ≡ false
+type_next : (ts : List Lexeme) (d : DeclaredTree) (p : SpellsType ts d) (r : List Lexeme) → has_next mark.Name (ts ++ r) ≡ false
 type_next ts d is_boolean r = refl
 type_next ts d (is_range plain_int q) r = refl
 type_next ts d (is_range minus_int q) r = refl
@@ -127,33 +124,33 @@ type_next ts d (is_members p) r = refl
 actual_read : (ts : List Lexeme) (e : Formula) (p : SpellsExpr ts e) (r : List Lexeme) → ends_expr r ≡ true → expr_at (ts ++ r) ≡ answer (are_too_deep (in_actual ts e p)) e r
 actual_read ts e p r ends = read_expr p r ends ∙ ap (λ b. answer b e r) (sym (or-false (is_too_deep (spelling p))))
 
-actuals_read : {us : List Lexeme} {es : List Formula} (q : SpellsCommas SpellsExpr us es) (r : List Lexeme) → ends_expr r ≡ true → has_next s_comma r ≡ false →
+actuals_read : {us : List Lexeme} {es : List Formula} (q : SpellsCommas SpellsExpr us es) (r : List Lexeme) → ends_expr r ≡ true → has_next mark.Comma r ≡ false →
     commas_at (us ++ r) ≡ answer (are_too_deep (in_commas SpellsExpr in_actual q)) es r
 actuals_read q r ends off = commas_read Formula SpellsExpr expr_at in_actual ends_expr (λ z. refl) actual_read q r ends off
 
 -- no expression begins with what closes parentheses
-no_close : (us r : List Lexeme) → is_whole (run start us) ≡ true → has_next s_close (us ++ r) ≡ false
+no_close : (us r : List Lexeme) → is_whole (run start us) ≡ true → has_next mark.Close (us ++ r) ≡ false
 unfolding Marked
 no_close [] r h = cc
 no_close (u ∷ us) r h = go (mark_of u) (marked u)
   where
-    go : (c : Mark) → Marked c u → is_mark s_close c ≡ false
-    go s_close f =
+    go : (c : Mark) → Marked c u → is_mark mark.Close c ≡ false
+    go mark.Close f =
         let stops : run start (u ∷ us) ≡ stuck = ap (λ z. run start (z ∷ us)) f ∙ run_stuck us in
         let clash : false ≡ true = ap is_whole (sym stops) ∙ h in cc
     go c f = refl
 
-commas_close : {us : List Lexeme} {es : List Formula} (q : SpellsCommas SpellsExpr us es) (r : List Lexeme) → has_next s_close (us ++ r) ≡ false
+commas_close : {us : List Lexeme} {es : List Formula} (q : SpellsCommas SpellsExpr us es) (r : List Lexeme) → has_next mark.Close (us ++ r) ≡ false
 commas_close (last_one {ts} p) r = no_close ts r (spelled_accepted p)
-commas_close (one_comma {ts} {us} p q) r = ap (has_next s_close) (append_assoc ts (sign k.Comma ∷ us) r) ∙ no_close ts (sign k.Comma ∷ (us ++ r)) (spelled_accepted p)
+commas_close (one_comma {ts} {us} p q) r = ap (has_next mark.Close) (append_assoc ts (sign k.Comma ∷ us) r) ∙ no_close ts (sign k.Comma ∷ (us ++ r)) (spelled_accepted p)
 
 -- parts in parentheses, behind what opens them
-in_brackets : {A : Type 0} (inner : List Lexeme → Read (List A)) (us r : List Lexeme) (b : Bool) (vs : List A) → has_next s_close (us ++ sign k.Close ∷ r) ≡ false →
+in_brackets : {A : Type 0} (inner : List Lexeme → Read (List A)) (us r : List Lexeme) (b : Bool) (vs : List A) → has_next mark.Close (us ++ sign k.Close ∷ r) ≡ false →
     inner (us ++ sign k.Close ∷ r) ≡ answer b vs (sign k.Close ∷ r) → bracketed_at inner (sign k.Open ∷ ((us ++ sign k.Close ∷ []) ++ r)) ≡ answer b vs r
 in_brackets inner us r b vs off read =
-    ap (λ z. if has_next s_close z then got [] (rest_of z) else closed_at inner z) (append_assoc us (sign k.Close ∷ []) r)
+    ap (λ z. if has_next mark.Close z then got [] (rest_of z) else closed_at inner z) (append_assoc us (sign k.Close ∷ []) r)
     ∙ ap (λ b. if b then got [] (rest_of (us ++ sign k.Close ∷ r)) else closed_at inner (us ++ sign k.Close ∷ r)) off
-    ∙ closes_with (λ vs. vs) s_close (sign k.Close) (inner (us ++ sign k.Close ∷ r)) b vs r refl read
+    ∙ closes_with (λ vs. vs) mark.Close (sign k.Close) (inner (us ++ sign k.Close ∷ r)) b vs r refl read
 
 bracketed_read : {us : List Lexeme} {es : List Formula} (q : SpellsBracketed SpellsExpr us es) (r : List Lexeme) →
     bracketed_at commas_at (us ++ sign k.Semicolon ∷ r) ≡ answer (are_too_deep (in_actuals q)) es (sign k.Semicolon ∷ r)
@@ -169,12 +166,12 @@ declared_read : (ts : List Lexeme) (d : DeclaredTree) (p : SpellsDeclared ts d) 
 declared_read ts d (is_type p) r =
     ap (λ b. if b then instance_at (ts ++ sign k.Semicolon ∷ r) else type_at (ts ++ sign k.Semicolon ∷ r)) (type_next ts d p (sign k.Semicolon ∷ r)) ∙ type_read ts d p (sign k.Semicolon ∷ r)
 declared_read ts d (is_instance {m = x} {ts = us} {actuals = es} n p) r =
-    ap (λ b. if b then instance_at (word x ∷ (us ++ sign k.Semicolon ∷ r)) else type_at (word x ∷ (us ++ sign k.Semicolon ∷ r))) (name_next x n m.a_name (us ++ sign k.Semicolon ∷ r))
+    ap (λ b. if b then instance_at (word x ∷ (us ++ sign k.Semicolon ∷ r)) else type_at (word x ∷ (us ++ sign k.Semicolon ∷ r))) (name_next x n mark.Name (us ++ sign k.Semicolon ∷ r))
     ∙ ap (λ y. and_then y (λ m r. and_then (bracketed_at commas_at r) (λ es s. got (instance m es) s))) (name_read x n (us ++ sign k.Semicolon ∷ r))
     ∙ mapped (instance x) (bracketed_at commas_at (us ++ sign k.Semicolon ∷ r)) (are_too_deep (in_actuals p)) es (sign k.Semicolon ∷ r) (bracketed_read p r)
 declared_read ts d (is_empty_instance {m = x} n) r =
     ap (λ b. if b then instance_at (word x ∷ sign k.Open ∷ sign k.Close ∷ sign k.Semicolon ∷ r) else type_at (word x ∷ sign k.Open ∷ sign k.Close ∷ sign k.Semicolon ∷ r))
-    (name_next x n m.a_name (sign k.Open ∷ sign k.Close ∷ sign k.Semicolon ∷ r))
+    (name_next x n mark.Name (sign k.Open ∷ sign k.Close ∷ sign k.Semicolon ∷ r))
     ∙ ap (λ y. and_then y (λ m r. and_then (bracketed_at commas_at r) (λ es s. got (instance m es) s))) (name_read x n (sign k.Open ∷ sign k.Close ∷ sign k.Semicolon ∷ r))
 
 -- declarations
@@ -182,24 +179,24 @@ module _ (What : List Lexeme → DeclaredTree → Type 0) (what : List Lexeme �
     (reads : (ts : List Lexeme) (d : DeclaredTree) (p : What ts d) (r : List Lexeme) → what (ts ++ sign k.Semicolon ∷ r) ≡ answer (are_too_deep (within ts d p)) d (sign k.Semicolon ∷ r)) where
   decl_read : (ts : List Lexeme) (d : DeclTree) (p : SpellsDecl What ts d) (r : List Lexeme) → true ≡ true → decl_at what (ts ++ r) ≡ answer (are_too_deep (in_decl What within ts d p)) d r
   decl_read ts d (declares {x} {ts = us} {t} n p) r e =
-      ap (λ y. and_then y (λ x r. and_then (expect_at s_colon r) (λ _ s. and_then (what s) (λ d q. and_then (expect_at s_semicolon q) (λ _ z. got (record { name = x; what = d }) z)))))
+      ap (λ y. and_then y (λ x r. and_then (expect_at mark.Colon r) (λ _ s. and_then (what s) (λ d q. and_then (expect_at mark.Semicolon q) (λ _ z. got (record { name = x; what = d }) z)))))
       (name_read x n (sign k.Colon ∷ ((us ++ sign k.Semicolon ∷ []) ++ r)))
-      ∙ ap (λ z. and_then (what z) (λ d q. and_then (expect_at s_semicolon q) (λ _ z. got (record { name = x; what = d }) z))) (append_assoc us (sign k.Semicolon ∷ []) r)
-      ∙ closes_with (λ d. record { name = x; what = d }) s_semicolon (sign k.Semicolon) (what (us ++ sign k.Semicolon ∷ r)) (are_too_deep (within us t p)) t r refl (reads us t p r)
+      ∙ ap (λ z. and_then (what z) (λ d q. and_then (expect_at mark.Semicolon q) (λ _ z. got (record { name = x; what = d }) z))) (append_assoc us (sign k.Semicolon ∷ []) r)
+      ∙ closes_with (λ d. record { name = x; what = d }) mark.Semicolon (sign k.Semicolon) (what (us ++ sign k.Semicolon ∷ r)) (are_too_deep (within us t p)) t r refl (reads us t p r)
 
-  decl_starts : (ts : List Lexeme) (d : DeclTree) (p : SpellsDecl What ts d) (r : List Lexeme) → has_next m.a_name (ts ++ r) ≡ true
-  decl_starts ts d (declares {x} {ts = us} n p) r = name_next x n m.a_name (sign k.Colon ∷ ((us ++ sign k.Semicolon ∷ []) ++ r))
+  decl_starts : (ts : List Lexeme) (d : DeclTree) (p : SpellsDecl What ts d) (r : List Lexeme) → has_next mark.Name (ts ++ r) ≡ true
+  decl_starts ts d (declares {x} {ts = us} n p) r = name_next x n mark.Name (sign k.Colon ∷ ((us ++ sign k.Semicolon ∷ []) ++ r))
 
   decl_size : (ts : List Lexeme) (d : DeclTree) → SpellsDecl What ts d → 0 < length ts
   decl_size ts d (declares n p) = omega arith
 
-  decls_read : {us : List Lexeme} {ds : List DeclTree} (q : SpellsMany (SpellsDecl What) us ds) (r : List Lexeme) → has_next m.a_name r ≡ false →
+  decls_read : {us : List Lexeme} {ds : List DeclTree} (q : SpellsMany (SpellsDecl What) us ds) (r : List Lexeme) → has_next mark.Name r ≡ false →
       decls_at what (us ++ r) ≡ answer (are_too_deep (in_many (SpellsDecl What) (in_decl What within) q)) ds r
   decls_read {us} q r off =
       let long = length-append us r in
-      many_read DeclTree (SpellsDecl What) (decl_at what) (has_next m.a_name) (in_decl What within) (λ z. true) (λ z h. refl) decl_starts decl_size decl_read q (length (us ++ r)) r (omega (arith, long)) refl off
+      many_read DeclTree (SpellsDecl What) (decl_at what) (has_next mark.Name) (in_decl What within) (λ z. true) (λ z h. refl) decl_starts decl_size decl_read q (length (us ++ r)) r (omega (arith, long)) refl off
 
-type_decls_read : {us : List Lexeme} {ds : List DeclTree} (q : SpellsMany (SpellsDecl SpellsType) us ds) (r : List Lexeme) → has_next m.a_name r ≡ false → decls_at type_at (us ++ r) ≡ got ds r
+type_decls_read : {us : List Lexeme} {ds : List DeclTree} (q : SpellsMany (SpellsDecl SpellsType) us ds) (r : List Lexeme) → has_next mark.Name r ≡ false → decls_at type_at (us ++ r) ≡ got ds r
 type_decls_read {us} {ds} q r off =
     decls_read SpellsType type_at (λ ts d p. []) type_declared q r off ∙ ap (λ b. answer b ds r) (nothing q)
   where
@@ -211,41 +208,41 @@ type_decls_read {us} {ds} q r off =
 value_read : (us : List Lexeme) (e : Formula) (p : SpellsExpr us e) (r : List Lexeme) → value_at ((us ++ sign k.Semicolon ∷ []) ++ r) ≡ answer (is_too_deep (spelling p)) e r
 value_read us e p r =
     ap value_at (append_assoc us (sign k.Semicolon ∷ []) r)
-    ∙ closes_with (λ e. e) s_semicolon (sign k.Semicolon) (expr_at (us ++ sign k.Semicolon ∷ r)) (is_too_deep (spelling p)) e r refl (read_expr p (sign k.Semicolon ∷ r) refl)
+    ∙ closes_with (λ e. e) mark.Semicolon (sign k.Semicolon) (expr_at (us ++ sign k.Semicolon ∷ r)) (is_too_deep (spelling p)) e r refl (read_expr p (sign k.Semicolon ∷ r) refl)
 
 one_too : {A : Type 0} (b : Bool) (a : A) (r : List Lexeme) → answer b a r ≡ answer (b || false) a r
 one_too b a r = ap (λ b. answer b a r) (sym (or-false b))
 
 define_read : (ts : List Lexeme) (d : DefineTree) (p : SpellsDefine ts d) (r : List Lexeme) → true ≡ true → define_at (ts ++ r) ≡ answer (are_too_deep (in_define ts d p)) d r
 define_read ts d (g.defines {x} {ts = us} {e = v} n p) r e =
-    ap (λ y. and_then y (λ x r. and_then (expect_at s_becomes r) (λ _ s. and_then (value_at s) (λ e q. got (record { name = x; value = e }) q))))
+    ap (λ y. and_then y (λ x r. and_then (expect_at mark.Becomes r) (λ _ s. and_then (value_at s) (λ e q. got (record { name = x; value = e }) q))))
     (name_read x n (sign k.Becomes ∷ ((us ++ sign k.Semicolon ∷ []) ++ r)))
     ∙ mapped (λ e. record { name = x; value = e }) (value_at ((us ++ sign k.Semicolon ∷ []) ++ r)) (is_too_deep (spelling p)) v r (value_read us v p r)
     ∙ one_too (is_too_deep (spelling p)) (record { name = x; value = v }) r
 
-define_starts : (ts : List Lexeme) (d : DefineTree) (p : SpellsDefine ts d) (r : List Lexeme) → has_next m.a_name (ts ++ r) ≡ true
-define_starts ts d (g.defines {x} {ts = us} n p) r = name_next x n m.a_name (sign k.Becomes ∷ ((us ++ sign k.Semicolon ∷ []) ++ r))
+define_starts : (ts : List Lexeme) (d : DefineTree) (p : SpellsDefine ts d) (r : List Lexeme) → has_next mark.Name (ts ++ r) ≡ true
+define_starts ts d (g.defines {x} {ts = us} n p) r = name_next x n mark.Name (sign k.Becomes ∷ ((us ++ sign k.Semicolon ∷ []) ++ r))
 
 define_size : (ts : List Lexeme) (d : DefineTree) → SpellsDefine ts d → 0 < length ts
 define_size ts d (g.defines n p) = omega arith
 
-defines_read : {us : List Lexeme} {ds : List DefineTree} (q : SpellsMany SpellsDefine us ds) (r : List Lexeme) → has_next m.a_name r ≡ false →
+defines_read : {us : List Lexeme} {ds : List DefineTree} (q : SpellsMany SpellsDefine us ds) (r : List Lexeme) → has_next mark.Name r ≡ false →
     defines_at (us ++ r) ≡ answer (are_too_deep (in_many SpellsDefine in_define q)) ds r
 defines_read {us} q r off =
     let long = length-append us r in
-    many_read DefineTree SpellsDefine define_at (has_next m.a_name) in_define (λ z. true) (λ z h. refl) define_starts define_size define_read q (length (us ++ r)) r (omega (arith, long)) refl off
+    many_read DefineTree SpellsDefine define_at (has_next mark.Name) in_define (λ z. true) (λ z h. refl) define_starts define_size define_read q (length (us ++ r)) r (omega (arith, long)) refl off
 
 -- assignments
 closed_target : (us : List Lexeme) (d : Path) (q : SpellsDotted us d) (r : List Lexeme) → closed_at dotted_at ((us ++ sign k.Close ∷ []) ++ r) ≡ got d r
 closed_target us d q r =
     ap (closed_at dotted_at) (append_assoc us (sign k.Close ∷ []) r)
-    ∙ closes_with (λ d. d) s_close (sign k.Close) (dotted_at (us ++ sign k.Close ∷ r)) false d r refl (dotted_read q (sign k.Close ∷ r) refl)
+    ∙ closes_with (λ d. d) mark.Close (sign k.Close) (dotted_at (us ++ sign k.Close ∷ r)) false d r refl (dotted_read q (sign k.Close ∷ r) refl)
 
 abbrev moment_by : Mark → Moment
-moment_by c = if is_mark w_first c then First else (if is_mark w_after c then After else Always)
+moment_by c = if is_mark mark.First c then First else (if is_mark mark.After c then After else Always)
 
 abbrev past_by : Mark → List Lexeme → List Lexeme
-past_by c ts = if is_mark w_first c then rest_of ts else (if is_mark w_after c then rest_of ts else ts)
+past_by c ts = if is_mark mark.First c then rest_of ts else (if is_mark mark.After c then rest_of ts else ts)
 
 target_moment : (xs : List Lexeme) (w : Moment) (d : Path) (t : SpellsTarget xs w d) (r : List Lexeme) → moment_at (xs ++ r) ≡ w
 target_moment xs w d (always q) r = ap moment_by (dotted_mark q r)
@@ -259,7 +256,7 @@ target_read xs w d (first {ts} q) r = closed_target ts d q (sign k.Becomes ∷ r
 target_read xs w d (after {ts} q) r = closed_target ts d q (sign k.Becomes ∷ r)
 
 abbrev assigned : Moment → Read Path → Read AssignmentTree
-assigned w y = and_then y (λ d r. and_then (expect_at s_becomes r) (λ _ s. and_then (value_at s) (λ e q. got (record { when = w; target = d; value = e }) q)))
+assigned w y = and_then y (λ d r. and_then (expect_at mark.Becomes r) (λ _ s. and_then (value_at s) (λ e q. got (record { when = w; target = d; value = e }) q)))
 
 assignment_read : (ts : List Lexeme) (a : AssignmentTree) (p : SpellsAssignment ts a) (r : List Lexeme) → true ≡ true → assignment_at (ts ++ r) ≡ answer (are_too_deep (in_assignment ts a p)) a r
 assignment_read ts a (g.assigns {xs} {ts = us} {when = w} {d} {e = v} t p) r e =
@@ -271,7 +268,7 @@ assignment_read ts a (g.assigns {xs} {ts = us} {when = w} {d} {e = v} t p) r e =
     ∙ one_too (is_too_deep (spelling p)) (record { when = w; target = d; value = v }) r
 
 target_starts : (xs : List Lexeme) (w : Moment) (d : Path) (t : SpellsTarget xs w d) (r : List Lexeme) → begins_assignment (xs ++ r) ≡ true
-target_starts xs w d (always q) r = ap (λ c. is_mark m.a_name c || (is_mark w_first c || is_mark w_after c)) (dotted_mark q r)
+target_starts xs w d (always q) r = ap (λ c. is_mark mark.Name c || (is_mark mark.First c || is_mark mark.After c)) (dotted_mark q r)
 target_starts xs w d (first q) r = refl
 target_starts xs w d (after q) r = refl
 
@@ -298,22 +295,22 @@ past_mark : (r : List Lexeme) → is_past r ≡ true → is_sectional (mark_at r
 past_mark [] h = refl
 past_mark (t ∷ ts) h = section_marks (mark_of t) t (marked t) h
 
-no_name_mark : (c : Mark) → is_sectional c ≡ true → is_mark m.a_name c ≡ false
-no_name_mark m.a_name h = cc
+no_name_mark : (c : Mark) → is_sectional c ≡ true → is_mark mark.Name c ≡ false
+no_name_mark mark.Name h = cc
 no_name_mark c h = refl
 
-no_semicolon_mark : (c : Mark) → is_sectional c ≡ true → is_mark s_semicolon c ≡ false
-no_semicolon_mark s_semicolon h = cc
+no_semicolon_mark : (c : Mark) → is_sectional c ≡ true → is_mark mark.Semicolon c ≡ false
+no_semicolon_mark mark.Semicolon h = cc
 no_semicolon_mark c h = refl
 
-no_open_mark : (c : Mark) → is_sectional c ≡ true → is_mark s_open c ≡ false
-no_open_mark s_open h = cc
+no_open_mark : (c : Mark) → is_sectional c ≡ true → is_mark mark.Open c ≡ false
+no_open_mark mark.Open h = cc
 no_open_mark c h = refl
 
-no_assignment_mark : (c : Mark) → is_sectional c ≡ true → (is_mark m.a_name c || (is_mark w_first c || is_mark w_after c)) ≡ false
-no_assignment_mark m.a_name h = cc
-no_assignment_mark w_first h = cc
-no_assignment_mark w_after h = cc
+no_assignment_mark : (c : Mark) → is_sectional c ≡ true → (is_mark mark.Name c || (is_mark mark.First c || is_mark mark.After c)) ≡ false
+no_assignment_mark mark.Name h = cc
+no_assignment_mark mark.First h = cc
+no_assignment_mark mark.After h = cc
 no_assignment_mark c h = refl
 
 formula_read : {us : List Lexeme} {e : Formula} (p : SpellsFormula us e) (r : List Lexeme) → is_past r ≡ true → formula_at (us ++ r) ≡ answer (is_too_deep (in_formula p)) e r
@@ -337,7 +334,7 @@ formula_section f {us} {e} p r h =
 -- what a section says to the reader
 record SectionRead (ts r : List Lexeme) (b : Bool) (s : SectionTree) : Type 0 where
   kept : is_kept (mark_at (ts ++ r)) ≡ true
-  plain : has_next w_skipped (ts ++ r) ≡ false
+  plain : has_next mark.Skipped (ts ++ r) ≡ false
   begins : is_past (ts ++ r) ≡ true
   read : section_at (mark_at (ts ++ r)) (rest_of (ts ++ r)) ≡ answer b s r
   size : 0 < length ts
@@ -378,7 +375,7 @@ section_read (some_constants {ts} {xs} p) r h = record {
   begins = refl;
   read = mapped constants (constants_at ((ts ++ sign k.Semicolon ∷ []) ++ r)) false xs r
       (ap constants_at (append_assoc ts (sign k.Semicolon ∷ []) r)
-      ∙ closes_with (λ xs. xs) s_semicolon (sign k.Semicolon) (names_at (ts ++ sign k.Semicolon ∷ r)) false xs r refl (names_read p (sign k.Semicolon ∷ r) refl));
+      ∙ closes_with (λ xs. xs) mark.Semicolon (sign k.Semicolon) (names_at (ts ++ sign k.Semicolon ∷ r)) false xs r refl (names_read p (sign k.Semicolon ∷ r) refl));
   size = omega arith;
 }
 section_read (an_assign {ts} {list} p) r h = record {
@@ -395,14 +392,14 @@ section_read (a_trans p) r h = record { kept = refl; plain = refl; begins = refl
 -- where a module begins, or nothing is left
 abbrev at_end : List Lexeme → Bool
 at_end [] = true
-at_end (t ∷ ts) = is_mark w_module (mark_of t)
+at_end (t ∷ ts) = is_mark mark.Module (mark_of t)
 
 end_past : (r : List Lexeme) → at_end r ≡ true → is_past r ≡ true
 end_past [] h = refl
 end_past (t ∷ ts) h = section_mark (mark_of t) t (marked t) (go (mark_of t) h)
   where
-    go : (c : Mark) → is_mark w_module c ≡ true → begins_section c ≡ true
-    go w_module e = refl
+    go : (c : Mark) → is_mark mark.Module c ≡ true → begins_section c ≡ true
+    go mark.Module e = refl
     go c e = cc
 
 no_sections : (n : ℕ) (r : List Lexeme) → at_end r ≡ true → sections_at n r ≡ got [] r
@@ -410,10 +407,10 @@ no_sections zero r h = refl
 no_sections (suc n) [] h = refl
 no_sections (suc n) (t ∷ ts) h = go (mark_of t) h
   where
-    go : (c : Mark) → is_mark w_module c ≡ true →
-        (if is_mark w_skipped c then sections_at n (past_skipped ts) else (if is_kept c then and_then (section_at c ts) (λ a r. and_then (sections_at n r) (λ more s. got (a ∷ more) s)) else got [] (t ∷ ts)))
+    go : (c : Mark) → is_mark mark.Module c ≡ true →
+        (if is_mark mark.Skipped c then sections_at n (past_skipped ts) else (if is_kept c then and_then (section_at c ts) (λ a r. and_then (sections_at n r) (λ more s. got (a ∷ more) s)) else got [] (t ∷ ts)))
         ≡ got [] (t ∷ ts)
-    go w_module e = refl
+    go mark.Module e = refl
     go c e = cc
 
 -- all of what is passed over is passed over
@@ -451,19 +448,19 @@ sections_read (a_section {ts} {us} {s} {ss} p q) (suc n) r h end =
 sections_read (skipped x ts {us} {ss} s free q) zero r h end = absurd (omega (arith, h))
 sections_read (skipped x ts {us} {ss} s free q) (suc n) r h end =
     let long = length-append ts us in
-    ap (λ c. if is_mark w_skipped c then sections_at n (past_skipped ((ts ++ us) ++ r)) else
+    ap (λ c. if is_mark mark.Skipped c then sections_at n (past_skipped ((ts ++ us) ++ r)) else
     (if is_kept c then and_then (section_at c ((ts ++ us) ++ r)) (λ a r. and_then (sections_at n r) (λ more s. got (a ∷ more) s)) else got [] (word x ∷ ((ts ++ us) ++ r)))) (mark_of_skipped x s)
     ∙ ap (λ z. sections_at n (past_skipped z)) (append_assoc ts us r) ∙ ap (sections_at n) (past_over ts (us ++ r) free (sections_past q r end))
     ∙ sections_read q n r (omega (arith, h, long)) end
 
 -- modules
-names_close : {us : List Lexeme} {xs : List Text} (q : SpellsCommas SpellsName us xs) (r : List Lexeme) → has_next s_close (us ++ r) ≡ false
-names_close (last_one (a_name {x} n)) r = name_next x n s_close r
-names_close (one_comma {us = us} (a_name {x} n) q) r = name_next x n s_close (sign k.Comma ∷ (us ++ r))
+names_close : {us : List Lexeme} {xs : List Text} (q : SpellsCommas SpellsName us xs) (r : List Lexeme) → has_next mark.Close (us ++ r) ≡ false
+names_close (last_one (a_name {x} n)) r = name_next x n mark.Close r
+names_close (one_comma {us = us} (a_name {x} n) q) r = name_next x n mark.Close (sign k.Comma ∷ (us ++ r))
 
-formals_read : {fs : List Lexeme} {xs : List Text} (f : SpellsFormals fs xs) (z : List Lexeme) → has_next s_open z ≡ false → bracketed_at names_at (fs ++ z) ≡ got xs z
+formals_read : {fs : List Lexeme} {xs : List Text} (f : SpellsFormals fs xs) (z : List Lexeme) → has_next mark.Open z ≡ false → bracketed_at names_at (fs ++ z) ≡ got xs z
 formals_read (some_formals no_brackets) z off =
-    ap (λ b. if b then (if has_next s_close (rest_of z) then got [] (rest_of (rest_of z)) else closed_at names_at (rest_of z)) else got [] z) off
+    ap (λ b. if b then (if has_next mark.Close (rest_of z) then got [] (rest_of (rest_of z)) else closed_at names_at (rest_of z)) else got [] z) off
 formals_read (some_formals (brackets {ts} {list} q)) z off = in_brackets names_at ts z false list (names_close q (sign k.Close ∷ z)) (names_read q (sign k.Close ∷ z) refl)
 formals_read empty_formals z off = refl
 
@@ -478,13 +475,13 @@ module_read ts a (a_module {x} {fs} {ts = us} {formals} {ss} n f q) r end =
     ∙ mapped (λ ss. record { name = x; formals = formals; sections = ss }) (sections_at (length (us ++ r)) (us ++ r)) (are_too_deep (in_sections q)) ss r
     (sections_read q (length (us ++ r)) r (omega (arith, long)) end)
 
-module_starts : (ts : List Lexeme) (a : ModuleTree) (p : SpellsModule ts a) (r : List Lexeme) → has_next w_module (ts ++ r) ≡ true
+module_starts : (ts : List Lexeme) (a : ModuleTree) (p : SpellsModule ts a) (r : List Lexeme) → has_next mark.Module (ts ++ r) ≡ true
 module_starts ts a (a_module n f q) r = refl
 
 module_size : (ts : List Lexeme) (a : ModuleTree) → SpellsModule ts a → 0 < length ts
 module_size ts a (a_module n f q) = omega arith
 
-module_end : (z : List Lexeme) → has_next w_module z ≡ true → at_end z ≡ true
+module_end : (z : List Lexeme) → has_next mark.Module z ≡ true → at_end z ≡ true
 module_end [] h = cc
 module_end (t ∷ ts) h = h
 
@@ -492,8 +489,8 @@ module_end (t ∷ ts) h = h
 pub read_program : {ts : List Lexeme} {p : ProgramTree} (q : SpellsProgram ts p) → program_at ts ≡ answer (are_too_deep (in_program q)) p []
 read_program {ts} {p} q =
     let long = append-nil ts in
-    subst (λ z. each_at (has_next w_module) next_module (length ts) z ≡ answer (are_too_deep (in_program q)) p []) (append-nil ts)
-    (many_read ModuleTree SpellsModule next_module (has_next w_module) in_module at_end module_end module_starts module_size module_read q (length ts) [] (omega arith) refl refl)
+    subst (λ z. each_at (has_next mark.Module) next_module (length ts) z ≡ answer (are_too_deep (in_program q)) p []) (append-nil ts)
+    (many_read ModuleTree SpellsModule next_module (has_next mark.Module) in_module at_end module_end module_starts module_size module_read q (length ts) [] (omega arith) refl refl)
 
 -- the program that is read is the spelled one
 pub program_spelled : (bytes : List ℕ) (tokens : List Token) (p : ProgramTree) (r : List Lexeme) → HasTokens bytes tokens → IsProgram (lexemes_of bytes tokens) →

@@ -4,14 +4,12 @@ use Rattle.std.specs.Prelude.{codes, pos}
 use Rattle.smv_lexer.specs.declared.token.TokenKind.TheVariants as k
 use Rattle.smv_language.specs.declared.program.Member.{Member}
 use Rattle.smv_language.specs.declared.program.Member.TheVariants as mem
-use Rattle.smv_language.specs.ProgramTree.{Text, Formula, DeclaredTree, boolean, DeclTree, DefineTree, AssignmentTree, SectionTree, ProgramTree, Path}
-use Rattle.smv_language.specs.Lexemes.{Lexeme, word, num, sign, is_reserved}
-use Rattle.smv_language.specs.Spells.{SpellsInt, plain_int, minus_int, SpellsDotted, one_name, more_names}
-use Rattle.smv_language.specs.SpellsProgram.{SpellsMany, no_more, one_more, SpellsBracketed, no_brackets, brackets, SpellsName, SpellsExpr, SpellsMember, a_symbol, SpellsType, is_boolean, is_range, is_members, SpellsDeclared, is_type, is_instance, is_empty_instance, SpellsDecl, declares, SpellsDefine, defines, always, first, SpellsAssignment, assigns, SpellsFormula, open_ended, ended, HasNoSection, a_var, an_ivar, a_frozen, a_define, some_constants, an_assign, an_init, an_invar, a_trans, SpellsSections, no_section, a_section, skipped, SpellsFormals, some_formals, empty_formals, SpellsModule, a_module}
+use Rattle.smv_language.specs.Language.{Text, Formula, DeclaredTree, boolean, DeclTree, DefineTree, AssignmentTree, SectionTree, ProgramTree, Path, Lexeme, word, num, sign, is_reserved, SpellsInt, plain_int, minus_int, SpellsDotted, one_name, more_names, SpellsMany, no_more, one_more, SpellsBracketed, no_brackets, brackets, SpellsName, SpellsExpr, SpellsMember, SpellsType, is_boolean, is_range, is_members, SpellsDeclared, is_type, is_instance, is_empty_instance, SpellsDecl, declares, SpellsDefine, defines, always, first, SpellsAssignment, assigns, SpellsFormula, open_ended, ended, HasNoSection, a_var, an_ivar, a_frozen, some_constants, an_assign, an_init, an_invar, a_trans, SpellsSections, no_section, a_section, skipped, SpellsFormals, some_formals, empty_formals, SpellsModule, a_module}
+use Rattle.smv_language.specs.SpellsProgram.{a_symbol, a_define}
 use Rattle.smv_language.specs.SpellsProgram as g
 use Rattle.smv_expression_reader.specs.Recogniser.{role_of, start}
 use Rattle.smv_expression_reader.specs.Recogniser as machine
-use Rattle.smv_expression_reader.specs.Marks.{Mark, a_name, s_close, mark_of}
+use Rattle.smv_expression_reader.specs.Marks.{mark_of}
 use Rattle.smv_model_reader.specs.ProgramGrammar.{the_name, the_number, the_colon, the_becomes, the_semicolon, the_open, the_close, the_dots, Sym, Tail, tail_end, tail_more, is_single, IsName, IsMember, IsFormals, IsActuals, spelled, empty, expr, live, alone, passing, after_type, after_declared, after_section, after, after_actual, next, shortest, programs}
 use Rattle.smv_model_reader.specs.ProgramGrammar as s
 use Rattle.smv_expression_reader.proofs.Accepted.{spelled_accepted}
@@ -22,9 +20,11 @@ use Rattle.smv_model_reader.proofs.ProgramSound.{to_assign, live_complete}
 use Rattle.smv_expression_reader.proofs.Meanings.{as_last, Leads}
 use Rattle.smv_language.proofs.SpelledLaws.{some_int}
 use Rattle.smv_expression_reader.specs.Stops.{IsExpression}
+use Rattle.smv_expression_reader.specs.declared.mark.Mark.{Mark}
+use Rattle.smv_expression_reader.specs.declared.mark.Mark.TheVariants as mark
 
 -- the other way: a name
-named : (x : Sym) (w : List ℕ) (ts : List Lexeme) → is_reserved w ≡ false → Through (after x a_name) ts → Through (after x (mark_of (word w))) ts
+named : (x : Sym) (w : List ℕ) (ts : List Lexeme) → is_reserved w ≡ false → Through (after x mark.Name) ts → Through (after x (mark_of (word w))) ts
 named x w ts n h = subst (λ c. Through (after x c) ts) (sym (mark_of_name w n)) h
 
 complete_modules : (us : List Lexeme) (p : ProgramTree) (t : Lexeme) (ts : List Lexeme) → SpellsMany SpellsModule us p → us ≡ t ∷ ts → Through (next s.modules t) ts
@@ -131,7 +131,7 @@ complete_type us d t ts (is_members {ts = xs} p) e =
 -- what begins a type begins a declared thing
 type_declared : (c : Mark) (ts : List Lexeme) → Through (after_type c) ts → Through (after_declared c) ts
 unfolding Leads
-type_declared a_name ts h = absurd h
+type_declared mark.Name ts h = absurd h
 type_declared c ts h = h
 
 complete_declared : (us : List Lexeme) (d : DeclaredTree) (t : Lexeme) (ts : List Lexeme) → SpellsDeclared us d → us ≡ t ∷ ts → Through (next s.declared t) ts
@@ -161,7 +161,7 @@ complete_actuals t ts f =
 -- what begins an expression does not close the list
 expr_actual : (c : Mark) (t : Lexeme) (ts : List Lexeme) → Marked c t → Through (live (machine.step start (role_of t)) (s.more_actuals ∷ [])) ts → Through (after_actual c t) ts
 unfolding Leads Marked
-expr_actual s_close t ts m h = absurd (subst (λ z. Through (live (machine.step start (role_of z)) (s.more_actuals ∷ [])) ts) m h)
+expr_actual mark.Close t ts m h = absurd (subst (λ z. Through (live (machine.step start (role_of z)) (s.more_actuals ∷ [])) ts) m h)
 expr_actual c t ts m h = h
 
 expr_first : (us ws : List Lexeme) (t : Lexeme) (ts : List Lexeme) (rest : List Sym) → IsExpression us → us ++ ws ≡ t ∷ ts → Means_of rest ws → Through (live (machine.step start (role_of t)) rest) ts

@@ -4,15 +4,12 @@ use Rattle.std.specs.Prelude.{codes, pos}
 use Rattle.smv_lexer.specs.declared.token.TokenKind.TheVariants as k
 use Rattle.smv_language.specs.declared.program.Member.TheVariants as mem
 use Rattle.smv_language.specs.declared.program.Moment.TheVariants as when
-use Rattle.smv_language.specs.ProgramTree.{Formula, DeclaredTree, boolean, range, members, instance, DeclTree, SectionTree, init, invar, trans, Path}
-use Rattle.smv_language.specs.Lexemes.{Lexeme, word, num, sign, is_reserved, section_words}
-use Rattle.smv_language.specs.Texts.{is_among}
-use Rattle.smv_language.specs.Spells.{minus, SpellsInt, plain_int, minus_int, SpellsDotted, one_name, more_names}
-use Rattle.smv_language.specs.SpellsProgram.{SpellsMany, one_more, SpellsBracketed, brackets, SpellsName, SpellsExpr, SpellsMember, a_symbol, SpellsType, is_boolean, is_range, is_members, SpellsDeclared, is_type, is_instance, is_empty_instance, SpellsDecl, declares, defines, SpellsTarget, always, first, assigns, SpellsFormula, open_ended, ended, HasNoSection, SpellsSection, a_var, an_ivar, a_frozen, a_define, some_constants, an_assign, an_init, an_invar, a_trans, a_section, skipped, SpellsFormals, some_formals, empty_formals, a_module}
+use Rattle.smv_language.specs.Language.{Formula, DeclaredTree, boolean, range, members, instance, DeclTree, SectionTree, init, invar, trans, Path, Lexeme, word, num, sign, is_reserved, section_words, is_among, minus, SpellsInt, plain_int, minus_int, SpellsDotted, one_name, more_names, SpellsMany, one_more, SpellsBracketed, brackets, SpellsName, SpellsExpr, SpellsMember, SpellsType, is_boolean, is_range, is_members, SpellsDeclared, is_type, is_instance, is_empty_instance, SpellsDecl, declares, defines, SpellsTarget, always, first, assigns, SpellsFormula, open_ended, ended, HasNoSection, SpellsSection, a_var, an_ivar, a_frozen, some_constants, an_assign, an_init, an_invar, a_trans, a_section, skipped, SpellsFormals, some_formals, empty_formals, a_module}
+use Rattle.smv_language.specs.SpellsProgram.{a_symbol, a_define}
 use Rattle.smv_language.specs.SpellsProgram as g
 use Rattle.smv_expression_reader.specs.Recogniser.{role_of, State, stuck, is_whole, start}
 use Rattle.smv_expression_reader.specs.Recogniser as machine
-use Rattle.smv_expression_reader.specs.Marks.{Mark, w_module, w_var, w_ivar, w_frozen, w_define, w_constants, w_assign, w_init, w_invar, w_trans, w_skipped, w_boolean, w_first, w_after, a_name, a_number, s_open, s_close, s_open_brace, s_close_brace, s_comma, s_semicolon, s_dot, s_minus, mark_of, is_section}
+use Rattle.smv_expression_reader.specs.Marks.{mark_of, is_section}
 use Rattle.smv_model_reader.specs.ProgramGrammar.{Single, the_name, the_number, the_colon, the_becomes, the_semicolon, the_open, the_close, the_dots, Sym, Tail, tail_end, tail_more, is_single, IsName, IsMember, IsFormals, IsActuals, spelled, expr, live, alone, passing, after_type, after_declared, after_section, after, after_actual, next, programs}
 use Rattle.smv_model_reader.specs.ProgramGrammar as s
 use Rattle.smv_expression_reader.proofs.Accepted.{run_stuck}
@@ -21,6 +18,8 @@ use Rattle.smv_expression_reader.proofs.Marks.{Marked, marked}
 use Rattle.smv_model_reader.proofs.SymbolMeanings.{That, Means_of, One, one, tail_commas, Through}
 use Rattle.smv_expression_reader.proofs.Meanings.{last, Leads}
 use Rattle.smv_expression_reader.specs.Stops.{IsExpression}
+use Rattle.smv_expression_reader.specs.declared.mark.Mark.{Mark}
+use Rattle.smv_expression_reader.specs.declared.mark.Mark.TheVariants as mark
 
 -- a dotted name after its first name
 dotted_sound : (x : List ℕ) (xs : List Lexeme) → is_reserved x ≡ false → spelled s.more_dots xs → (p : Path) × SpellsDotted (word x ∷ xs) p
@@ -29,7 +28,7 @@ dotted_sound x xs n (inr d) = (x ∷ d.2.0, subst (λ z. SpellsDotted (word x �
 
 sound_modules : (c : Mark) (t : Lexeme) (ts : List Lexeme) → Marked c t → Through (after s.modules c) ts → spelled s.modules (t ∷ ts)
 unfolding Marked Leads That
-sound_modules w_module t ts m h =
+sound_modules mark.Module t ts m h =
     let a = one the_name (s.formals ∷ s.sections ∷ s.modules ∷ []) ts h in
     let b = a.means in
     let c = b.4 in
@@ -44,13 +43,13 @@ sound_modules c t ts m h = absurd h
 
 sound_formals : (c : Mark) (t : Lexeme) (ts : List Lexeme) → Marked c t → Through (after s.formals c) ts → IsFormals (t ∷ ts)
 unfolding Marked Leads
-sound_formals s_open t ts m h = subst (λ z. IsFormals (z ∷ ts)) (sym m) (last programs s.first_formal ts h)
+sound_formals mark.Open t ts m h = subst (λ z. IsFormals (z ∷ ts)) (sym m) (last programs s.first_formal ts h)
 sound_formals c t ts m h = absurd h
 
 sound_first_formal : (c : Mark) (t : Lexeme) (ts : List Lexeme) → Marked c t → Through (after s.first_formal c) ts → IsFormals (sign k.Open ∷ t ∷ ts)
 unfolding Marked Leads
-sound_first_formal s_close t ts m h = ([], let whole : sign k.Open ∷ sign k.Close ∷ [] ≡ sign k.Open ∷ t ∷ ts = cc in subst (λ z. SpellsFormals z []) whole empty_formals)
-sound_first_formal a_name t ts m h =
+sound_first_formal mark.Close t ts m h = ([], let whole : sign k.Open ∷ sign k.Close ∷ [] ≡ sign k.Open ∷ t ∷ ts = cc in subst (λ z. SpellsFormals z []) whole empty_formals)
+sound_first_formal mark.Name t ts m h =
     let tail = last programs s.more_formals ts h in
     let list = tail_commas SpellsName (word m.0 ∷ []) m.0 (g.a_name m.2) tail in
     let e = m.1 in let f = list.1 in
@@ -69,20 +68,20 @@ sound_names end x t ts a e f =
 
 sound_more_formals : (c : Mark) (t : Lexeme) (ts : List Lexeme) → Marked c t → Through (after s.more_formals c) ts → Tail IsName (sign k.Close) (t ∷ ts)
 unfolding Marked Leads
-sound_more_formals s_close t ts m h = let whole : sign k.Close ∷ [] ≡ t ∷ ts = cc in subst (Tail IsName (sign k.Close)) whole tail_end
-sound_more_formals s_comma t ts m h = sound_names (sign k.Close) s.more_formals t ts (one the_name (s.more_formals ∷ []) ts h) m (λ us d. d)
+sound_more_formals mark.Close t ts m h = let whole : sign k.Close ∷ [] ≡ t ∷ ts = cc in subst (Tail IsName (sign k.Close)) whole tail_end
+sound_more_formals mark.Comma t ts m h = sound_names (sign k.Close) s.more_formals t ts (one the_name (s.more_formals ∷ []) ts h) m (λ us d. d)
 sound_more_formals c t ts m h = absurd h
 
 sound_more_constants : (c : Mark) (t : Lexeme) (ts : List Lexeme) → Marked c t → Through (after s.more_constants c) ts → Tail IsName (sign k.Semicolon) (t ∷ ts)
 unfolding Marked Leads
-sound_more_constants s_semicolon t ts m h = let whole : sign k.Semicolon ∷ [] ≡ t ∷ ts = cc in subst (Tail IsName (sign k.Semicolon)) whole tail_end
-sound_more_constants s_comma t ts m h = sound_names (sign k.Semicolon) s.more_constants t ts (one the_name (s.more_constants ∷ []) ts h) m (λ us d. d)
+sound_more_constants mark.Semicolon t ts m h = let whole : sign k.Semicolon ∷ [] ≡ t ∷ ts = cc in subst (Tail IsName (sign k.Semicolon)) whole tail_end
+sound_more_constants mark.Comma t ts m h = sound_names (sign k.Semicolon) s.more_constants t ts (one the_name (s.more_constants ∷ []) ts h) m (λ us d. d)
 sound_more_constants c t ts m h = absurd h
 
 sound_int : (c : Mark) (t : Lexeme) (ts : List Lexeme) → Marked c t → Through (after s.int c) ts → (n : ℤ) × SpellsInt (t ∷ ts) n
 unfolding Marked Leads That
-sound_int a_number t ts m h = (pos m.0, let e = m.2 in let whole : num m.0 m.1 ∷ [] ≡ t ∷ ts = cc in subst (λ z. SpellsInt z (pos m.0)) whole (plain_int {n = m.0} {d = m.1}))
-sound_int s_minus t ts m h =
+sound_int mark.Number t ts m h = (pos m.0, let e = m.2 in let whole : num m.0 m.1 ∷ [] ≡ t ∷ ts = cc in subst (λ z. SpellsInt z (pos m.0)) whole (plain_int {n = m.0} {d = m.1}))
+sound_int mark.Minus t ts m h =
     let a = one the_number [] ts h in
     let n = a.that in
     let e1 = a.whole in let e2 = n.2 in let e3 : a.rest ≡ [] = a.means in
@@ -92,15 +91,15 @@ sound_int c t ts m h = absurd h
 
 sound_member : (c : Mark) (t : Lexeme) (ts : List Lexeme) → Marked c t → Through (after s.member c) ts → IsMember (t ∷ ts)
 unfolding Marked Leads
-sound_member a_name t ts m h = (mem.Symbol m.0, let e = m.1 in let whole : word m.0 ∷ [] ≡ t ∷ ts = cc in subst (λ z. SpellsMember z (mem.Symbol m.0)) whole (a_symbol m.2))
-sound_member a_number t ts m h = let n = sound_int a_number t ts m h in (_, g.a_number n.1)
-sound_member s_minus t ts m h = let n = sound_int s_minus t ts m h in (_, g.a_number n.1)
+sound_member mark.Name t ts m h = (mem.Symbol m.0, let e = m.1 in let whole : word m.0 ∷ [] ≡ t ∷ ts = cc in subst (λ z. SpellsMember z (mem.Symbol m.0)) whole (a_symbol m.2))
+sound_member mark.Number t ts m h = let n = sound_int mark.Number t ts m h in (_, g.a_number n.1)
+sound_member mark.Minus t ts m h = let n = sound_int mark.Minus t ts m h in (_, g.a_number n.1)
 sound_member c t ts m h = absurd h
 
 sound_more_members : (c : Mark) (t : Lexeme) (ts : List Lexeme) → Marked c t → Through (after s.more_members c) ts → Tail IsMember (sign k.CloseBrace) (t ∷ ts)
 unfolding Marked Leads
-sound_more_members s_close_brace t ts m h = let whole : sign k.CloseBrace ∷ [] ≡ t ∷ ts = cc in subst (Tail IsMember (sign k.CloseBrace)) whole tail_end
-sound_more_members s_comma t ts m h =
+sound_more_members mark.CloseBrace t ts m h = let whole : sign k.CloseBrace ∷ [] ≡ t ∷ ts = cc in subst (Tail IsMember (sign k.CloseBrace)) whole tail_end
+sound_more_members mark.Comma t ts m h =
     let e = h.2 in
     let whole : sign k.Comma ∷ (h.0 ++ h.1) ≡ t ∷ ts = cc in
     subst (Tail IsMember (sign k.CloseBrace)) whole (tail_more h.3 (last programs s.more_members h.1 h.4))
@@ -108,14 +107,14 @@ sound_more_members c t ts m h = absurd h
 
 sound_type : (c : Mark) (t : Lexeme) (ts : List Lexeme) → Marked c t → Through (after_type c) ts → spelled s.type (t ∷ ts)
 unfolding Marked Leads That
-sound_type w_boolean t ts m h = (boolean, let whole : word (codes "boolean") ∷ [] ≡ t ∷ ts = cc in subst (λ z. SpellsType z boolean) whole is_boolean)
-sound_type a_number t ts m h =
+sound_type mark.Boolean t ts m h = (boolean, let whole : word (codes "boolean") ∷ [] ≡ t ∷ ts = cc in subst (λ z. SpellsType z boolean) whole is_boolean)
+sound_type mark.Number t ts m h =
     let a = one the_dots (s.int ∷ []) ts h in
     let n = last programs s.int a.rest a.means in
     let e = m.2 in let e1 = a.whole in let e2 = a.that in
     let whole : num m.0 m.1 ∷ sign k.Dots ∷ a.rest ≡ t ∷ ts = cc in
     (range (pos m.0) n.0, subst (λ z. SpellsType z (range (pos m.0) n.0)) whole (is_range (plain_int {n = m.0} {d = m.1}) n.1))
-sound_type s_minus t ts m h =
+sound_type mark.Minus t ts m h =
     let a = one the_number (s.single the_dots ∷ s.int ∷ []) ts h in
     let b = one the_dots (s.int ∷ []) a.rest a.means in
     let n = last programs s.int b.rest b.means in
@@ -123,7 +122,7 @@ sound_type s_minus t ts m h =
     let e = low.2 in let e1 = a.whole in let e2 = b.that in let e3 = b.whole in
     let whole : sign k.Minus ∷ num low.0 low.1 ∷ sign k.Dots ∷ b.rest ≡ t ∷ ts = cc in
     (range (minus low.0) n.0, subst (λ z. SpellsType z (range (minus low.0) n.0)) whole (is_range (minus_int {n = low.0} {d = low.1}) n.1))
-sound_type s_open_brace t ts m h =
+sound_type mark.OpenBrace t ts m h =
     let list = tail_commas SpellsMember h.0 h.3.0 h.3.1 (last programs s.more_members h.1 h.4) in
     let e = h.2 in let f = list.1 in
     let whole : sign k.OpenBrace ∷ (list.0 ++ sign k.CloseBrace ∷ []) ≡ t ∷ ts = cc in
@@ -132,16 +131,16 @@ sound_type c t ts m h = absurd h
 
 sound_declared : (c : Mark) (t : Lexeme) (ts : List Lexeme) → Marked c t → Through (after_declared c) ts → spelled s.declared (t ∷ ts)
 unfolding Marked Leads
-sound_declared a_name t ts m h = go (last programs s.actuals ts h)
+sound_declared mark.Name t ts m h = go (last programs s.actuals ts h)
   where
     go : IsActuals ts → spelled s.declared (t ∷ ts)
     go (inl f) = let e = m.1 in let whole : word m.0 ∷ sign k.Open ∷ sign k.Close ∷ [] ≡ t ∷ ts = cc in
         (instance m.0 [], subst (λ z. SpellsDeclared z (instance m.0 [])) whole (is_empty_instance m.2))
     go (inr b) = (instance m.0 b.0, subst (λ z. SpellsDeclared (z ∷ ts) (instance m.0 b.0)) (sym m.1) (is_instance m.2 b.1))
-sound_declared w_boolean t ts m h = let d = sound_type w_boolean t ts m h in (d.0, is_type d.1)
-sound_declared a_number t ts m h = let d = sound_type a_number t ts m h in (d.0, is_type d.1)
-sound_declared s_minus t ts m h = let d = sound_type s_minus t ts m h in (d.0, is_type d.1)
-sound_declared s_open_brace t ts m h = let d = sound_type s_open_brace t ts m h in (d.0, is_type d.1)
+sound_declared mark.Boolean t ts m h = let d = sound_type mark.Boolean t ts m h in (d.0, is_type d.1)
+sound_declared mark.Number t ts m h = let d = sound_type mark.Number t ts m h in (d.0, is_type d.1)
+sound_declared mark.Minus t ts m h = let d = sound_type mark.Minus t ts m h in (d.0, is_type d.1)
+sound_declared mark.OpenBrace t ts m h = let d = sound_type mark.OpenBrace t ts m h in (d.0, is_type d.1)
 sound_declared c t ts m h = absurd h
 
 -- a declaration, and what follows
@@ -153,7 +152,7 @@ sound_decl What x xs rest d ds n p more =
 
 sound_decls : (c : Mark) (t : Lexeme) (ts : List Lexeme) → Marked c t → Through (after s.decls c) ts → spelled s.decls (t ∷ ts)
 unfolding Marked Leads That
-sound_decls a_name t ts m h =
+sound_decls mark.Name t ts m h =
     let a = one the_colon (s.declared ∷ s.single the_semicolon ∷ s.decls ∷ []) ts h in
     let b = a.means in
     let c = one the_semicolon (s.decls ∷ []) b.1 b.4 in
@@ -165,7 +164,7 @@ sound_decls c t ts m h = absurd h
 
 sound_type_decls : (c : Mark) (t : Lexeme) (ts : List Lexeme) → Marked c t → Through (after s.type_decls c) ts → spelled s.type_decls (t ∷ ts)
 unfolding Marked Leads That
-sound_type_decls a_name t ts m h =
+sound_type_decls mark.Name t ts m h =
     let a = one the_colon (s.type ∷ s.single the_semicolon ∷ s.type_decls ∷ []) ts h in
     let b = a.means in
     let c = one the_semicolon (s.type_decls ∷ []) b.1 b.4 in
@@ -177,7 +176,7 @@ sound_type_decls c t ts m h = absurd h
 
 sound_defines : (c : Mark) (t : Lexeme) (ts : List Lexeme) → Marked c t → Through (after s.defines c) ts → spelled s.defines (t ∷ ts)
 unfolding Marked Leads That
-sound_defines a_name t ts m h =
+sound_defines mark.Name t ts m h =
     let a = one the_becomes (expr ∷ s.single the_semicolon ∷ s.defines ∷ []) ts h in
     let b = a.means in
     let c = one the_semicolon (s.defines ∷ []) b.1 b.4 in
@@ -233,18 +232,18 @@ bracketed ts h =
 
 sound_assigns : (c : Mark) (t : Lexeme) (ts : List Lexeme) → Marked c t → Through (after s.assigns c) ts → spelled s.assigns (t ∷ ts)
 unfolding Marked Leads That
-sound_assigns a_name t ts m h =
+sound_assigns mark.Name t ts m h =
     let d = dotted_sound m.0 h.0 m.2 h.3 in
     let e1 = m.1 in let e2 = h.2 in
     let whole : word m.0 ∷ (h.0 ++ h.1) ≡ t ∷ ts = cc in
     subst (spelled s.assigns) whole (assign_end (word m.0 ∷ h.0) when.Always d.0 (always d.1) h.1 h.4)
-sound_assigns w_first t ts m h =
+sound_assigns mark.First t ts m h =
     let b = bracketed ts h in
     let e = b.whole in
     let assoc : (b.inside ++ sign k.Close ∷ []) ++ b.rest ≡ b.inside ++ sign k.Close ∷ b.rest = append_assoc b.inside (sign k.Close ∷ []) b.rest in
     let whole : word (codes "init") ∷ sign k.Open ∷ ((b.inside ++ sign k.Close ∷ []) ++ b.rest) ≡ t ∷ ts = cc in
     subst (spelled s.assigns) whole (assign_end (word (codes "init") ∷ sign k.Open ∷ (b.inside ++ sign k.Close ∷ [])) when.First b.dotted.0 (first b.dotted.1) b.rest b.means)
-sound_assigns w_after t ts m h =
+sound_assigns mark.After t ts m h =
     let b = bracketed ts h in
     let e = b.whole in
     let assoc : (b.inside ++ sign k.Close ∷ []) ++ b.rest ≡ b.inside ++ sign k.Close ∷ b.rest = append_assoc b.inside (sign k.Close ∷ []) b.rest in
@@ -281,15 +280,15 @@ formula_after w t ts m h make =
 
 sound_sections : (c : Mark) (t : Lexeme) (ts : List Lexeme) → Marked c t → Through (after_section c) ts → spelled s.sections (t ∷ ts)
 unfolding Marked Leads That
-sound_sections w_var t ts m h = sections_after s.decls (word (codes "VAR")) t ts m h (λ xs d. (_, a_var d.1))
-sound_sections w_ivar t ts m h = sections_after s.type_decls (word (codes "IVAR")) t ts m h (λ xs d. (_, an_ivar d.1))
-sound_sections w_frozen t ts m h = sections_after s.type_decls (word (codes "FROZENVAR")) t ts m h (λ xs d. (_, a_frozen d.1))
-sound_sections w_define t ts m h = sections_after s.defines (word (codes "DEFINE")) t ts m h (λ xs d. (_, a_define d.1))
-sound_sections w_assign t ts m h = sections_after s.assigns (word (codes "ASSIGN")) t ts m h (λ xs d. (_, an_assign d.1))
-sound_sections w_init t ts m h = formula_after (word (codes "INIT")) t ts m h (λ xs e p. (init e, an_init p))
-sound_sections w_invar t ts m h = formula_after (word (codes "INVAR")) t ts m h (λ xs e p. (invar e, an_invar p))
-sound_sections w_trans t ts m h = formula_after (word (codes "TRANS")) t ts m h (λ xs e p. (trans e, a_trans p))
-sound_sections w_constants t ts m h =
+sound_sections mark.Var t ts m h = sections_after s.decls (word (codes "VAR")) t ts m h (λ xs d. (_, a_var d.1))
+sound_sections mark.Ivar t ts m h = sections_after s.type_decls (word (codes "IVAR")) t ts m h (λ xs d. (_, an_ivar d.1))
+sound_sections mark.Frozen t ts m h = sections_after s.type_decls (word (codes "FROZENVAR")) t ts m h (λ xs d. (_, a_frozen d.1))
+sound_sections mark.Define t ts m h = sections_after s.defines (word (codes "DEFINE")) t ts m h (λ xs d. (_, a_define d.1))
+sound_sections mark.Assign t ts m h = sections_after s.assigns (word (codes "ASSIGN")) t ts m h (λ xs d. (_, an_assign d.1))
+sound_sections mark.Init t ts m h = formula_after (word (codes "INIT")) t ts m h (λ xs e p. (init e, an_init p))
+sound_sections mark.Invar t ts m h = formula_after (word (codes "INVAR")) t ts m h (λ xs e p. (invar e, an_invar p))
+sound_sections mark.Trans t ts m h = formula_after (word (codes "TRANS")) t ts m h (λ xs e p. (trans e, a_trans p))
+sound_sections mark.Constants t ts m h =
     let a = one the_name (s.more_constants ∷ s.sections ∷ []) ts h in
     let b = a.means in
     let more = last programs s.sections b.1 b.4 in
@@ -300,7 +299,7 @@ sound_sections w_constants t ts m h =
     let whole : word (codes "CONSTANTS") ∷ ((list.0 ++ sign k.Semicolon ∷ []) ++ b.1) ≡ t ∷ ts =
     ap (λ z. word (codes "CONSTANTS") ∷ (z ++ b.1)) (sym e4) ∙ (let flat : word (codes "CONSTANTS") ∷ word name.0 ∷ (b.0 ++ b.1) ≡ t ∷ ts = cc in flat) in
     subst (spelled s.sections) whole (_, a_section (some_constants list.3) more.1)
-sound_sections w_skipped t ts m h =
+sound_sections mark.Skipped t ts m h =
     let more = last programs s.sections h.1 h.4 in
     let e1 = m.1 in let e2 = h.2 in
     let whole : word m.0 ∷ (h.0 ++ h.1) ≡ t ∷ ts = cc in
@@ -329,18 +328,18 @@ actuals_of t ts h =
 
 sound_first_actual : (c : Mark) (t : Lexeme) (ts : List Lexeme) → Marked c t → Through (after_actual c t) ts → IsActuals (sign k.Open ∷ t ∷ ts)
 unfolding Marked Leads
-sound_first_actual s_close t ts m h = inl (let whole : sign k.Open ∷ t ∷ ts ≡ sign k.Open ∷ sign k.Close ∷ [] = cc in whole)
+sound_first_actual mark.Close t ts m h = inl (let whole : sign k.Open ∷ t ∷ ts ≡ sign k.Open ∷ sign k.Close ∷ [] = cc in whole)
 sound_first_actual c t ts m h = actuals_of t ts h
 
 sound_actuals : (c : Mark) (t : Lexeme) (ts : List Lexeme) → Marked c t → Through (after s.actuals c) ts → IsActuals (t ∷ ts)
 unfolding Marked Leads
-sound_actuals s_open t ts m h = subst (λ z. IsActuals (z ∷ ts)) (sym m) (last programs s.first_actual ts h)
+sound_actuals mark.Open t ts m h = subst (λ z. IsActuals (z ∷ ts)) (sym m) (last programs s.first_actual ts h)
 sound_actuals c t ts m h = absurd h
 
 sound_more_actuals : (c : Mark) (t : Lexeme) (ts : List Lexeme) → Marked c t → Through (after s.more_actuals c) ts → Tail IsExpression (sign k.Close) (t ∷ ts)
 unfolding Marked Leads
-sound_more_actuals s_close t ts m h = let whole : sign k.Close ∷ [] ≡ t ∷ ts = cc in subst (Tail IsExpression (sign k.Close)) whole tail_end
-sound_more_actuals s_comma t ts m h =
+sound_more_actuals mark.Close t ts m h = let whole : sign k.Close ∷ [] ≡ t ∷ ts = cc in subst (Tail IsExpression (sign k.Close)) whole tail_end
+sound_more_actuals mark.Comma t ts m h =
     let e = h.2 in
     let whole : sign k.Comma ∷ (h.0 ++ h.1) ≡ t ∷ ts = cc in
     subst (Tail IsExpression (sign k.Close)) whole (tail_more (accepted_spelled h.0 h.3) (last programs s.more_actuals h.1 h.4))
@@ -348,7 +347,7 @@ sound_more_actuals c t ts m h = absurd h
 
 sound_more_dots : (c : Mark) (t : Lexeme) (ts : List Lexeme) → Marked c t → Through (after s.more_dots c) ts → spelled s.more_dots (t ∷ ts)
 unfolding Marked Leads That
-sound_more_dots s_dot t ts m h =
+sound_more_dots mark.Dot t ts m h =
     let a = one the_name (s.more_dots ∷ []) ts h in
     let name = a.that in
     let d = dotted_sound name.0 a.rest name.2 (last programs s.more_dots a.rest a.means) in
@@ -359,7 +358,7 @@ sound_more_dots c t ts m h = absurd h
 
 sound_last_semicolon : (c : Mark) (t : Lexeme) (ts : List Lexeme) → Marked c t → Through (after s.last_semicolon c) ts → spelled s.last_semicolon (t ∷ ts)
 unfolding Marked Leads
-sound_last_semicolon s_semicolon t ts m h = inr (let whole : t ∷ ts ≡ sign k.Semicolon ∷ [] = cc in whole)
+sound_last_semicolon mark.Semicolon t ts m h = inr (let whole : t ∷ ts ≡ sign k.Semicolon ∷ [] = cc in whole)
 sound_last_semicolon c t ts m h = absurd h
 
 sound_skip : (t : Lexeme) (ts : List Lexeme) → Through (passing (is_section t)) ts → HasNoSection (t ∷ ts)

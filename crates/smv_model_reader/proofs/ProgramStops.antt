@@ -4,13 +4,15 @@ use Rattle.std.specs.Prelude.{◌&&◌, if◌then◌else◌}
 use Rattle.smv_language.specs.Lexemes.{Lexeme}
 use Rattle.smv_model_reader.specs.declared.expected.Position.{Position}
 use Rattle.smv_model_reader.specs.declared.expected.Position.TheVariants as p
-use Rattle.smv_expression_reader.specs.Recogniser.{Role, Frame, State, stuck, role_of, is_stuck, is_whole}
+use Rattle.smv_expression_reader.specs.Recogniser.{State, stuck, role_of, is_stuck, is_whole}
 use Rattle.smv_expression_reader.specs.Recogniser as machine
 use Rattle.smv_expression_reader.specs.Views.{state_with}
 use Rattle.smv_expression_reader.specs.PredictiveReader.{taken, step, all_empty}
 use Rattle.smv_expression_reader.specs.Readings.{stepped, Goes}
 use Rattle.smv_model_reader.specs.ProgramGrammar.{Sym, formula, live, alone, programs}
 use Rattle.smv_model_reader.specs.Symbols.{position_view, between_view, Chosen, Taken, Fits}
+use Rattle.smv_expression_reader.specs.declared.frames.OpenFrame.{OpenFrame as Frame}
+use Rattle.smv_expression_reader.specs.declared.machine.TokenRole.{TokenRole as Role}
 
 pub alone_chosen : (b : Bool) (old : List Sym) → Chosen b (alone b) old old
 alone_chosen true old = refl

@@ -1,16 +1,17 @@
 -- What the symbols of the grammar of programs take one by one, and what lists of them stand for.
 use Rattle.std.proofs.Common.{◌≡◌, ℕ, true, false, List, [], ◌∷◌, ◌++◌, Option, refl, sym, ◌∙◌, ap, append_assoc}
 use Rattle.smv_lexer.specs.declared.token.TokenKind.TheVariants as k
-use Rattle.smv_language.specs.Lexemes.{Lexeme, word, num, sign, is_reserved}
-use Rattle.smv_language.specs.SpellsProgram.{SpellsCommas, last_one, one_comma}
+use Rattle.smv_language.specs.Language.{Lexeme, word, num, sign, is_reserved, SpellsCommas, last_one, one_comma}
 use Rattle.smv_expression_reader.specs.PredictiveReader.{Means}
-use Rattle.smv_expression_reader.specs.Marks.{Mark, a_name, a_number, s_becomes, s_dots, s_open, s_close, s_semicolon, s_colon, mark_of}
+use Rattle.smv_expression_reader.specs.Marks.{mark_of}
 use Rattle.smv_model_reader.specs.ProgramGrammar.{Single, the_name, the_number, the_colon, the_becomes, the_semicolon, the_open, the_close, the_dots, Sym, Tail, tail_end, tail_more, is_single, spelled, expr, programs}
 use Rattle.smv_model_reader.specs.ProgramGrammar as s
 use Rattle.smv_expression_reader.proofs.Marks.{Marked, marked, mark_of_name}
 use Rattle.smv_expression_reader.proofs.Meanings.{Leads}
 use Rattle.smv_expression_reader.proofs.Accepted.{spelled_accepted}
 use Rattle.smv_expression_reader.specs.Stops.{IsExpression}
+use Rattle.smv_expression_reader.specs.declared.mark.Mark.{Mark}
+use Rattle.smv_expression_reader.specs.declared.mark.Mark.TheVariants as mark
 
 -- single lexemes
 unfoldable pub That : Single → Lexeme → Type 0
@@ -25,14 +26,14 @@ That the_dots t = t ≡ sign k.Dots
 
 that : (w : Single) (c : Mark) (t : Lexeme) → Marked c t → is_single w c ≡ true → That w t
 unfolding Marked That
-that the_name a_name t m h = m
-that the_number a_number t m h = m
-that the_colon s_colon t m h = m
-that the_becomes s_becomes t m h = m
-that the_semicolon s_semicolon t m h = m
-that the_open s_open t m h = m
-that the_close s_close t m h = m
-that the_dots s_dots t m h = m
+that the_name mark.Name t m h = m
+that the_number mark.Number t m h = m
+that the_colon mark.Colon t m h = m
+that the_becomes mark.Becomes t m h = m
+that the_semicolon mark.Semicolon t m h = m
+that the_open mark.Open t m h = m
+that the_close mark.Close t m h = m
+that the_dots mark.Dots t m h = m
 that w c t m h = cc
 
 is_that : (w : Single) (t : Lexeme) → That w t → is_single w (mark_of t) ≡ true

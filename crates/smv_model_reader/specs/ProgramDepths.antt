@@ -2,15 +2,13 @@
 use Rattle.std.specs.Prelude.{ℕ, List, [], ◌∷◌, ◌++◌}
 use Rattle.smv_lexer.specs.declared.token.Token.{Token}
 use Rattle.smv_lexer.specs.Tokens.{HasTokens}
-use Rattle.smv_language.specs.ProgramTree.{Formula, DeclaredTree, DeclTree, DefineTree, AssignmentTree, SectionTree, ModuleTree}
-use Rattle.smv_language.specs.ProgramTree.{ProgramTree}
-use Rattle.smv_language.specs.Lexemes.{Lexeme, lexemes_of}
-use Rattle.smv_language.specs.SpellsProgram.{SpellsCommas, last_one, one_comma, SpellsBracketed, no_brackets, brackets, SpellsExpr}
-use Rattle.smv_language.specs.SpellsProgram.{SpellsDeclared, is_type, is_instance, is_empty_instance, SpellsDecl, declares, SpellsDefine}
-use Rattle.smv_language.specs.SpellsProgram.{defines, SpellsAssignment, assigns, SpellsSection, a_var, an_ivar, a_frozen, a_define}
-use Rattle.smv_language.specs.SpellsProgram.{some_constants, an_assign, an_init, an_invar, a_trans, SpellsSections, no_section, a_section}
-use Rattle.smv_language.specs.SpellsProgram.{skipped, SpellsModule, a_module, SpellsProgram}
-use Rattle.smv_language.specs.Bytes.{BytesSpellProgram}
+use Rattle.smv_language.specs.Language.{Formula, DeclaredTree, DeclTree, DefineTree, AssignmentTree, SectionTree, ModuleTree, ProgramTree}
+use Rattle.smv_language.specs.Language.{Lexeme, lexemes_of, SpellsCommas, last_one, one_comma, SpellsBracketed, no_brackets, brackets}
+use Rattle.smv_language.specs.Language.{SpellsExpr, SpellsDeclared, is_type, is_instance, is_empty_instance, SpellsDecl, declares}
+use Rattle.smv_language.specs.Language.{SpellsDefine, defines, SpellsAssignment, assigns, SpellsSection, a_var, an_ivar, a_frozen}
+use Rattle.smv_language.specs.Language.{some_constants, an_assign, an_init, an_invar, a_trans, SpellsSections, no_section, a_section}
+use Rattle.smv_language.specs.Language.{skipped, SpellsModule, a_module, SpellsProgram, BytesSpellProgram}
+use Rattle.smv_language.specs.SpellsProgram.{a_define}
 use Rattle.smv_expression_reader.specs.ExpressionDepths.{Spelling, AreWithin, spelling, in_formula, in_many}
 
 -- those of parts with commas between

@@ -1,24 +1,19 @@
 -- The grammar of programs, as one that is read by one lexeme at a time.
 use Rattle.std.specs.Prelude.{◌≡◌, ◌⊎◌, refl, Bool, true, false, List, [], ◌∷◌, ◌++◌, Option, Some, None, ◌||◌, codes}
 use Rattle.smv_lexer.specs.declared.token.TokenKind.TheVariants as k
-use Rattle.smv_language.specs.ProgramTree.{Text, Formula, DeclaredTree, DeclTree, DefineTree, AssignmentTree, SectionTree, ProgramTree}
-use Rattle.smv_language.specs.ProgramTree.{Path}
+use Rattle.smv_language.specs.Language.{Text, Formula, DeclaredTree, DeclTree, DefineTree, AssignmentTree, SectionTree, ProgramTree, Path}
+use Rattle.smv_language.specs.Language.{Lexeme, word, num, sign, SpellsInt, SpellsDotted, SpellsMany, SpellsBracketed, SpellsName}
+use Rattle.smv_language.specs.Language.{SpellsExpr, SpellsMember, SpellsType, SpellsDeclared, SpellsDecl, SpellsDefine, SpellsAssignment}
+use Rattle.smv_language.specs.Language.{SpellsFormals, SpellsSections, SpellsModule, HasNoSection}
 use Rattle.smv_language.specs.declared.program.Member.{Member}
-use Rattle.smv_language.specs.Lexemes.{Lexeme, word, num, sign}
-use Rattle.smv_language.specs.Spells.{SpellsInt, SpellsDotted}
-use Rattle.smv_language.specs.SpellsProgram.{SpellsMany, SpellsBracketed, SpellsName, SpellsExpr, SpellsMember, SpellsType, SpellsDeclared}
-use Rattle.smv_language.specs.SpellsProgram.{SpellsDecl, SpellsDefine, SpellsAssignment, SpellsFormals, SpellsSections, SpellsModule}
-use Rattle.smv_language.specs.SpellsProgram.{HasNoSection}
 use Rattle.smv_expression_reader.specs.Recogniser.{role_of, State, stuck, is_whole, is_stuck, start}
 use Rattle.smv_expression_reader.specs.Recogniser as machine
 use Rattle.smv_expression_reader.specs.Complete.{completion}
 use Rattle.smv_expression_reader.specs.PredictiveReader.{Grammar}
-use Rattle.smv_expression_reader.specs.Marks.{Mark, w_module, w_var, w_ivar, w_frozen, w_define, w_constants, w_assign, w_init, w_invar}
-use Rattle.smv_expression_reader.specs.Marks.{w_trans, w_skipped, w_boolean, w_first, w_after, a_name, a_number, s_becomes, s_dots, s_open}
-use Rattle.smv_expression_reader.specs.Marks.{s_close, s_open_brace, s_close_brace, s_comma, s_semicolon, s_colon, s_dot, s_minus, mark_of}
-use Rattle.smv_expression_reader.specs.Marks.{is_section}
+use Rattle.smv_expression_reader.specs.Marks.{mark_of, is_section, is_mark}
 use Rattle.smv_expression_reader.specs.Stops.{IsExpression}
-use Rattle.smv_expression_reader.specs.MarkView.{is_mark}
+use Rattle.smv_expression_reader.specs.declared.mark.Mark.{Mark}
+use Rattle.smv_expression_reader.specs.declared.mark.Mark.TheVariants as mark
 
 -- the lexemes that stand alone between others
 pub data Single : Type 0 where
@@ -64,14 +59,14 @@ pub data Tail (One : List Lexeme → Type 0) (end : Lexeme) : List Lexeme → Ty
 
 -- the mark of a single lexeme
 abbrev pub mark_of_single : Single → Mark
-mark_of_single the_name = a_name
-mark_of_single the_number = a_number
-mark_of_single the_colon = s_colon
-mark_of_single the_becomes = s_becomes
-mark_of_single the_semicolon = s_semicolon
-mark_of_single the_open = s_open
-mark_of_single the_close = s_close
-mark_of_single the_dots = s_dots
+mark_of_single the_name = mark.Name
+mark_of_single the_number = mark.Number
+mark_of_single the_colon = mark.Colon
+mark_of_single the_becomes = mark.Becomes
+mark_of_single the_semicolon = mark.Semicolon
+mark_of_single the_open = mark.Open
+mark_of_single the_close = mark.Close
+mark_of_single the_dots = mark.Dots
 
 -- the mark is that of the lexeme
 abbrev pub is_single : Single → Mark → Bool
@@ -156,71 +151,71 @@ passing false = Some (skip ∷ [])
 
 -- what is still expected of a type after a mark
 abbrev pub after_type : Mark → Option (List Sym)
-after_type w_boolean = Some []
-after_type a_number = Some (single the_dots ∷ int ∷ [])
-after_type s_minus = Some (single the_number ∷ single the_dots ∷ int ∷ [])
-after_type s_open_brace = Some (member ∷ more_members ∷ [])
+after_type mark.Boolean = Some []
+after_type mark.Number = Some (single the_dots ∷ int ∷ [])
+after_type mark.Minus = Some (single the_number ∷ single the_dots ∷ int ∷ [])
+after_type mark.OpenBrace = Some (member ∷ more_members ∷ [])
 after_type _ = None
 
 -- the same of what a name is declared as
 abbrev pub after_declared : Mark → Option (List Sym)
-after_declared a_name = Some (actuals ∷ [])
+after_declared mark.Name = Some (actuals ∷ [])
 after_declared c = after_type c
 
 -- the same of a section by its word
 abbrev pub after_section : Mark → Option (List Sym)
-after_section w_var = Some (decls ∷ sections ∷ [])
-after_section w_ivar = Some (type_decls ∷ sections ∷ [])
-after_section w_frozen = Some (type_decls ∷ sections ∷ [])
-after_section w_define = Some (defines ∷ sections ∷ [])
-after_section w_constants = Some (single the_name ∷ more_constants ∷ sections ∷ [])
-after_section w_assign = Some (assigns ∷ sections ∷ [])
-after_section w_init = Some (expr ∷ last_semicolon ∷ sections ∷ [])
-after_section w_invar = Some (expr ∷ last_semicolon ∷ sections ∷ [])
-after_section w_trans = Some (expr ∷ last_semicolon ∷ sections ∷ [])
-after_section w_skipped = Some (skip ∷ sections ∷ [])
+after_section mark.Var = Some (decls ∷ sections ∷ [])
+after_section mark.Ivar = Some (type_decls ∷ sections ∷ [])
+after_section mark.Frozen = Some (type_decls ∷ sections ∷ [])
+after_section mark.Define = Some (defines ∷ sections ∷ [])
+after_section mark.Constants = Some (single the_name ∷ more_constants ∷ sections ∷ [])
+after_section mark.Assign = Some (assigns ∷ sections ∷ [])
+after_section mark.Init = Some (expr ∷ last_semicolon ∷ sections ∷ [])
+after_section mark.Invar = Some (expr ∷ last_semicolon ∷ sections ∷ [])
+after_section mark.Trans = Some (expr ∷ last_semicolon ∷ sections ∷ [])
+after_section mark.Skipped = Some (skip ∷ sections ∷ [])
 after_section _ = None
 
 -- the same of each part whose mark decides
 abbrev pub after : Sym → Mark → Option (List Sym)
-after modules w_module = Some (single the_name ∷ formals ∷ sections ∷ modules ∷ [])
-after formals s_open = Some (first_formal ∷ [])
-after first_formal s_close = Some []
-after first_formal a_name = Some (more_formals ∷ [])
-after more_formals s_close = Some []
-after more_formals s_comma = Some (single the_name ∷ more_formals ∷ [])
+after modules mark.Module = Some (single the_name ∷ formals ∷ sections ∷ modules ∷ [])
+after formals mark.Open = Some (first_formal ∷ [])
+after first_formal mark.Close = Some []
+after first_formal mark.Name = Some (more_formals ∷ [])
+after more_formals mark.Close = Some []
+after more_formals mark.Comma = Some (single the_name ∷ more_formals ∷ [])
 after sections c = after_section c
-after decls a_name = Some (single the_colon ∷ declared ∷ single the_semicolon ∷ decls ∷ [])
-after type_decls a_name = Some (single the_colon ∷ type ∷ single the_semicolon ∷ type_decls ∷ [])
+after decls mark.Name = Some (single the_colon ∷ declared ∷ single the_semicolon ∷ decls ∷ [])
+after type_decls mark.Name = Some (single the_colon ∷ type ∷ single the_semicolon ∷ type_decls ∷ [])
 after declared c = after_declared c
 after type c = after_type c
-after actuals s_open = Some (first_actual ∷ [])
-after more_actuals s_close = Some []
-after more_actuals s_comma = Some (expr ∷ more_actuals ∷ [])
-after int a_number = Some []
-after int s_minus = Some (single the_number ∷ [])
-after member a_name = Some []
-after member a_number = Some []
-after member s_minus = Some (single the_number ∷ [])
-after more_members s_close_brace = Some []
-after more_members s_comma = Some (member ∷ more_members ∷ [])
-after defines a_name = Some (single the_becomes ∷ expr ∷ single the_semicolon ∷ defines ∷ [])
-after more_constants s_semicolon = Some []
-after more_constants s_comma = Some (single the_name ∷ more_constants ∷ [])
-after assigns a_name = Some (more_dots ∷ single the_becomes ∷ expr ∷ single the_semicolon ∷ assigns ∷ [])
-after assigns w_first =
+after actuals mark.Open = Some (first_actual ∷ [])
+after more_actuals mark.Close = Some []
+after more_actuals mark.Comma = Some (expr ∷ more_actuals ∷ [])
+after int mark.Number = Some []
+after int mark.Minus = Some (single the_number ∷ [])
+after member mark.Name = Some []
+after member mark.Number = Some []
+after member mark.Minus = Some (single the_number ∷ [])
+after more_members mark.CloseBrace = Some []
+after more_members mark.Comma = Some (member ∷ more_members ∷ [])
+after defines mark.Name = Some (single the_becomes ∷ expr ∷ single the_semicolon ∷ defines ∷ [])
+after more_constants mark.Semicolon = Some []
+after more_constants mark.Comma = Some (single the_name ∷ more_constants ∷ [])
+after assigns mark.Name = Some (more_dots ∷ single the_becomes ∷ expr ∷ single the_semicolon ∷ assigns ∷ [])
+after assigns mark.First =
     Some (single the_open ∷ single the_name ∷ more_dots ∷ single the_close ∷ single the_becomes ∷ expr ∷ single the_semicolon ∷ assigns
     ∷ [])
-after assigns w_after =
+after assigns mark.After =
     Some (single the_open ∷ single the_name ∷ more_dots ∷ single the_close ∷ single the_becomes ∷ expr ∷ single the_semicolon ∷ assigns
     ∷ [])
-after more_dots s_dot = Some (single the_name ∷ more_dots ∷ [])
-after last_semicolon s_semicolon = Some []
+after more_dots mark.Dot = Some (single the_name ∷ more_dots ∷ [])
+after last_semicolon mark.Semicolon = Some []
 after _ _ = None
 
 -- the first actual, or none
 abbrev pub after_actual : Mark → Lexeme → Option (List Sym)
-after_actual s_close t = Some []
+after_actual mark.Close t = Some []
 after_actual c t = live (machine.step start (role_of t)) (more_actuals ∷ [])
 
 -- what is still expected of a part after a lexeme
@@ -233,25 +228,25 @@ next x t = after x (mark_of t)
 
 -- the mark may follow an expression
 abbrev pub ends_formula : Mark → Bool
-ends_formula s_semicolon = true
-ends_formula s_comma = true
-ends_formula s_close = true
+ends_formula mark.Semicolon = true
+ends_formula mark.Comma = true
+ends_formula mark.Close = true
 ends_formula _ = false
 
 -- the mark may follow a dotted name
 abbrev pub ends_dots : Mark → Bool
-ends_dots s_becomes = true
-ends_dots s_close = true
+ends_dots mark.Becomes = true
+ends_dots mark.Close = true
 ends_dots _ = false
 
 -- the mark begins a module
 abbrev pub is_word_module : Mark → Bool
-is_word_module w_module = true
+is_word_module mark.Module = true
 is_word_module _ = false
 
 -- the mark is a semicolon
 abbrev pub is_word_semicolon : Mark → Bool
-is_word_semicolon s_semicolon = true
+is_word_semicolon mark.Semicolon = true
 is_word_semicolon _ = false
 
 -- whether the lexeme may follow the part

@@ -1,17 +1,16 @@
 -- The code's symbols and positions, as those of the grammar of programs.
 use Rattle.std.specs.Prelude.{◌≡◌, Bool, true, false, List, [], ◌∷◌, Option, Some, None}
-use Rattle.smv_language.specs.ProgramTree.{ProgramTree}
-use Rattle.smv_language.specs.Lexemes.{Lexeme}
-use Rattle.smv_language.specs.SpellsProgram.{SpellsProgram}
+use Rattle.smv_language.specs.Language.{ProgramTree, Lexeme, SpellsProgram}
 use Rattle.smv_model_reader.specs.declared.symbols.Symbol.{Symbol}
 use Rattle.smv_model_reader.specs.declared.symbols.Symbol.TheVariants as s
 use Rattle.smv_model_reader.specs.declared.expected.Position.{Position}
 use Rattle.smv_model_reader.specs.declared.expected.Position.TheVariants as p
-use Rattle.smv_expression_reader.specs.Recogniser.{Frame, is_stuck}
+use Rattle.smv_expression_reader.specs.Recogniser.{is_stuck}
 use Rattle.smv_expression_reader.specs.Views.{state_with}
 use Rattle.smv_expression_reader.specs.PredictiveReader.{taken}
-use Rattle.smv_expression_reader.specs.Marks.{Mark}
 use Rattle.smv_model_reader.specs.ProgramGrammar as read
+use Rattle.smv_expression_reader.specs.declared.frames.OpenFrame.{OpenFrame as Frame}
+use Rattle.smv_expression_reader.specs.declared.mark.Mark.{Mark}
 
 -- each symbol of the code, by its name in the grammar
 abbrev pub symbol_view : Symbol → read.Sym

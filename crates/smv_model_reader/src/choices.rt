@@ -4,7 +4,6 @@
 //! the other parts. One function stands for one part, as one case of `after` in `specs/ProgramGrammar.antt`.
 ghost use Rattle.std.specs.Prelude.{◌≡◌, IfOk};
 ghost use Rattle.smv_model_reader.specs.ProgramGrammar as read;
-ghost use Rattle.smv_expression_reader.specs.MarkView.{mark_view};
 ghost use Rattle.smv_model_reader.specs.Symbols.{symbol_view, choice, Chosen};
 
 use crate::symbols::{ExpectedSymbols, Symbol};
@@ -13,7 +12,7 @@ use smv_expression_reader::mark::{Mark, is_same};
 
 /// Modules: one with its name, formals and sections, and more modules.
 fn after_modules(symbols: &mut ExpectedSymbols, mark: Mark) -> Result<bool, OutOfMemory>
-    ensures { IfOk result (λ on. Chosen on (read.after read.modules (mark_view mark)) symbols.old symbols.new) }
+    ensures { IfOk result (λ on. Chosen on (read.after read.modules mark) symbols.old symbols.new) }
 {
     match mark {
         Mark::Module => symbols.expect(&[
@@ -28,7 +27,7 @@ fn after_modules(symbols: &mut ExpectedSymbols, mark: Mark) -> Result<bool, OutO
 
 /// The formals of a module, where a parenthesis opens them.
 fn after_formals(symbols: &mut ExpectedSymbols, mark: Mark) -> Result<bool, OutOfMemory>
-    ensures { IfOk result (λ on. Chosen on (read.after read.formals (mark_view mark)) symbols.old symbols.new) }
+    ensures { IfOk result (λ on. Chosen on (read.after read.formals mark) symbols.old symbols.new) }
 {
     match mark {
         Mark::Open => symbols.expect(&[Symbol::FirstFormal]),
@@ -38,7 +37,7 @@ fn after_formals(symbols: &mut ExpectedSymbols, mark: Mark) -> Result<bool, OutO
 
 /// The first formal, or the parenthesis that closes none.
 fn after_first_formal(symbols: &mut ExpectedSymbols, mark: Mark) -> Result<bool, OutOfMemory>
-    ensures { IfOk result (λ on. Chosen on (read.after read.first_formal (mark_view mark)) symbols.old symbols.new) }
+    ensures { IfOk result (λ on. Chosen on (read.after read.first_formal mark) symbols.old symbols.new) }
 {
     match mark {
         Mark::Close => Ok(true),
@@ -49,7 +48,7 @@ fn after_first_formal(symbols: &mut ExpectedSymbols, mark: Mark) -> Result<bool,
 
 /// Behind a formal: a comma and one more, or the parenthesis that closes them.
 fn after_more_formals(symbols: &mut ExpectedSymbols, mark: Mark) -> Result<bool, OutOfMemory>
-    ensures { IfOk result (λ on. Chosen on (read.after read.more_formals (mark_view mark)) symbols.old symbols.new) }
+    ensures { IfOk result (λ on. Chosen on (read.after read.more_formals mark) symbols.old symbols.new) }
 {
     match mark {
         Mark::Close => Ok(true),
@@ -60,7 +59,7 @@ fn after_more_formals(symbols: &mut ExpectedSymbols, mark: Mark) -> Result<bool,
 
 /// A section by its word, and more sections.
 fn after_section(symbols: &mut ExpectedSymbols, mark: Mark) -> Result<bool, OutOfMemory>
-    ensures { IfOk result (λ on. Chosen on (read.after_section (mark_view mark)) symbols.old symbols.new) }
+    ensures { IfOk result (λ on. Chosen on (read.after_section mark) symbols.old symbols.new) }
 {
     match mark {
         Mark::Var => symbols.expect(&[Symbol::Decls, Symbol::Sections]),
@@ -79,7 +78,7 @@ fn after_section(symbols: &mut ExpectedSymbols, mark: Mark) -> Result<bool, OutO
 
 /// A declaration of a variable or an instance, and more of them.
 fn after_decls(symbols: &mut ExpectedSymbols, mark: Mark) -> Result<bool, OutOfMemory>
-    ensures { IfOk result (λ on. Chosen on (read.after read.decls (mark_view mark)) symbols.old symbols.new) }
+    ensures { IfOk result (λ on. Chosen on (read.after read.decls mark) symbols.old symbols.new) }
 {
     match mark {
         Mark::Name => symbols.expect(&[
@@ -94,7 +93,7 @@ fn after_decls(symbols: &mut ExpectedSymbols, mark: Mark) -> Result<bool, OutOfM
 
 /// A declaration of a variable, and more of them.
 fn after_type_decls(symbols: &mut ExpectedSymbols, mark: Mark) -> Result<bool, OutOfMemory>
-    ensures { IfOk result (λ on. Chosen on (read.after read.type_decls (mark_view mark)) symbols.old symbols.new) }
+    ensures { IfOk result (λ on. Chosen on (read.after read.type_decls mark) symbols.old symbols.new) }
 {
     match mark {
         Mark::Name => symbols.expect(&[
@@ -109,7 +108,7 @@ fn after_type_decls(symbols: &mut ExpectedSymbols, mark: Mark) -> Result<bool, O
 
 /// A type: `boolean`, a range, or members in braces.
 fn after_type(symbols: &mut ExpectedSymbols, mark: Mark) -> Result<bool, OutOfMemory>
-    ensures { IfOk result (λ on. Chosen on (read.after_type (mark_view mark)) symbols.old symbols.new) }
+    ensures { IfOk result (λ on. Chosen on (read.after_type mark) symbols.old symbols.new) }
 {
     match mark {
         Mark::Boolean => Ok(true),
@@ -122,7 +121,7 @@ fn after_type(symbols: &mut ExpectedSymbols, mark: Mark) -> Result<bool, OutOfMe
 
 /// A module with its actuals, or a type.
 fn after_declared(symbols: &mut ExpectedSymbols, mark: Mark) -> Result<bool, OutOfMemory>
-    ensures { IfOk result (λ on. Chosen on (read.after_declared (mark_view mark)) symbols.old symbols.new) }
+    ensures { IfOk result (λ on. Chosen on (read.after_declared mark) symbols.old symbols.new) }
 {
     match mark {
         Mark::Name => symbols.expect(&[Symbol::Actuals]),
@@ -132,7 +131,7 @@ fn after_declared(symbols: &mut ExpectedSymbols, mark: Mark) -> Result<bool, Out
 
 /// The actuals of an instance, where a parenthesis opens them.
 fn after_actuals(symbols: &mut ExpectedSymbols, mark: Mark) -> Result<bool, OutOfMemory>
-    ensures { IfOk result (λ on. Chosen on (read.after read.actuals (mark_view mark)) symbols.old symbols.new) }
+    ensures { IfOk result (λ on. Chosen on (read.after read.actuals mark) symbols.old symbols.new) }
 {
     match mark {
         Mark::Open => symbols.expect(&[Symbol::FirstActual]),
@@ -142,7 +141,7 @@ fn after_actuals(symbols: &mut ExpectedSymbols, mark: Mark) -> Result<bool, OutO
 
 /// Behind an actual: a comma and one more, or the parenthesis that closes them.
 fn after_more_actuals(symbols: &mut ExpectedSymbols, mark: Mark) -> Result<bool, OutOfMemory>
-    ensures { IfOk result (λ on. Chosen on (read.after read.more_actuals (mark_view mark)) symbols.old symbols.new) }
+    ensures { IfOk result (λ on. Chosen on (read.after read.more_actuals mark) symbols.old symbols.new) }
 {
     match mark {
         Mark::Close => Ok(true),
@@ -153,7 +152,7 @@ fn after_more_actuals(symbols: &mut ExpectedSymbols, mark: Mark) -> Result<bool,
 
 /// A number, with a minus or without.
 fn after_int(symbols: &mut ExpectedSymbols, mark: Mark) -> Result<bool, OutOfMemory>
-    ensures { IfOk result (λ on. Chosen on (read.after read.int (mark_view mark)) symbols.old symbols.new) }
+    ensures { IfOk result (λ on. Chosen on (read.after read.int mark) symbols.old symbols.new) }
 {
     match mark {
         Mark::Number => Ok(true),
@@ -164,7 +163,7 @@ fn after_int(symbols: &mut ExpectedSymbols, mark: Mark) -> Result<bool, OutOfMem
 
 /// A member of a type: a symbol or a number.
 fn after_member(symbols: &mut ExpectedSymbols, mark: Mark) -> Result<bool, OutOfMemory>
-    ensures { IfOk result (λ on. Chosen on (read.after read.member (mark_view mark)) symbols.old symbols.new) }
+    ensures { IfOk result (λ on. Chosen on (read.after read.member mark) symbols.old symbols.new) }
 {
     match mark {
         Mark::Name => Ok(true),
@@ -176,7 +175,7 @@ fn after_member(symbols: &mut ExpectedSymbols, mark: Mark) -> Result<bool, OutOf
 
 /// Behind a member: a comma and one more, or the brace that closes them.
 fn after_more_members(symbols: &mut ExpectedSymbols, mark: Mark) -> Result<bool, OutOfMemory>
-    ensures { IfOk result (λ on. Chosen on (read.after read.more_members (mark_view mark)) symbols.old symbols.new) }
+    ensures { IfOk result (λ on. Chosen on (read.after read.more_members mark) symbols.old symbols.new) }
 {
     match mark {
         Mark::CloseBrace => Ok(true),
@@ -187,7 +186,7 @@ fn after_more_members(symbols: &mut ExpectedSymbols, mark: Mark) -> Result<bool,
 
 /// A define, and more of them.
 fn after_defines(symbols: &mut ExpectedSymbols, mark: Mark) -> Result<bool, OutOfMemory>
-    ensures { IfOk result (λ on. Chosen on (read.after read.defines (mark_view mark)) symbols.old symbols.new) }
+    ensures { IfOk result (λ on. Chosen on (read.after read.defines mark) symbols.old symbols.new) }
 {
     match mark {
         Mark::Name => symbols.expect(&[
@@ -202,7 +201,7 @@ fn after_defines(symbols: &mut ExpectedSymbols, mark: Mark) -> Result<bool, OutO
 
 /// Behind a constant: a comma and one more, or the semicolon that ends them.
 fn after_more_constants(symbols: &mut ExpectedSymbols, mark: Mark) -> Result<bool, OutOfMemory>
-    ensures { IfOk result (λ on. Chosen on (read.after read.more_constants (mark_view mark)) symbols.old symbols.new) }
+    ensures { IfOk result (λ on. Chosen on (read.after read.more_constants mark) symbols.old symbols.new) }
 {
     match mark {
         Mark::Semicolon => Ok(true),
@@ -213,7 +212,7 @@ fn after_more_constants(symbols: &mut ExpectedSymbols, mark: Mark) -> Result<boo
 
 /// An assignment, for all moments, the first or the next ones, and more of them.
 fn after_assigns(symbols: &mut ExpectedSymbols, mark: Mark) -> Result<bool, OutOfMemory>
-    ensures { IfOk result (λ on. Chosen on (read.after read.assigns (mark_view mark)) symbols.old symbols.new) }
+    ensures { IfOk result (λ on. Chosen on (read.after read.assigns mark) symbols.old symbols.new) }
 {
     match mark {
         Mark::Name => symbols.expect(&[
@@ -249,7 +248,7 @@ fn after_assigns(symbols: &mut ExpectedSymbols, mark: Mark) -> Result<bool, OutO
 
 /// Behind a name: a dot and one more.
 fn after_more_dots(symbols: &mut ExpectedSymbols, mark: Mark) -> Result<bool, OutOfMemory>
-    ensures { IfOk result (λ on. Chosen on (read.after read.more_dots (mark_view mark)) symbols.old symbols.new) }
+    ensures { IfOk result (λ on. Chosen on (read.after read.more_dots mark) symbols.old symbols.new) }
 {
     match mark {
         Mark::Dot => symbols.expect(&[Symbol::Name, Symbol::MoreDots]),
@@ -259,7 +258,7 @@ fn after_more_dots(symbols: &mut ExpectedSymbols, mark: Mark) -> Result<bool, Ou
 
 /// The semicolon of a formula, which may be left out.
 fn after_last_semicolon(symbols: &mut ExpectedSymbols, mark: Mark) -> Result<bool, OutOfMemory>
-    ensures { IfOk result (λ on. Chosen on (read.after read.last_semicolon (mark_view mark)) symbols.old symbols.new) }
+    ensures { IfOk result (λ on. Chosen on (read.after read.last_semicolon mark) symbols.old symbols.new) }
 {
     match mark {
         Mark::Semicolon => Ok(true),
@@ -271,7 +270,7 @@ fn after_last_semicolon(symbols: &mut ExpectedSymbols, mark: Mark) -> Result<boo
 /// actual and what is passed over hang on more than the mark.
 #[tactic(auto, using(crate::proofs::ProgramStops::alone_chosen))]
 pub fn after(symbols: &mut ExpectedSymbols, symbol: Symbol, mark: Mark) -> Result<bool, OutOfMemory>
-    ensures { IfOk result (λ on. Chosen on (choice (symbol_view symbol) (mark_view mark)) symbols.old symbols.new) }
+    ensures { IfOk result (λ on. Chosen on (choice (symbol_view symbol) mark) symbols.old symbols.new) }
 {
     match symbol {
         Symbol::Name => Ok(is_same(mark, Mark::Name)),

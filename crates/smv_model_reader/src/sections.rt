@@ -7,7 +7,6 @@ ghost use Rattle.smv_language.specs.ExpressionTree.{tree_of};
 ghost use Rattle.smv_language.specs.ProgramTree.{declared_tree, decl_tree, define_tree, assignment_tree, section_tree, module_tree};
 ghost use Rattle.smv_language.specs.ProgramTree.{program_tree as tree_of_program};
 ghost use Rattle.smv_expression_reader.specs.declared.fault.BuildFault.TheVariants as stop;
-ghost use Rattle.smv_expression_reader.specs.MarkView.{mark_view};
 ghost use Rattle.smv_expression_reader.specs.SecondPass.{got, deep, none};
 ghost use Rattle.smv_model_reader.specs.ProgramParts as part;
 
@@ -431,9 +430,9 @@ fn pass_over(cursor: &mut Cursor)
 
 /// What follows the word of a section.
 fn section(alloc: Global, cursor: &mut Cursor, word: Mark) -> Result<Section, BuildFault>
-    ensures ok { IfOk result (λ v. part.section_at (mark_view word) cursor.old ≡ got (section_tree v) cursor.new) }
-    ensures deep { result ≡ Err stop.TooDeep → part.section_at (mark_view word) cursor.old ≡ deep }
-    ensures none { result ≡ Err stop.NoTree → part.section_at (mark_view word) cursor.old ≡ none }
+    ensures ok { IfOk result (λ v. part.section_at word cursor.old ≡ got (section_tree v) cursor.new) }
+    ensures deep { result ≡ Err stop.TooDeep → part.section_at word cursor.old ≡ deep }
+    ensures none { result ≡ Err stop.NoTree → part.section_at word cursor.old ≡ none }
 {
     match word {
         Mark::Var => Ok(Section::Var(decls(alloc, cursor)?)),
@@ -451,7 +450,7 @@ fn section(alloc: Global, cursor: &mut Cursor, word: Mark) -> Result<Section, Bu
 
 /// Whether the mark is the word of a section that is kept.
 fn begins_section(mark: Mark) -> bool
-    ensures { result ≡ part.is_kept (mark_view mark) }
+    ensures { result ≡ part.is_kept mark }
 {
     match mark {
         Mark::Var => true,

@@ -3,11 +3,7 @@ use Rattle.std.proofs.Common.{◌≡◌, ℕ, suc, ◌+◌, ◌<◌, arith, Bool
 use Rattle.std.specs.Prelude.{codes, slice_get, option_map}
 use Rattle.std.proofs.lemmas.List.{length-map}
 use Rattle.smv_language.specs.declared.expr.Expr.{Expr}
-use Rattle.smv_language.specs.ProgramTree.{Text, Path, Formula, instance, ModuleTree, ProgramTree}
-use Rattle.smv_language.specs.Texts.{same_text}
-use Rattle.smv_language.specs.ExpressionTree.{tree_of}
-use Rattle.smv_language.specs.Scope.{Place, an_instance, undeclared, actual_key, find_module, kind_in, kind_at, module_at, plain_name}
-use Rattle.smv_language.specs.Trace.{Each, IsInstance}
+use Rattle.smv_language.specs.Language.{Text, Path, Formula, instance, ModuleTree, ProgramTree, same_text, tree_of, Place, an_instance, undeclared, actual_key, find_module, kind_in, kind_at, module_at, plain_name, Each, IsInstance}
 use Rattle.smv_flat_laws.specs.Items.{a_declaration, NumberedModule, items_of, modules_from, modules_of, numbered_items}
 use Rattle.smv_flat_laws.specs.Rules.{main_has_parameters, a_header, an_item, has_formals, IsKept, IsWalkable}
 use Rattle.smv_flat_laws.specs.Model.{Root, roots_of_type, roots_of}

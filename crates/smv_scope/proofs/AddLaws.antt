@@ -2,8 +2,7 @@
 use Rattle.std.proofs.Common.{◌≡◌, ℕ, suc, ◌+◌, arith, Bool, true, false, ◌||◌, List, [], ◌∷◌, ◌++◌, length, map, Some, refl, ap, ◌∙◌, sym, subst, ◌⊎◌, inl, inr}
 use Rattle.std.proofs.lemmas.List.{map-append}
 use Rattle.std.specs.Prelude.{slice_get}
-use Rattle.smv_language.specs.ProgramTree.{ProgramTree}
-use Rattle.smv_language.specs.Scope.{Key}
+use Rattle.smv_language.specs.Language.{ProgramTree, Key, EachBoth}
 use Rattle.smv_flat_laws.specs.Rules.{IsWalkable, expression_of}
 use Rattle.smv_flat_laws.specs.Model as model
 use Rattle.smv_flat_laws.specs.Model.{Adds, AddsAll, same_key, is_key_among}
@@ -16,7 +15,6 @@ use Rattle.smv_scope.proofs.RootLaws.{keys_once}
 use Rattle.smv_scope.proofs.NeedLaws.{IsLinked}
 use Rattle.smv_flat_laws.proofs.Listed.{key_equal as same_key_equal}
 use Rattle.smv_flat_laws.proofs.Numbered.{same_key_refl}
-use Rattle.smv_language.specs.Trace.{EachBoth}
 
 -- the keys of all numbers are all keys
 all_keys : {A : Type 0} (f : ℕ → A) (from : ℕ) (xs : List A) → ((k : ℕ) (x : A) → slice_get xs k ≡ Some x → f (from + k) ≡ x) → map f (upto_from from (length xs)) ≡ xs

@@ -6,8 +6,7 @@ use Rattle.std.proofs.lemmas.List.Folds.{list_all-append}
 use Rattle.smv_language.specs.declared.expr.Expr.{Expr}
 use Rattle.smv_language.specs.declared.expr.Expr.TheVariants.{Case, SetOf}
 use Rattle.smv_language.specs.declared.expr.Op.TheVariants as op
-use Rattle.smv_language.specs.Tree.{Tree, binary}
-use Rattle.smv_language.specs.ExpressionTree.{tree_of, trees_of, branches_of}
+use Rattle.smv_language.specs.Language.{Tree, binary, tree_of, trees_of, branches_of}
 use Rattle.smv_language.proofs.WrittenLaws.{tree_of_case, tree_of_set}
 use Rattle.smv_language.specs.declared.model.Flat.{Flat}
 use Rattle.smv_language.specs.declared.model.Formula.{Formula}

@@ -3,9 +3,7 @@ use Rattle.std.proofs.Common.{◌≡◌, ℕ, zero, suc, ◌+◌, ◌-◌, ◌<�
 use Rattle.std.specs.Prelude.{slice_get, flat_map, Vec}
 use Rattle.std.specs.declared.alloc.Global.{Global}
 use Rattle.std.proofs.lemmas.List.{append_assoc, map-append, length-append, length-map, length-reverse}
-use Rattle.smv_language.specs.ProgramTree.{Text, ModuleTree, ProgramTree}
-use Rattle.smv_language.specs.Scope.{Place, is_missing}
-use Rattle.smv_language.specs.Flat.{FlatVariable}
+use Rattle.smv_language.specs.Language.{Text, ModuleTree, ProgramTree, Place, is_missing, FlatVariable, place_of, variable_tree, texts, EachBoth}
 use Rattle.smv_flat_laws.specs.Items.{Item as ItemOf, items_of, NumberedItem, modules_from, modules_of, items_named, Visit, visits_of, walk_items, walk}
 use Rattle.smv_flat_laws.proofs.Pigeons.{no_more_names}
 use Rattle.smv_scope.specs.declared.items.Numbered.{Numbered}
@@ -16,15 +14,12 @@ use Rattle.smv_scope.specs.declared.walk.Meaning.{Meaning as Found}
 use Rattle.smv_scope.specs.declared.walk.Spot.{Spot}
 use Rattle.smv_scope.specs.declared.walk.Walk.{Walk}
 use Rattle.smv_scope.specs.ItemTree.{numbered_tree}
-use Rattle.smv_language.specs.ModelTree.{place_of, variable_tree}
 use Rattle.smv_scope.specs.SceneTree.{AreModules, HasNames, number_and_item}
-use Rattle.smv_language.specs.BorrowedTexts.{texts}
 use Rattle.smv_scope.specs.InstanceWalk.{Call, calls_in, variables_in, walk_from, program_in, name_in, name_at, call_of, calls_of, variables_of_walk, on_path_of, place_of_spot, place_at, visits_here, visits_within, visits_told, told_from, IsOwnIn, IsCaller, IsSpotOf, IsDeclaredIn, HasWalked, HasGone, HasEntered, IsPath, IsStanding, IsEntry, own_of, with_own}
 use Rattle.smv_scope.proofs.PathLaws.{path_more}
 use Rattle.smv_scope.proofs.WalkLaws.{both_of_map, caller_stays}
 use Rattle.smv_language.proofs.ListLaws.{take_own}
 use Rattle.smv_flat_laws.proofs.BothLaws.{both_long}
-use Rattle.smv_language.specs.Trace.{EachBoth}
 
 without_last : {A : Type 0} (xs : List A) (x : A) → take (length (xs ++ x ∷ []) - 1) (xs ++ x ∷ []) ≡ xs
 without_last xs x =

@@ -3,9 +3,7 @@ use Rattle.std.proofs.Common.{◌≡◌, ℕ, suc, ◌+◌, arith, Bool, true, f
 use Rattle.std.specs.Prelude.{slice_get}
 use Rattle.indexmap.specs.IndexMap.{get_by}
 use Rattle.std.specs.Borrow.{Bor}
-use Rattle.smv_language.specs.ProgramTree.{Text, ModuleTree, ProgramTree, program_tree}
-use Rattle.smv_language.specs.Scope.{find_module}
-use Rattle.smv_language.specs.Texts.{same_text, first_with}
+use Rattle.smv_language.specs.Language.{Text, ModuleTree, ProgramTree, program_tree, find_module, same_text, first_with, same_borrowed}
 use Rattle.smv_flat_laws.specs.Items.{items_of, NumberedModule, modules_from, modules_of, numbered_items, items_found}
 use Rattle.smv_flat_laws.proofs.Variables.{both_at}
 use Rattle.smv_scope.specs.declared.modules.ModuleNames.{ModuleNames}
@@ -13,7 +11,6 @@ use Rattle.smv_scope.specs.declared.modules.Modules.{Modules}
 use Rattle.smv_scope.specs.ModuleFaults.{IsModuleAt}
 use Rattle.smv_scope.specs.SceneTree.{AreModules, HasNames, module_entries, module_from}
 use Rattle.smv_scope.proofs.Tables.{looked_up}
-use Rattle.smv_language.specs.BorrowedTexts.{same_borrowed}
 
 -- a name without an entry has no module
 no_entry : (k : ℕ) (p : ProgramTree) (x : Text) → first_with (module_entries k p) x ≡ None → find_module p x ≡ None

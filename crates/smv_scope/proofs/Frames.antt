@@ -6,10 +6,8 @@ use Rattle.std.specs.declared.alloc.Global.{Global}
 use Rattle.std.proofs.lemmas.Bool.{ltb-true, ltb-false}
 use Rattle.std.proofs.lemmas.List.{append-nil, take_all}
 use Rattle.smv_language.specs.declared.expr.Expr.{Expr}
-use Rattle.smv_language.specs.ProgramTree.{Text, Path, Formula, instance, ProgramTree}
-use Rattle.smv_language.specs.ExpressionTree.{tree_of}
-use Rattle.smv_language.specs.Scope.{Place, Kind, a_formal, a_variable, a_define, an_instance, undeclared, Meaning, a_variable_at, an_expression_at, an_instance_at, a_symbol, Means, formal_from, kind_after_formals, kind_at, module_at, plain_name, actual_of_kind, nth_formula}
-use Rattle.smv_language.specs.Flat.{FlatInstance}
+use Rattle.smv_language.specs.Language.{Text, Path, Formula, instance, ProgramTree, tree_of, Place, Kind, a_formal, a_variable, an_instance, undeclared, Meaning, a_variable_at, an_expression_at, an_instance_at, Means, formal_from, kind_after_formals, kind_at, module_at, plain_name, actual_of_kind, nth_formula, FlatInstance}
+use Rattle.smv_language.specs.Scope.{a_define, a_symbol}
 use Rattle.smv_flat_laws.specs.Items.{items_of, instances_of}
 use Rattle.smv_flat_laws.specs.Looks.{Look, at_actual, plain_of, step_kind, step_of, look_after}
 use Rattle.smv_flat_laws.proofs.EndLaws.{steps_more}

@@ -1,8 +1,7 @@
 -- The items of an instance, one after another.
 use Rattle.std.proofs.Common.{◌≡◌, ℕ, ◌+◌, ◌<◌, List, [], ◌∷◌, ◌++◌, length, map, get_or, take, drop, None, refl, ap, ◌∙◌, sym, subst}
 use Rattle.std.proofs.lemmas.List.{take_more, drop_more, map-append}
-use Rattle.smv_language.specs.Scope.{Place}
-use Rattle.smv_language.specs.Flat.{FlatVariable}
+use Rattle.smv_language.specs.Language.{Place, FlatVariable, variable_tree, EachBoth}
 use Rattle.smv_flat_laws.specs.Items.{Item as ItemOf, Visit, visits_of}
 use Rattle.smv_scope.specs.declared.fault.FlatFault.{FlatFault}
 use Rattle.smv_scope.specs.declared.items.Numbered.{Numbered}
@@ -10,7 +9,6 @@ use Rattle.smv_scope.specs.declared.modules.Modules.{Modules}
 use Rattle.smv_scope.specs.declared.walk.Meaning.{Meaning as Found}
 use Rattle.smv_scope.specs.declared.walk.Walk.{Walk}
 use Rattle.smv_scope.specs.ItemTree.{numbered_tree}
-use Rattle.smv_language.specs.ModelTree.{variable_tree}
 use Rattle.smv_scope.specs.ModuleFaults.{told_first, IsTold}
 use Rattle.smv_scope.specs.InstanceWalk.{Call, calls_in, calls_declared, variables_in, visits_told, program_in, call_of, calls_of, variables_of_walk, on_path_of, place_at, walk_from, visits_at, visits_here, told_from, IsOwnIn, HasWalked, HasMet, HasGone, IsStanding}
 use Rattle.smv_scope.proofs.ReadingLaws.{told_as, told_here, none_first}
@@ -18,7 +16,6 @@ use Rattle.smv_scope.proofs.WalkLaws.{flat_join, walked_none, own_stays, calls_g
 use Rattle.smv_scope.proofs.SceneItems.{both_more}
 use Rattle.smv_language.proofs.ListLaws.{flat_end}
 use Rattle.smv_flat_laws.proofs.BothLaws.{both_push}
-use Rattle.smv_language.specs.Trace.{EachBoth}
 
 -- the items up to one of them, with what they mean, and what is told of those that are left
 pub record GoneSoFar (ms : Modules) (w0 : Walk) (spot : ℕ) (items : List Numbered) (k : ℕ) (w1 : Walk) (meanings : List Found) : Type 0 where

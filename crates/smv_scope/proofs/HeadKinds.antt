@@ -1,12 +1,9 @@
 -- What formals, definitions and declarations are in the modules of instances.
 use Rattle.std.proofs.Common.{◌≡◌, ℕ, zero, suc, ◌+◌, arith, Bool, true, false, List, [], ◌∷◌, ◌++◌, Some, refl, sym, ◌∙◌, ap}
 use Rattle.std.specs.Prelude.{slice_get, flat_map}
-use Rattle.smv_language.specs.ProgramTree.{Text, DeclTree, DefineTree, ModuleTree, ProgramTree}
-use Rattle.smv_language.specs.Texts.{same_text, is_among}
-use Rattle.smv_language.specs.Scope.{Place, Role, a_formal, a_define, kind_declared, kind_in, kind_in_sections, kind_after_formals, kind_at, module_at, find_module, formal_from}
-use Rattle.smv_language.specs.Trace.{IsInstance}
+use Rattle.smv_language.specs.Language.{Text, DeclTree, DefineTree, ModuleTree, ProgramTree, same_text, is_among, Place, Role, a_formal, kind_declared, kind_in, kind_in_sections, kind_after_formals, kind_at, module_at, find_module, formal_from, IsInstance, FlatInstance}
+use Rattle.smv_language.specs.Scope.{a_define}
 use Rattle.smv_language.proofs.ValueLaws.{same_text_refl}
-use Rattle.smv_language.specs.Flat.{FlatInstance}
 use Rattle.smv_flat_laws.specs.Items.{Item, a_declaration, a_definition, an_assignment, some_constants, an_init, an_invar, a_trans, NumberedItem, items_of, items_named, instances_of}
 use Rattle.smv_flat_laws.specs.Rules.{has_twice, names_of_item, IsWalkable}
 use Rattle.smv_flat_laws.proofs.Conditions.{each_at}

@@ -1,7 +1,6 @@
 -- The rules of a module's header, from the tests of the code.
 use Rattle.std.proofs.Common.{◌≡◌, ◌↔◌, ℕ, suc, Bool, true, false, IsTrue, ◌&&◌, ◌||◌, List, [], ◌∷◌, codes, refl, ap, ◌∙◌, subst}
-use Rattle.smv_language.specs.ProgramTree.{Text, ModuleTree, ProgramTree}
-use Rattle.smv_language.specs.Texts.{same_text, is_among}
+use Rattle.smv_language.specs.Language.{Text, ModuleTree, ProgramTree, same_text, is_among}
 use Rattle.smv_language.proofs.ValueLaws.{same_text_refl}
 use Rattle.smv_flat_laws.specs.Rules.{main_has_parameters, double_module, has_formals, is_module_among}
 use Rattle.smv_scope.specs.ModuleFaults.{told_if, told_first, header_told, texts_of}

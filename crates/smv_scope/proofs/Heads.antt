@@ -1,11 +1,8 @@
 -- A formal is one of a number at the instance of a number, and each is so once.
 use Rattle.std.proofs.Common.{◌≡◌, ℕ, zero, suc, Bool, true, false, ◌||◌, List, [], ◌∷◌, Some, refl, sym, ◌∙◌, ap}
 use Rattle.std.specs.Prelude.{slice_get}
-use Rattle.smv_language.specs.ProgramTree.{Text, instance, ModuleTree, ProgramTree}
-use Rattle.smv_language.specs.Texts.{same_text, is_among}
-use Rattle.smv_language.specs.Scope.{Place, find_module}
+use Rattle.smv_language.specs.Language.{Text, instance, ModuleTree, ProgramTree, same_text, is_among, Place, find_module, FlatInstance}
 use Rattle.smv_language.proofs.ValueLaws.{same_text_refl}
-use Rattle.smv_language.specs.Flat.{FlatInstance}
 use Rattle.smv_flat_laws.specs.Items.{instances_of}
 use Rattle.smv_flat_laws.specs.Rules.{has_twice, IsWalkable}
 use Rattle.smv_scope.specs.KnownFormals.{IsHead}

@@ -1,8 +1,8 @@
 -- The links of definitions by their numbers are what their expressions name.
 use Rattle.std.proofs.Common.{◌≡◌, ℕ, zero, suc, true, List, [], ◌∷◌, map, Option, Some, None, refl, ap, ◌∙◌, sym, subst, inl, inr}
 use Rattle.std.specs.Prelude.{slice_get, codes}
-use Rattle.smv_language.specs.ProgramTree.{Text, Path, Formula, ProgramTree, ModuleTree}
-use Rattle.smv_language.specs.Scope.{Place, Key, define_key, a_variable, Meaning, a_variable_at, an_expression_at, an_instance_at, a_symbol, Means, kind_at, module_at, find_module}
+use Rattle.smv_language.specs.Language.{Text, Path, Formula, ProgramTree, ModuleTree, Place, Key, define_key, a_variable, Meaning, a_variable_at, an_expression_at, an_instance_at, Means, kind_at, module_at, find_module, role_of}
+use Rattle.smv_language.specs.Scope.{a_symbol}
 use Rattle.smv_flat_laws.specs.Items.{visits, variables_of}
 use Rattle.smv_flat_laws.specs.Looks.{MeansNothing, MeetsLoop}
 use Rattle.smv_flat_laws.specs.Rules.{MeansInput, IsWalkable, is_input_kind}
@@ -16,7 +16,6 @@ use Rattle.smv_language.specs.declared.model.Role.{Role}
 use Rattle.smv_language.specs.declared.model.Role.TheVariants.{State, Input, Frozen}
 use Rattle.smv_scope.specs.declared.walk.Meaning.{Meaning as Found}
 use Rattle.smv_scope.specs.declared.walk.Meaning.TheVariants as found
-use Rattle.smv_language.specs.ModelTree.{role_of}
 use Rattle.smv_scope.specs.SceneTree.{Denotes, IsFound}
 use Rattle.smv_scope.specs.NeedsTree.{keys_of, IsKeyAt}
 use Rattle.smv_scope.specs.Links.{Has}

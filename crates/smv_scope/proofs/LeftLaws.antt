@@ -3,7 +3,7 @@ use Rattle.std.proofs.Common.{◌≡◌, ℕ, zero, suc, ◌+◌, ◌<◌, ◌�
 use Rattle.std.proofs.lemmas.Bool.{cases_lt}
 use Rattle.std.proofs.lemmas.List.{length-append, length-map}
 use Rattle.std.specs.Prelude.{slice_get}
-use Rattle.smv_language.specs.Trace.{Each}
+use Rattle.smv_language.specs.Language.{Each, opposite}
 use Rattle.smv_scope.specs.declared.needs.WalkMark.{WalkMark}
 use Rattle.smv_scope.specs.declared.needs.WalkMark.TheVariants.{Unmet, Begun, Ended}
 use Rattle.smv_scope.specs.declared.needs.Task.{Task}
@@ -12,7 +12,6 @@ use Rattle.smv_scope.specs.Links.{Has, Graph, IsWithin, Spread, is_marked, sprea
 use Rattle.smv_scope.specs.DefinitionOrder.{Lay, mark_or, mark_at, visits, visit_by, lay_by, number_of, IsLaying}
 use Rattle.smv_scope.specs.WorkLeft.{open_work, left_to_spread, is_unmet, left_to_lay}
 use Rattle.std.proofs.lemmas.Option.{same_Some as some_same}
-use Rattle.smv_language.specs.Values.{opposite}
 use Rattle.base_values.proofs.ListLaws.{get_within}
 use Rattle.base_values.specs.Marks.{is_set}
 

@@ -1,8 +1,7 @@
 -- What is found after some steps of a look-up is found at all, and which formals a look-up meets.
 use Rattle.std.proofs.Common.{◌≡◌, ℕ, zero, suc, ◌+◌, ◌-◌, ◌<◌, ◌≤◌, arith, Bool, true, false, ltb, List, [], ◌∷◌, ◌++◌, Option, Some, None, refl, sym, ◌∙◌, ap, subst}
 use Rattle.std.proofs.lemmas.Bool.{ltb-true, ltb-false}
-use Rattle.smv_language.specs.ProgramTree.{Text, Path, ProgramTree}
-use Rattle.smv_language.specs.Scope.{Place, Meaning, an_instance_at, means_in, Means}
+use Rattle.smv_language.specs.Language.{Text, Path, ProgramTree, Place, Meaning, an_instance_at, means_in, Means}
 use Rattle.smv_flat_laws.specs.Looks.{Look, look_after, ComesBack, MeetsLoop}
 use Rattle.smv_flat_laws.proofs.LookLaws.{after_means, after_longer, meets_loop_nothing}
 use Rattle.smv_flat_laws.proofs.EndLaws.{steps_more}

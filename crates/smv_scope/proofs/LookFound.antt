@@ -1,9 +1,8 @@
 -- What is found for a name with further parts, from what is found for its first part and for the others.
 use Rattle.std.proofs.Common.{◌≡◌, ℕ, zero, suc, ◌+◌, [], ◌∷◌, ◌++◌, Option, Some, None, refl, sym, ◌∙◌, ap, subst, ◌⊎◌, inl, inr}
 use Rattle.std.specs.Prelude.{slice_get}
-use Rattle.smv_language.specs.ProgramTree.{Text, Path, ProgramTree}
-use Rattle.smv_language.specs.Scope.{Place, Meaning, a_variable_at, an_expression_at, an_instance_at, a_symbol, means_in, Means}
-use Rattle.smv_language.specs.Flat.{FlatInstance}
+use Rattle.smv_language.specs.Language.{Text, Path, ProgramTree, Place, Meaning, a_variable_at, an_expression_at, an_instance_at, means_in, Means, FlatInstance}
+use Rattle.smv_language.specs.Scope.{a_symbol}
 use Rattle.smv_flat_laws.specs.Items.{instances_of}
 use Rattle.smv_flat_laws.specs.Looks.{Look, look_after, step_on, ComesBack, MeetsLoop, MeansNothing}
 use Rattle.smv_flat_laws.proofs.LookLaws.{after_longer, meets_loop_nothing}

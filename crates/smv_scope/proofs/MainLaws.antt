@@ -2,9 +2,7 @@
 use Rattle.std.proofs.Common.{◌≡◌, ℕ, suc, ◌+◌, ◌<◌, arith, Bool, true, false, List, [], ◌∷◌, length, get_or, drop, map, Some, None, if◌then◌else◌, refl, ap, ◌∙◌, sym}
 use Rattle.std.proofs.lemmas.List.{drop_more}
 use Rattle.smv_language.specs.declared.program.Module.{Module}
-use Rattle.smv_language.specs.ProgramTree.{Text, ModuleTree, ProgramTree, module_tree}
-use Rattle.smv_language.specs.Texts.{same_text}
-use Rattle.smv_language.specs.Scope.{find_module}
+use Rattle.smv_language.specs.Language.{Text, ModuleTree, ProgramTree, module_tree, same_text, find_module}
 use Rattle.smv_language.proofs.ValueLaws.{same_text_refl}
 use Rattle.smv_scope.specs.SceneTree.{module_from}
 use Rattle.smv_language.proofs.OneTree.{same_text_equal}

@@ -3,12 +3,10 @@ use Rattle.std.proofs.Common.{◌≡◌, ℕ, Bool, true, false, List, [], ◌�
 use Rattle.std.proofs.lemmas.List.{map-append}
 use Rattle.indexmap.specs.IndexMap.{IndexMap, get, insert_entry}
 use Rattle.indexmap.proofs.CallerLemmas.{insert_entry-new}
-use Rattle.smv_language.specs.ProgramTree.{Text}
-use Rattle.smv_language.specs.Texts.{same_text, is_among, first_with}
+use Rattle.smv_language.specs.Language.{Text, same_text, is_among, first_with, same_borrowed}
 use Rattle.smv_scope.specs.ModuleFaults.{texts_of}
 use Rattle.smv_scope.specs.SceneTree.{named}
 use Rattle.smv_scope.proofs.Tables.{looked_up}
-use Rattle.smv_language.specs.BorrowedTexts.{same_borrowed}
 
 pub is_there : {V : Type 0} (es : List (Text × V)) (x : Text) → is_some (first_with es x) ≡ is_among (texts_of es) x
 is_there [] x = refl

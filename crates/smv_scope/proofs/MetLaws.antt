@@ -2,15 +2,11 @@
 use Rattle.std.proofs.Common.{◌≡◌, ℕ, suc, ◌+◌, ◌<◌, arith, true, false, List, [], ◌∷◌, ◌++◌, length, map, if◌then◌else◌, Some, None, refl, ap, ◌∙◌, sym, subst}
 use Rattle.std.specs.Prelude.{slice_get}
 use Rattle.std.proofs.lemmas.List.{append-nil, map-append, length-map}
-use Rattle.smv_language.specs.ProgramTree.{Text, Formula, DeclaredTree, boolean, range, members, instance, declared_tree, ModuleTree}
+use Rattle.smv_language.specs.Language.{Text, Formula, DeclaredTree, boolean, range, members, instance, declared_tree, ModuleTree, Place, Role, is_among, tree_of, FlatVariable, role_of, place_of, variable_tree, EachBoth}
 use Rattle.std.specs.Borrow.{Bor}
 use Rattle.smv_language.specs.declared.program.Decl.{Decl}
 use Rattle.smv_language.specs.declared.program.Declared.{Declared}
 use Rattle.smv_language.specs.declared.program.Declared.TheVariants as declared
-use Rattle.smv_language.specs.Scope.{Place, Role}
-use Rattle.smv_language.specs.Texts.{is_among}
-use Rattle.smv_language.specs.ExpressionTree.{tree_of}
-use Rattle.smv_language.specs.Flat.{FlatVariable}
 use Rattle.smv_flat_laws.specs.Items.{Item as ItemOf, a_declaration, Visit}
 use Rattle.smv_scope.specs.declared.items.Item.{Item}
 use Rattle.smv_scope.specs.declared.items.Item.TheVariants as code
@@ -23,14 +19,12 @@ use Rattle.smv_scope.specs.declared.walk.Spot.{Spot}
 use Rattle.smv_scope.specs.declared.walk.Walk.{Walk}
 use Rattle.smv_scope.specs.ClosedModels.{is_instance}
 use Rattle.smv_scope.specs.ItemTree.{item_tree}
-use Rattle.smv_language.specs.ModelTree.{role_of, place_of, variable_tree}
 use Rattle.smv_scope.specs.ModuleFaults.{told_first, IsModuleAt}
 use Rattle.smv_scope.specs.InstanceWalk.{Call, calls_in, variables_in, instance_told, visits_told, walk_from, program_in, name_in, name_at, IsCaller, IsEntry, IsModuleOf, IsStanding, call_of, calls_of, variables_of_walk, on_path_of, place_of_spot, place_at, visits_at, visits_within, told_from, IsVariableIn, IsOwnIn, IsSpotOf, IsDeclaredIn, HasWalked, HasMet, HasEntered}
 use Rattle.smv_scope.proofs.EnterLaws.{get_here}
 use Rattle.smv_scope.proofs.WalkLaws.{walked_none}
 use Rattle.smv_language.proofs.ListLaws.{get_map}
 use Rattle.smv_language.proofs.ProgramLaws.{found_named}
-use Rattle.smv_language.specs.Trace.{EachBoth}
 use Rattle.base_values.proofs.ListLaws.{get_within}
 
 -- An instance.

@@ -2,11 +2,8 @@
 use Rattle.std.proofs.Common.{◌≡◌, ℕ, suc, ◌+◌, ◌<◌, ◌≤◌, arith, Bool, true, false, ◌&&◌, ◌||◌, List, [], ◌∷◌, ◌++◌, length, map, Option, Some, None, codes, refl, ap, ◌∙◌, sym, subst}
 use Rattle.std.specs.Prelude.{IfSome, flat_map}
 use Rattle.std.proofs.lemmas.List.{append_assoc, append-nil}
-use Rattle.smv_language.specs.ProgramTree.{Text, ModuleTree, ProgramTree}
-use Rattle.smv_language.specs.Scope.{find_module, is_missing}
-use Rattle.smv_language.specs.Texts.{same_text, is_among}
+use Rattle.smv_language.specs.Language.{Text, ModuleTree, ProgramTree, find_module, is_missing, same_text, is_among, Each}
 use Rattle.smv_language.proofs.ValueLaws.{same_text_refl}
-use Rattle.smv_language.specs.Trace.{Each}
 use Rattle.smv_flat_laws.specs.Items.{Item as ItemOf, items_of, NumberedItem, numbered_from, NumberedModule, modules_from, numbered_items, visits}
 use Rattle.smv_flat_laws.specs.Rules.{Rule, no_main, main_has_parameters, double_module, double_name, no_such_module, wrong_count, module_loop, no_such_name, not_a_target, double_assign, define_loop, next_here, input_here, too_many, number_of, Site, item_of, the_program, a_header, an_item, module_sites, visit_sites, use_sites, has_formals, has_twice, is_module_among, names_of_item, is_name_again, Breaks, IsKept, IsFirstBroken}
 use Rattle.smv_flat_laws.proofs.FaultLaws.{IsLowest, IsFirstOf, Outcome, first_broken, in_part, after_part}

@@ -1,9 +1,7 @@
 -- What the names of a module tell of a name is what it is in the module.
 use Rattle.std.proofs.Common.{◌≡◌, ℕ, suc, ◌+◌, arith, Bool, true, false, List, [], ◌∷◌, ◌++◌, Option, Some, None, refl, sym, ◌∙◌, ap}
 use Rattle.std.specs.Prelude.{slice_get}
-use Rattle.smv_language.specs.ProgramTree.{Text, ModuleTree}
-use Rattle.smv_language.specs.Texts.{same_text, first_with}
-use Rattle.smv_language.specs.Scope.{undeclared, formal_from, kind_after_formals, kind_in}
+use Rattle.smv_language.specs.Language.{Text, ModuleTree, same_text, first_with, undeclared, formal_from, kind_after_formals, kind_in}
 use Rattle.smv_flat_laws.specs.Items.{Item, a_declaration, a_definition, an_assignment, some_constants, an_init, an_invar, a_trans, items_of}
 use Rattle.smv_flat_laws.proofs.KindLaws.{kind_of_item, kind_in_items, sections_kind}
 use Rattle.smv_scope.specs.SceneTree.{gives_name, item_from, local_after, local_of, formal_entries, item_entries, local_entries}

@@ -4,11 +4,7 @@ use Rattle.std.specs.Prelude.{slice_get}
 use Rattle.std.specs.Borrow.{Bor}
 use Rattle.std.specs.declared.alloc.Global.{Global}
 use Rattle.smv_language.specs.declared.expr.Expr.{Expr}
-use Rattle.smv_language.specs.ProgramTree.{Text, Path, Formula, ProgramTree, program_tree}
-use Rattle.smv_language.specs.ExpressionTree.{tree_of}
-use Rattle.smv_language.specs.Scope.{Place, a_formal, actual_key, Meaning, an_expression_at, plain_name, through_plain, through_actual, by_kind, kind_at, module_at, actual_of_kind, means_in, Means}
-use Rattle.smv_language.specs.Trace.{Each, EachBoth}
-use Rattle.smv_language.specs.Flat.{FlatInstance}
+use Rattle.smv_language.specs.Language.{Text, Path, Formula, ProgramTree, program_tree, tree_of, Place, a_formal, actual_key, Meaning, an_expression_at, plain_name, through_plain, through_actual, by_kind, kind_at, module_at, actual_of_kind, means_in, Means, Each, EachBoth, FlatInstance}
 use Rattle.smv_flat_laws.specs.Items.{instances_of}
 use Rattle.smv_flat_laws.specs.Looks.{Look, at_actual, plain_of, step_kind, step_of, step_on, look_after, ComesBack}
 use Rattle.smv_flat_laws.specs.Rules.{IsWalkable, expression_of, expression_in}

@@ -8,16 +8,13 @@ use Rattle.std.specs.Borrow.{Bor}
 use Rattle.smv_language.specs.declared.expr.Expr.{Expr}
 use Rattle.smv_language.specs.declared.program.Decl.{Decl}
 use Rattle.smv_language.specs.declared.program.Define.{Define}
-use Rattle.smv_language.specs.ProgramTree.{Text, Path, Formula, instance, DeclTree, DefineTree, ProgramTree}
-use Rattle.smv_language.specs.ExpressionTree.{tree_of}
-use Rattle.smv_language.specs.Scope.{Place, Role, kind_declared, a_define, define_key, actual_key, an_instance_at, plain_name, kind_at, module_at, actual_of_kind}
-use Rattle.smv_language.specs.Flat.{FlatInstance}
+use Rattle.smv_language.specs.Language.{Text, Path, Formula, instance, DeclTree, DefineTree, ProgramTree, tree_of, Place, Role, kind_declared, define_key, actual_key, an_instance_at, plain_name, kind_at, module_at, actual_of_kind, FlatInstance, texts, EachBoth}
+use Rattle.smv_language.specs.Scope.{a_define}
 use Rattle.smv_flat_laws.specs.Items.{Item as ItemOf, a_declaration, a_definition, an_assignment, some_constants, an_init, an_invar, a_trans, NumberedItem, items_named, instances_of}
 use Rattle.smv_flat_laws.specs.Rules.{IsWalkable, expression_of, expression_of_kind}
 use Rattle.smv_flat_laws.specs.Model.{Root, root_of_actual, roots_of_actuals, roots_of_type, roots_of_item, roots_of, symbols_of}
 use Rattle.smv_flat_laws.proofs.Variables.{both_at, both_at_second}
 use Rattle.smv_scope.specs.ItemTree.{item_tree, numbered_tree}
-use Rattle.smv_language.specs.BorrowedTexts.{texts}
 use Rattle.smv_scope.specs.SceneTree.{AreModules, IsPlaced, IsSet, Denotes, IsOwn, IsWalked, IsSpotWalked, IsSpot, IsDefined, meaning_of_declared, number_and_item, program_of}
 use Rattle.smv_scope.specs.TableLookUps.{own_at, own_in, found_or}
 use Rattle.smv_scope.specs.Steps.{numbered_at, count_in}
@@ -42,7 +39,6 @@ use Rattle.smv_scope.proofs.Frames.{actual_there}
 use Rattle.std.proofs.lemmas.Option.{same_Some as of_some, slice_get_within as get_less}
 use Rattle.smv_language.proofs.ListLaws.{take_there, get_there, drop_item}
 use Rattle.smv_flat_laws.proofs.BothLaws.{both_push, both_long}
-use Rattle.smv_language.specs.Trace.{EachBoth}
 use Rattle.base_values.proofs.ListLaws.{get_within}
 
 -- the item that the tables have is the program's

@@ -1,8 +1,7 @@
 -- What the names of a definition mean.
 use Rattle.std.proofs.Common.{◌≡◌, ℕ, ◌≤◌, Bool, false, ◌||◌, List, [], ◌++◌, length, drop, ap, ◌∙◌, sym, subst}
 use Rattle.std.proofs.lemmas.List.{append-nil, drop_all}
-use Rattle.smv_language.specs.ProgramTree.{Path, Formula}
-use Rattle.smv_language.specs.Trace.{Each}
+use Rattle.smv_language.specs.Language.{Path, Formula, Each}
 use Rattle.smv_flat_laws.specs.NameResolution.{leaves_in}
 use Rattle.smv_scope.specs.declared.names.Scene.{Scene}
 use Rattle.smv_scope.specs.NextFlags.{flagged}

@@ -2,11 +2,8 @@
 use Rattle.std.proofs.Common.{◌≡◌, ℕ, zero, suc, ◌+◌, ◌<◌, arith, Bool, true, false, ◌||◌, List, [], ◌∷◌, ◌++◌, map, Option, Some, refl, ap, ◌∙◌, sym, subst, ◌⊎◌, inl, inr}
 use Rattle.std.proofs.lemmas.List.{map-append}
 use Rattle.std.specs.Prelude.{slice_get}
-use Rattle.smv_language.specs.ProgramTree.{Path, Formula, ProgramTree}
-use Rattle.smv_language.specs.Scope.{Place, Key, Meaning, a_variable_at, an_expression_at, an_instance_at, a_symbol, Means}
-use Rattle.smv_language.specs.Trace.{Each, AtSome}
-use Rattle.smv_language.specs.ExpressionTree.{tree_of}
-use Rattle.smv_language.specs.Flat.{FlatInstance}
+use Rattle.smv_language.specs.Language.{Path, Formula, ProgramTree, Place, Key, Meaning, a_variable_at, an_expression_at, an_instance_at, Means, Each, AtSome, tree_of, FlatInstance}
+use Rattle.smv_language.specs.Scope.{a_symbol}
 use Rattle.smv_flat_laws.specs.Items.{instances_of}
 use Rattle.smv_flat_laws.specs.NameResolution.{leaves_in}
 use Rattle.smv_flat_laws.specs.Rules.{Needs, Leads, NeedsItself, MeansInput, IsWalkable, expression_of}

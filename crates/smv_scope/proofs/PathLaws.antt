@@ -1,9 +1,7 @@
 -- The path of modules that the walk stands in.
 use Rattle.std.proofs.Common.{◌≡◌, ℕ, ◌+◌, ◌<◌, Bool, true, false, ◌||◌, List, [], ◌∷◌, ◌++◌, length, get_or, drop, reverse, refl, ap, ◌∙◌, sym, Bor}
 use Rattle.std.proofs.lemmas.List.{drop_more, reverse-append, map-append}
-use Rattle.smv_language.specs.ProgramTree.{Text}
-use Rattle.smv_language.specs.Texts.{same_text, is_among}
-use Rattle.smv_language.specs.BorrowedTexts.{texts}
+use Rattle.smv_language.specs.Language.{Text, same_text, is_among, texts}
 
 among_end : (xs : List Text) (y x : Text) → is_among (xs ++ y ∷ []) x ≡ (same_text y x || is_among xs x)
 among_end [] y x = refl

@@ -4,11 +4,10 @@ use Rattle.std.specs.Prelude.{slice_set, Vec}
 use Rattle.std.specs.declared.alloc.Global.{Global}
 use Rattle.std.proofs.lemmas.List.{reverse-append}
 use Rattle.std.proofs.lemmas.Option.{slice_get-get_or}
-use Rattle.smv_language.specs.ProgramTree.{Text, Path}
+use Rattle.smv_language.specs.Language.{Text, Path, place_of}
 use Rattle.smv_scope.specs.declared.walk.Meaning.{Meaning as Found}
 use Rattle.smv_scope.specs.declared.walk.Spot.{Spot}
 use Rattle.smv_scope.specs.declared.walk.Walk.{Walk}
-use Rattle.smv_language.specs.ModelTree.{place_of}
 use Rattle.smv_scope.specs.InstanceWalk.{place_of_spot, place_at, own_of, with_own}
 
 place_found : (w : Walk) (k : ℕ) (spot : Spot) → k < length w.spots.items → spot ≡ get_or w.spots.items k spot → place_at w k ≡ place_of spot.path

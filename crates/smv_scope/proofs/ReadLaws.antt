@@ -2,8 +2,7 @@
 use Rattle.std.proofs.Common.{◌≡◌, ℕ, suc, ◌+◌, ◌<◌, arith, codes, drop, get_or, List, [], ◌∷◌, ◌++◌, length, map, Some, None, refl, ap, ◌∙◌, sym, subst}
 use Rattle.std.proofs.lemmas.List.{append-nil, append_assoc, map-append, length-map, drop_more}
 use Rattle.smv_language.specs.declared.program.Module.{Module}
-use Rattle.smv_language.specs.ProgramTree.{ModuleTree, ProgramTree, module_tree, program_tree}
-use Rattle.smv_language.specs.Trace.{Each, EachBoth}
+use Rattle.smv_language.specs.Language.{ModuleTree, ProgramTree, module_tree, program_tree, Each, EachBoth}
 use Rattle.smv_flat_laws.specs.Items.{Item as ItemOf, items_of, NumberedModule, modules_from, modules_of, numbered_from}
 use Rattle.smv_flat_laws.specs.Rules.{the_program, module_sites, IsKept}
 use Rattle.smv_scope.specs.declared.fault.FlatFault.{FlatFault}

@@ -4,10 +4,8 @@ use Rattle.std.specs.Prelude.{slice_get, nat_lt, codes}
 use Rattle.std.proofs.lemmas.List.{length-map}
 use Rattle.std.proofs.lemmas.Bool.{lt-ltb}
 use Rattle.std.specs.declared.alloc.Global.{Global}
-use Rattle.smv_language.specs.ProgramTree.{Text, Path, DeclaredTree, boolean, range, members, instance, ModuleTree, ProgramTree}
-use Rattle.smv_language.specs.Scope.{Place, Role, Kind, kind_declared, undeclared, define_key, Meaning, an_expression_at, a_symbol, by_kind, means_in, Means, is_symbol, find_module, formal_from, kind_at, module_at, kind_after_formals}
-use Rattle.smv_language.specs.Trace.{IsInstance}
-use Rattle.smv_language.specs.Flat.{FlatInstance}
+use Rattle.smv_language.specs.Language.{Text, Path, DeclaredTree, boolean, range, members, instance, ModuleTree, ProgramTree, Place, Role, Kind, kind_declared, undeclared, define_key, Meaning, an_expression_at, by_kind, means_in, Means, is_symbol, find_module, formal_from, kind_at, module_at, kind_after_formals, IsInstance, FlatInstance, texts, first_with}
+use Rattle.smv_language.specs.Scope.{a_symbol}
 use Rattle.smv_flat_laws.specs.Items.{Item, a_declaration, a_definition, an_assignment, some_constants, an_init, an_invar, a_trans, NumberedItem, items_of, items_named, modules_of, instances_of}
 use Rattle.smv_flat_laws.specs.Looks.{step_kind, MeansNothing}
 use Rattle.smv_flat_laws.specs.Model.{symbols_of}
@@ -17,7 +15,6 @@ use Rattle.smv_flat_laws.proofs.Places.{found_at as item_there, are_instances}
 use Rattle.smv_flat_laws.proofs.Sections.{AreInstances}
 use Rattle.smv_flat_laws.proofs.Variables.{both_at}
 use Rattle.smv_flat_laws.proofs.Walkable.{main_is_there}
-use Rattle.smv_language.specs.BorrowedTexts.{texts}
 use Rattle.smv_scope.specs.SceneTree.{gives_name, item_from, local_after, local_of, HasNames, Denotes, IsFound, meaning_of_declared, meaning_of_item, IsOwnMeaning, IsOwn, IsSpot, IsKnown, formals_of, AreKnown, program_of, IsSet, IsScene}
 use Rattle.smv_scope.specs.TableLookUps.{names_of_spot, local_in, local_at, found_or, own_in, own_at, formal_or, formal_in, formal_at, told, symbol_or, symbol_at, by_local, part_at, found_inside}
 use Rattle.smv_scope.specs.TableLookUps as tables
@@ -35,7 +32,6 @@ use Rattle.smv_scope.proofs.NameKinds.{locals_told, Given, item_given, none_give
 use Rattle.smv_scope.proofs.SymbolKinds.{symbols_among, PlacedAt, placed_at, not_placed}
 use Rattle.smv_language.proofs.OneTree.{same_text_equal}
 use Rattle.smv_flat_laws.proofs.Meant.{formal_is as formal_named}
-use Rattle.smv_language.specs.Texts.{first_with}
 
 -- a meaning that is denoted is found
 pub denoted : (p : ProgramTree) (at : Place) (name : Path) (f : Found) (m : Meaning) → Means p at name m → Denotes p f m → IsFound p at name f

@@ -1,7 +1,7 @@
 -- The items of an instance are those of its module.
 use Rattle.std.proofs.Common.{◌≡◌, ℕ, zero, suc, List, [], ◌∷◌, length, map, Option, Some, None, refl, sym, ◌∙◌, ap}
 use Rattle.std.specs.Prelude.{slice_get, option_map}
-use Rattle.smv_language.specs.Flat.{FlatInstance}
+use Rattle.smv_language.specs.Language.{FlatInstance, EachBoth}
 use Rattle.smv_flat_laws.specs.Items.{items_named, modules_of, numbered_items, instances_of}
 use Rattle.smv_flat_laws.proofs.Variables.{both_at}
 use Rattle.smv_scope.specs.ItemTree.{numbered_tree}
@@ -13,7 +13,6 @@ use Rattle.smv_scope.specs.declared.modules.ModuleNames.{ModuleNames}
 use Rattle.smv_scope.specs.declared.walk.Spot.{Spot}
 use Rattle.smv_scope.specs.declared.names.Scene.{Scene}
 use Rattle.smv_flat_laws.proofs.BothLaws.{both_long}
-use Rattle.smv_language.specs.Trace.{EachBoth}
 
 pub both_none : {A B : Type 0} (R : A → B → Type 0) (xs : List A) (ys : List B) (i : ℕ) → EachBoth R xs ys → slice_get xs i ≡ None → slice_get ys i ≡ None
 both_none R [] [] i h e = refl

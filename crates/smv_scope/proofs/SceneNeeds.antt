@@ -4,8 +4,7 @@ use Rattle.std.proofs.lemmas.List.{length-map, length-replicate}
 use Rattle.std.proofs.lemmas.Option.{slice_get_within}
 use Rattle.std.specs.Prelude.{slice_get, Vec}
 use Rattle.std.specs.declared.alloc.Global.{Global}
-use Rattle.smv_language.specs.Scope.{Key}
-use Rattle.smv_language.specs.Trace.{Each, EachBoth}
+use Rattle.smv_language.specs.Language.{Key, Each, EachBoth}
 use Rattle.smv_flat_laws.specs.Rules.{NeedsItself}
 use Rattle.smv_flat_laws.specs.Model.{Root, roots_of, AddsAll}
 use Rattle.smv_flat_laws.proofs.Conditions.{each_at}

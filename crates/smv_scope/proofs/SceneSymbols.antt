@@ -1,7 +1,7 @@
 -- The symbols of the modules that are read are those of the program.
 use Rattle.std.proofs.Common.{◌≡◌, ℕ, suc, ◌+◌, List, [], ◌∷◌, ◌++◌, length, map, refl, ◌∙◌, ap}
 use Rattle.std.specs.Prelude.{flat_map}
-use Rattle.smv_language.specs.ProgramTree.{Text, ModuleTree, program_tree}
+use Rattle.smv_language.specs.Language.{Text, ModuleTree, program_tree, EachBoth}
 use Rattle.smv_flat_laws.specs.Items.{Item, NumberedModule, items_of, numbered_from, modules_from, modules_of}
 use Rattle.smv_flat_laws.specs.Model.{symbols_of_item, first_appearances, symbols_of, symbols_of_module}
 use Rattle.smv_scope.specs.ItemTree.{numbered_tree}
@@ -10,7 +10,6 @@ use Rattle.smv_scope.specs.SceneTree.{HasNames, AreModules, number_and_item}
 use Rattle.smv_scope.specs.declared.items.Numbered.{Numbered}
 use Rattle.smv_scope.specs.declared.modules.ModuleNames.{ModuleNames}
 use Rattle.smv_scope.specs.declared.modules.Modules.{Modules}
-use Rattle.smv_language.specs.Trace.{EachBoth}
 
 -- the symbols of items with numbers
 abbrev symbols_of_pairs : List (ℕ × Item) → List Text

@@ -3,9 +3,7 @@ use Rattle.std.proofs.Common.{◌≡◌, ℕ, zero, suc, ◌+◌, ◌-◌, ◌<�
 use Rattle.std.specs.Prelude.{slice_get}
 use Rattle.std.proofs.lemmas.Bool.{ltb-true, ltb-false}
 use Rattle.std.proofs.lemmas.List.{length-set}
-use Rattle.smv_language.specs.ProgramTree.{Text, Path, ProgramTree}
-use Rattle.smv_language.specs.Scope.{Place}
-use Rattle.smv_language.specs.Flat.{FlatInstance}
+use Rattle.smv_language.specs.Language.{Text, Path, ProgramTree, Place, FlatInstance, EachBoth}
 use Rattle.smv_flat_laws.specs.Items.{instances_of}
 use Rattle.smv_flat_laws.specs.Looks.{Look, look_after, ComesBack}
 use Rattle.smv_flat_laws.specs.Rules.{IsWalkable}
@@ -24,7 +22,6 @@ use Rattle.smv_scope.proofs.Heads.{head_place, head_numbers}
 use Rattle.smv_scope.proofs.Told.{IsNoMoreOpen, IsChanged, changed, shut_on, told_on, still_sized}
 use Rattle.smv_flat_laws.proofs.OneOfTwo.{set_own}
 use Rattle.std.proofs.lemmas.Option.{same_Some as of_some, slice_get_within as get_less}
-use Rattle.smv_language.specs.Trace.{EachBoth}
 
 module _ (p : ProgramTree) (rs rs' : List (List Formal)) (less : IsNoMoreOpen p rs rs') where
   pub frame_on : (f : LookUpFrame) → IsFrame p rs f → IsFrame p rs' f

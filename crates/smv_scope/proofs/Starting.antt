@@ -1,12 +1,10 @@
 -- A scene before and after its definitions have numbers.
 use Rattle.std.proofs.Common.{◌≡◌, ◌<◌, [], length, Vec, sym, ◌∙◌, ap, subst}
 use Rattle.std.specs.declared.alloc.Global.{Global}
-use Rattle.smv_language.specs.ProgramTree.{ProgramTree}
-use Rattle.smv_language.specs.Trace.{Each, EachBoth}
+use Rattle.smv_language.specs.Language.{ProgramTree, Each, EachBoth, texts}
 use Rattle.smv_flat_laws.specs.Items.{NumberedItem, items_named, instances_of}
 use Rattle.smv_flat_laws.specs.Rules.{IsWalkable}
 use Rattle.smv_flat_laws.specs.Model.{symbols_of}
-use Rattle.smv_language.specs.BorrowedTexts.{texts}
 use Rattle.smv_scope.specs.SceneTree.{AreModules, IsWalked, IsSpotWalked, program_of}
 use Rattle.smv_scope.specs.KnownFormals.{rows, AreTold, IsActualTold, IsSameButFormals}
 use Rattle.smv_scope.specs.NumberedScenes.{IsLaidSpot, IsLaid, IsNamedTo}

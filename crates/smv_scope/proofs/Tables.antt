@@ -6,11 +6,9 @@ use Rattle.std.specs.Borrow.{Bor}
 use Rattle.std.specs.List.{position_from}
 use Rattle.std.proofs.lemmas.Iterator.Adapters.{position_from-zero}
 use Rattle.std.specs.Map.{lookup}
-use Rattle.smv_language.specs.BorrowedTexts.{texts}
+use Rattle.smv_language.specs.Language.{texts, first_with, formal_from as place_from}
 use Rattle.smv_scope.specs.SceneTree.{named}
 use Rattle.smv_language.proofs.BorrowedTexts.{same_bytes}
-use Rattle.smv_language.specs.Texts.{first_with}
-use Rattle.smv_language.specs.Scope.{formal_from as place_from}
 
 pub looked_up : {V : Type 0} (x : List ℕ) (es : List (Bor (List ℕ) × V)) → lookup (λ (k : Bor (List ℕ)). pointwise nat_eq x k.now) es ≡ first_with (named es) x
 looked_up x [] = refl

@@ -4,9 +4,7 @@ use Rattle.std.specs.Prelude.{slice_get}
 use Rattle.std.specs.declared.alloc.Global.{Global}
 use Rattle.std.proofs.lemmas.List.{map-append, length-replicate}
 use Rattle.std.proofs.lemmas.Bool.{ltb-true, ltb-false}
-use Rattle.smv_language.specs.ProgramTree.{Text, ModuleTree}
-use Rattle.smv_language.specs.Scope.{Place, find_module}
-use Rattle.smv_language.specs.Flat.{FlatInstance}
+use Rattle.smv_language.specs.Language.{Text, ModuleTree, Place, find_module, FlatInstance}
 use Rattle.smv_flat_laws.specs.Items.{instances_of}
 use Rattle.smv_scope.specs.SceneTree.{HasNames, formals_of, program_of}
 use Rattle.smv_scope.specs.TableLookUps.{names_of_spot, formal_or}

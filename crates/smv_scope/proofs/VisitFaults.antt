@@ -4,8 +4,7 @@ use Rattle.std.specs.Prelude.{IfSome, flat_map}
 use Rattle.std.proofs.lemmas.Bool.{leb-true, le-leb}
 use Rattle.std.proofs.lemmas.List.{length-append}
 use Rattle.base_values.specs.declared.limits.TheConstants.{MOST_INSTANCES, MOST_VARIABLES}
-use Rattle.smv_language.specs.ProgramTree.{DeclaredTree, boolean, range, members, instance, ProgramTree}
-use Rattle.smv_language.specs.Scope.{Place}
+use Rattle.smv_language.specs.Language.{DeclaredTree, boolean, range, members, instance, ProgramTree, Place}
 use Rattle.smv_flat_laws.specs.Items.{Visit, visits, instance_declared, variable_declared}
 use Rattle.smv_flat_laws.specs.Rules.{Rule, no_main, main_has_parameters, double_module, double_name, no_such_module, wrong_count, module_loop, no_such_name, not_a_target, double_assign, define_loop, next_here, input_here, too_many, number_of, Site, the_program, a_visit, module_sites, visit_sites, use_sites, is_missing_instance, is_miscounted, is_on_path, instances_before, variables_before, PassesLimit, Breaks, IsKept, IsFirstBroken, IsWalkable}
 use Rattle.smv_flat_laws.proofs.FaultLaws.{IsLowest, IsFirstOf, Outcome, first_broken, in_part, after_part}

@@ -2,12 +2,7 @@
 use Rattle.std.proofs.Common.{◌≡◌, ℕ, suc, ◌-◌, arith, List, [], ◌∷◌, ◌++◌, length, map, reverse, Some, None, codes, refl, ap, ◌∙◌, sym, subst}
 use Rattle.std.specs.Prelude.{slice_get, flat_map}
 use Rattle.std.proofs.lemmas.List.{map-append}
-use Rattle.smv_language.specs.ProgramTree.{Text, Formula, DeclaredTree, boolean, range, members, instance, ModuleTree, ProgramTree}
-use Rattle.smv_language.specs.Scope.{Place, Role, an_instance, kind_declared, kind_at, module_at, find_module}
-use Rattle.smv_language.specs.Texts.{is_among}
-use Rattle.smv_language.specs.Trace.{Each, EachBoth}
-use Rattle.smv_language.specs.ExpressionTree.{tree_of}
-use Rattle.smv_language.specs.Flat.{FlatInstance, FlatVariable}
+use Rattle.smv_language.specs.Language.{Text, Formula, DeclaredTree, boolean, range, members, instance, ModuleTree, ProgramTree, Place, Role, an_instance, kind_declared, kind_at, module_at, find_module, is_among, Each, EachBoth, tree_of, FlatInstance, FlatVariable, place_of, variable_tree, texts}
 use Rattle.smv_flat_laws.specs.Items.{Item as ItemOf, a_declaration, a_definition, an_assignment, some_constants, an_init, an_invar, a_trans, NumberedItem, items_named, Visit, walk, visits, instance_declared, instances_of_visit, instances_of, variables_of}
 use Rattle.smv_flat_laws.specs.Rules.{IsWalkable}
 use Rattle.smv_flat_laws.proofs.Conditions.{each_join}
@@ -21,11 +16,9 @@ use Rattle.smv_scope.specs.declared.modules.ModuleNames.{ModuleNames}
 use Rattle.smv_scope.specs.declared.walk.Meaning.{Meaning as Found}
 use Rattle.smv_scope.specs.declared.walk.Spot.{Spot}
 use Rattle.smv_scope.specs.declared.walk.Walk.{Walk}
-use Rattle.smv_language.specs.ModelTree.{place_of, variable_tree}
 use Rattle.smv_scope.specs.Faults.{IsFaultOf}
 use Rattle.smv_scope.specs.ModuleFaults.{IsTold, IsModuleAt}
 use Rattle.smv_scope.specs.SceneTree.{AreModules, IsWalked, IsCalled, IsSpotWalked}
-use Rattle.smv_language.specs.BorrowedTexts.{texts}
 use Rattle.smv_scope.specs.WalkFindings.{IsDeclaredBy, IsWhole}
 use Rattle.smv_scope.specs.InstanceWalk.{Call, calls_declared, calls_in, variables_in, visits_told, walk_from, program_in, name_at, call_of, calls_of, variables_of_walk, on_path_of, visits_within, IsInstanceIn, IsVariableIn, IsDeclarationIn, IsOwnIn, IsCaller, IsSpotOf, IsDeclaredIn, HasEntered, IsPath, IsEntry}
 use Rattle.smv_scope.proofs.FoundModule.{main_at}

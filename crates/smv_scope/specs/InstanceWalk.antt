@@ -3,12 +3,9 @@ use Rattle.std.specs.Prelude.{◌≡◌, ℕ, zero, suc, Vec, ◌+◌, ◌-◌, 
 use Rattle.std.specs.Prelude.{reverse, Option, Some, None, slice_get}
 use Rattle.std.specs.declared.alloc.Global.{Global}
 use Rattle.base_values.specs.declared.limits.TheConstants.{MOST_INSTANCES, MOST_VARIABLES}
-use Rattle.smv_language.specs.ProgramTree.{Text, Formula, DeclaredTree, instance, ProgramTree, program_tree, decl_tree, declared_tree}
-use Rattle.smv_language.specs.Scope.{Place, Role, find_module, is_missing}
-use Rattle.smv_language.specs.Texts.{is_among}
-use Rattle.smv_language.specs.Trace.{Each, EachBoth}
-use Rattle.smv_language.specs.ExpressionTree.{tree_of}
-use Rattle.smv_language.specs.Flat.{FlatVariable}
+use Rattle.smv_language.specs.Language.{Text, Formula, DeclaredTree, instance, ProgramTree, program_tree, decl_tree, declared_tree, Place}
+use Rattle.smv_language.specs.Language.{Role, find_module, is_missing, is_among, Each, EachBoth, tree_of, FlatVariable, role_of, place_of}
+use Rattle.smv_language.specs.Language.{variable_tree, texts}
 use Rattle.smv_flat_laws.specs.Items.{Item as ItemOf, a_declaration, NumberedItem, items_named, Visit, visits_of, walk, variable_declared}
 use Rattle.smv_flat_laws.proofs.Pigeons.{IsThere, AreApart}
 use Rattle.smv_flat_laws.specs.Rules.{no_such_module, wrong_count, module_loop, too_many, is_missing_instance, is_miscounted}
@@ -22,9 +19,7 @@ use Rattle.smv_scope.specs.declared.walk.Meaning.TheVariants as found
 use Rattle.smv_scope.specs.declared.walk.Spot.{Spot}
 use Rattle.smv_scope.specs.declared.walk.Walk.{Walk}
 use Rattle.smv_scope.specs.declared.walk.Declaring.{Declaring}
-use Rattle.smv_language.specs.ModelTree.{role_of, place_of, variable_tree}
 use Rattle.smv_scope.specs.ModuleFaults.{Told, told_if, told_first, IsModuleAt}
-use Rattle.smv_language.specs.BorrowedTexts.{texts}
 
 -- an instance with what it is handed
 pub record Call : Type 0 where

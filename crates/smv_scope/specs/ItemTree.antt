@@ -1,12 +1,10 @@
 -- Items with their numbers, as definitions see them.
 use Rattle.std.specs.Prelude.{ℕ, suc, ◌+◌, List, [], ◌∷◌, ◌++◌, length, map}
-use Rattle.smv_language.specs.ProgramTree.{decl_tree, define_tree, assignment_tree}
-use Rattle.smv_language.specs.ExpressionTree.{tree_of}
+use Rattle.smv_language.specs.Language.{decl_tree, define_tree, assignment_tree, tree_of, role_of}
 use Rattle.smv_scope.specs.declared.items.Item.{Item}
 use Rattle.smv_scope.specs.declared.items.Item.TheVariants as code
 use Rattle.smv_scope.specs.declared.items.Numbered.{Numbered}
 use Rattle.smv_scope.specs.declared.items.ItemList.{ItemList}
-use Rattle.smv_language.specs.ModelTree.{role_of}
 use Rattle.smv_flat_laws.specs.Items.{Item as ItemOf, a_declaration, a_definition, an_assignment, some_constants, an_init, an_invar}
 use Rattle.smv_flat_laws.specs.Items.{a_trans}
 

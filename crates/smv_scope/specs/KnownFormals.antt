@@ -1,9 +1,7 @@
 -- What is known of the formals while they are looked up.
 use Rattle.std.specs.Prelude.{◌≡◌, ℕ, zero, suc, List, [], ◌∷◌, ◌++◌, replicate, length, map, Option, Some, None, slice_get, slice_set, Vec}
 use Rattle.std.specs.declared.alloc.Global.{Global}
-use Rattle.smv_language.specs.ProgramTree.{Text, Path, ModuleTree, ProgramTree}
-use Rattle.smv_language.specs.Scope.{Place, actual_key, find_module}
-use Rattle.smv_language.specs.Flat.{FlatInstance}
+use Rattle.smv_language.specs.Language.{Text, Path, ModuleTree, ProgramTree, Place, actual_key, find_module, FlatInstance}
 use Rattle.smv_flat_laws.specs.Items.{instances_of}
 use Rattle.smv_flat_laws.specs.Looks.{Look, look_after}
 use Rattle.smv_flat_laws.specs.Model.{Root}

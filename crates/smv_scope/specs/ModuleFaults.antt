@@ -2,9 +2,7 @@
 use Rattle.std.specs.Prelude.{◌≡◌, ℕ, suc, ◌+◌, Bool, true, false, ◌&&◌, List, [], ◌∷◌, ◌++◌, length, map, Option, Some, None, codes}
 use Rattle.std.specs.Prelude.{IfSome, slice_get}
 use Rattle.std.specs.Borrow.{Bor}
-use Rattle.smv_language.specs.ProgramTree.{Text, ModuleTree, program_tree, module_tree}
-use Rattle.smv_language.specs.Scope.{find_module}
-use Rattle.smv_language.specs.Texts.{same_text, is_among}
+use Rattle.smv_language.specs.Language.{Text, ModuleTree, program_tree, module_tree, find_module, same_text, is_among, EachBoth}
 use Rattle.smv_flat_laws.specs.Items.{Item as ItemOf, NumberedModule, modules_of, numbered_items, items_of, items_named}
 use Rattle.smv_flat_laws.specs.Rules.{Rule, main_has_parameters, double_module, double_name, has_formals, is_module_among, names_of_item}
 use Rattle.smv_flat_laws.specs.Rules.{is_name_again}
@@ -15,7 +13,6 @@ use Rattle.smv_scope.specs.declared.fault.FlatFault.{FlatFault}
 use Rattle.smv_scope.specs.declared.items.Numbered.{Numbered}
 use Rattle.smv_scope.specs.declared.modules.ModuleNames.{ModuleNames}
 use Rattle.smv_scope.specs.declared.modules.Modules.{Modules}
-use Rattle.smv_language.specs.Trace.{EachBoth}
 
 -- a rule and the item that breaks it, if one does
 abbrev pub Told : Type 0

@@ -1,8 +1,6 @@
 -- What is known of the needs of definitions.
 use Rattle.std.specs.Prelude.{◌≡◌, ◌↔◌, ℕ, Bool, true, false, List, [], length, map, Some, slice_get}
-use Rattle.smv_language.specs.ProgramTree.{Path, Formula, ProgramTree}
-use Rattle.smv_language.specs.Scope.{Place, Key}
-use Rattle.smv_language.specs.Trace.{Each, AtSome, EachBoth}
+use Rattle.smv_language.specs.Language.{Path, Formula, ProgramTree, Place, Key, Each, AtSome, EachBoth}
 use Rattle.smv_flat_laws.specs.Looks.{MeansNothing, MeetsLoop}
 use Rattle.smv_flat_laws.specs.NameResolution.{leaves_in}
 use Rattle.smv_flat_laws.specs.Rules.{Leads, NeedsItself, MeansInput, expression_of}

@@ -1,10 +1,8 @@
 -- The tables of a scene while its definitions get their numbers.
 use Rattle.std.specs.Prelude.{◌≡◌, ℕ, ◌<◌, ◌≤◌, List, ◌∷◌, ◌++◌, length, drop, flat_map, Option, Some, None, slice_get, slice_set, Vec}
 use Rattle.std.specs.declared.alloc.Global.{Global}
-use Rattle.smv_language.specs.ProgramTree.{Text, Formula, DeclTree, ProgramTree}
-use Rattle.smv_language.specs.Scope.{Role, kind_declared, an_instance, kind_at, module_at, actual_of_kind, plain_name}
-use Rattle.smv_language.specs.Trace.{Each, EachBoth}
-use Rattle.smv_language.specs.Flat.{FlatInstance}
+use Rattle.smv_language.specs.Language.{Text, Formula, DeclTree, ProgramTree, Role, kind_declared, an_instance, kind_at, module_at}
+use Rattle.smv_language.specs.Language.{actual_of_kind, plain_name, Each, EachBoth, FlatInstance}
 use Rattle.smv_flat_laws.specs.Items.{NumberedItem, items_named, instances_of}
 use Rattle.smv_flat_laws.specs.Rules.{IsWalkable}
 use Rattle.smv_flat_laws.specs.Model.{Root, root_of_actual, roots_of_actuals, roots_of_type, roots_of_item, roots_of}

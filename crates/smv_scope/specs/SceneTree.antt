@@ -3,21 +3,17 @@ use Rattle.std.specs.Prelude.{◌≡◌, ℕ, suc, ◌<◌, Bool, false, if◌th
 use Rattle.std.specs.Prelude.{slice_get, Vec}
 use Rattle.std.specs.declared.alloc.Global.{Global}
 use Rattle.std.specs.Borrow.{Bor}
-use Rattle.smv_language.specs.ProgramTree.{Text, Path, Formula, DeclaredTree, instance, ModuleTree, ProgramTree, program_tree, module_tree}
-use Rattle.smv_language.specs.Texts.{same_text}
-use Rattle.smv_language.specs.ExpressionTree.{tree_of}
-use Rattle.smv_language.specs.Scope.{Place, define_key, Meaning, a_variable_at, an_expression_at, an_instance_at, a_symbol, Means}
-use Rattle.smv_language.specs.Scope.{find_module, formal_from, kind_at, module_at, an_instance}
-use Rattle.smv_language.specs.Trace.{Each, EachBoth}
-use Rattle.smv_language.specs.Flat.{FlatInstance}
+use Rattle.smv_language.specs.Language.{Text, Path, Formula, DeclaredTree, instance, ModuleTree, ProgramTree, program_tree, module_tree}
+use Rattle.smv_language.specs.Language.{same_text, tree_of, Place, define_key, Meaning, a_variable_at, an_expression_at, an_instance_at}
+use Rattle.smv_language.specs.Language.{Means, find_module, formal_from, kind_at, module_at, an_instance, Each, EachBoth, FlatInstance}
+use Rattle.smv_language.specs.Language.{role_of, place_of, texts}
+use Rattle.smv_language.specs.Scope.{a_symbol}
 use Rattle.smv_flat_laws.specs.Items.{Item as ItemOf, a_declaration, a_definition, NumberedItem, NumberedModule, modules_of, numbered_items}
 use Rattle.smv_flat_laws.specs.Items.{items_of, items_named, Visit, instances_of, variables_of}
 use Rattle.smv_flat_laws.specs.Looks.{ComesBack, MeetsLoop, MeansNothing}
 use Rattle.smv_flat_laws.specs.Rules.{the_program, module_sites, IsKept, IsWalkable, expression_of}
 use Rattle.smv_flat_laws.specs.Model.{Root, roots_of, symbols_of}
 use Rattle.smv_scope.specs.ItemTree.{numbered_tree}
-use Rattle.smv_language.specs.ModelTree.{role_of, place_of}
-use Rattle.smv_language.specs.BorrowedTexts.{texts}
 use Rattle.smv_scope.specs.declared.modules.Local.{Local}
 use Rattle.smv_scope.specs.declared.modules.Local.TheVariants as local
 use Rattle.smv_scope.specs.declared.modules.ModuleNames.{ModuleNames}

@@ -1,9 +1,7 @@
 -- What the tables of a scene tell of a name, part by part.
 use Rattle.std.specs.Prelude.{ℕ, Bool, true, false, if◌then◌else◌, [], ◌∷◌, Option, Some, None, slice_get, nat_lt, Vec}
 use Rattle.std.specs.declared.alloc.Global.{Global}
-use Rattle.smv_language.specs.ProgramTree.{Text, Path}
-use Rattle.smv_language.specs.Texts.{first_with}
-use Rattle.smv_language.specs.BorrowedTexts.{texts}
+use Rattle.smv_language.specs.Language.{Text, Path, first_with, texts, formal_from}
 use Rattle.smv_scope.specs.SceneTree.{named}
 use Rattle.smv_scope.specs.declared.modules.Local.{Local}
 use Rattle.smv_scope.specs.declared.modules.Local.TheVariants as local
@@ -14,7 +12,6 @@ use Rattle.smv_scope.specs.declared.walk.Spot.{Spot}
 use Rattle.smv_scope.specs.declared.names.Formal.{Formal}
 use Rattle.smv_scope.specs.declared.names.Formal.TheVariants as known
 use Rattle.smv_scope.specs.declared.names.Scene.{Scene}
-use Rattle.smv_language.specs.Scope.{formal_from}
 
 -- the names of an instance's module, where the instance is there
 abbrev pub names_of_spot : Scene → Option Spot → Option ModuleNames

@@ -2,10 +2,7 @@
 use Rattle.std.specs.Prelude.{◌≡◌, ℕ, suc, ◌+◌, ◌<◌, ◌==◌, Bool, true, false, ◌&&◌, if◌then◌else◌, List, [], ◌∷◌, ◌++◌, length, slice_get}
 use Rattle.std.specs.Prelude.{Some}
 use Rattle.std.specs.List.{list_any}
-use Rattle.smv_language.specs.ProgramTree.{Text, Path, ProgramTree}
-use Rattle.smv_language.specs.Scope.{Place}
-use Rattle.smv_language.specs.Trace.{Each}
-use Rattle.smv_language.specs.Flat.{FlatInstance}
+use Rattle.smv_language.specs.Language.{Text, Path, ProgramTree, Place, Each, FlatInstance}
 use Rattle.smv_flat_laws.specs.Items.{instances_of}
 use Rattle.smv_flat_laws.specs.Looks.{look_after}
 use Rattle.smv_flat_laws.specs.Model.{roots_of}

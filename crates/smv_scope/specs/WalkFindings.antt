@@ -1,14 +1,11 @@
 -- What the walk over the instances finds.
 use Rattle.std.specs.Prelude.{◌≡◌, List, map, Some, slice_get}
-use Rattle.smv_language.specs.ProgramTree.{ProgramTree}
-use Rattle.smv_language.specs.Flat.{FlatInstance, FlatVariable}
+use Rattle.smv_language.specs.Language.{ProgramTree, FlatInstance, FlatVariable, variable_tree, EachBoth}
 use Rattle.smv_flat_laws.specs.Items.{Visit, instances_of, variables_of}
 use Rattle.smv_flat_laws.specs.Rules.{IsWalkable}
-use Rattle.smv_language.specs.ModelTree.{variable_tree}
 use Rattle.smv_scope.specs.SceneTree.{IsSpotWalked}
 use Rattle.smv_language.specs.declared.model.Variable.{Variable}
 use Rattle.smv_scope.specs.declared.walk.Walk.{Walk}
-use Rattle.smv_language.specs.Trace.{EachBoth}
 
 -- a variable as it is declared, with its instance by number
 pub record IsDeclaredBy (p : ProgramTree) (v : Visit) (x : FlatVariable) : Type 0 where

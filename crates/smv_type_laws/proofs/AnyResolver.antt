@@ -1,14 +1,7 @@
 -- An expression that is resolved soundly has exactly the values of the written one, whatever resolves it.
 use Rattle.std.proofs.Common.{◌≡◌, ◌↔◌, ℕ, suc, arith, List, Some, sym, ap, ◌∙◌}
-use Rattle.smv_language.specs.Tree.{Tree}
-use Rattle.smv_language.specs.ProgramTree.{Path, Formula, ProgramTree}
-use Rattle.smv_language.specs.Values.{Value, Values}
-use Rattle.smv_language.specs.Evaluate.{Leaves, evaluate}
-use Rattle.smv_language.specs.Scope.{Place}
-use Rattle.smv_language.specs.May.{Valuation, name_values, May}
-use Rattle.smv_language.specs.Trace.{Each}
+use Rattle.smv_language.specs.Language.{Tree, Path, Formula, ProgramTree, Value, Values, Leaves, evaluate, Place, Valuation, name_values, May, Each, FlatLeaf, flat_variable, flat_symbol, flat_definition, FlatModel, leaves_at, FlatGives, FlatMay, Numbers}
 use Rattle.smv_language.proofs.Monotone.{name_values_more}
-use Rattle.smv_language.specs.Flat.{FlatLeaf, flat_variable, flat_symbol, flat_definition, FlatModel, leaves_at, FlatGives, FlatMay, Numbers}
 use Rattle.smv_flat_laws.specs.NameResolution.{leaves_in, Resolver, IsSound, IsResolved, IsBefore, leaf_gives}
 use Rattle.smv_flat_laws.specs.Model.{IsFlatOf}
 use Rattle.smv_flat_laws.proofs.Reaches.{BothReach, tree_reaches}

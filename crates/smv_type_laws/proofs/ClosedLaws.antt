@@ -2,12 +2,9 @@
 use Rattle.std.proofs.Common.{◌≡◌, ℕ, zero, suc, ◌+◌, ◌<◌, arith, List, [], ◌∷◌, ◌++◌, length, map, Option, Some, refl, sym, ap, ◌∙◌, subst}
 use Rattle.std.specs.Prelude.{slice_get}
 use Rattle.std.proofs.lemmas.Option.{slice_get_within}
-use Rattle.smv_language.specs.Tree.{Tree, Trees, Branches, truth as is_truth, number as is_number, leaf, not_of, negate, next_of, binary, choice, case_of, set_of, span, no_tree, tree_then, no_branch, branch_then}
-use Rattle.smv_language.specs.ProgramTree.{Path, Formula, ProgramTree}
-use Rattle.smv_language.specs.Laws.{AllLeaves, AllLeavesOfTrees, AllLeavesOfBranches}
-use Rattle.smv_language.specs.Scope.{Place, Meaning, a_variable_at, an_expression_at, an_instance_at, a_symbol}
-use Rattle.smv_language.specs.Trace.{Each, EachBoth}
-use Rattle.smv_language.specs.Flat.{FlatLeaf, flat_variable, flat_symbol, flat_definition, FlatFormula, FlatModel}
+use Rattle.smv_language.specs.Language.{Tree, Trees, Branches, leaf, not_of, negate, next_of, binary, choice, case_of, set_of, span, no_tree, tree_then, no_branch, branch_then, Path, Formula, ProgramTree, AllLeaves, AllLeavesOfTrees, AllLeavesOfBranches, Place, Meaning, a_variable_at, an_expression_at, an_instance_at, Each, EachBoth, FlatLeaf, flat_variable, flat_symbol, flat_definition, FlatFormula, FlatModel}
+use Rattle.smv_language.specs.Tree.{truth as is_truth, number as is_number}
+use Rattle.smv_language.specs.Scope.{a_symbol}
 use Rattle.smv_flat_laws.specs.NameResolution.{leaves_in, trees_leaves, branches_leaves, StandsFor, Resolver, IsSound, IsResolved, IsBefore}
 use Rattle.smv_flat_laws.specs.Model.{Condition, plain, now_among, next_among, kept, Written, IsVariableNumber, IsConditionTree, IsFormulaOf, IsDefinitionOf, IsFlatOf}
 use Rattle.smv_flat_laws.proofs.Reaches.{each_left, each_right}

@@ -1,8 +1,7 @@
 -- The first breach that is found is the first.
 use Rattle.std.proofs.Common.{◌≡◌, ◌⊎◌, inl, inr, ⊎_elim, ℕ, ◌<◌, ◌≤◌, nat_eq, nat_lt, nat_le, eq-eqb, Bool, true, false, cond, List, [], ◌∷◌, ◌++◌, Option, Some, None, refl, sym, ap, ◌∙◌, subst, arith}
 use Rattle.std.proofs.lemmas.Bool.Decides.{nat_tests}
-use Rattle.smv_language.specs.Trace.{Each, AtSome}
-use Rattle.smv_language.specs.Flat.{FlatModel}
+use Rattle.smv_language.specs.Language.{Each, AtSome, FlatModel}
 use Rattle.smv_type_laws.specs.ExpressionKinds.{KindRule, too_large, number_of}
 use Rattle.smv_type_laws.specs.Models.{Breach, breaches_at, breaches, IsNoLater, IsFirstBreach, IsFault, at_an_item, of_its_size, is_too_large, IsTyped, lesser, least_after, least}
 use Rattle.smv_type_laws.specs.FirstBreach.{is_no_later, earlier_of, earlier, first_of, breach_of, size_breach, first_fault}

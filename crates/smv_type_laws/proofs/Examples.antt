@@ -2,9 +2,8 @@
 use Rattle.std.proofs.Common.{◌≡◌, ℕ, inl, inr, arith, refl, Bool, true, false, [], ◌∷◌, Some, None, ℤ, pos, negsuc, codes}
 use Rattle.smv_language.specs.declared.expr.Op.TheVariants as op
 use Rattle.smv_language.specs.declared.program.Member.TheVariants as member
-use Rattle.smv_language.specs.ProgramTree.{DeclaredTree, range, members}
-use Rattle.smv_language.specs.Scope.{state}
-use Rattle.smv_language.specs.Tree.{Tree, truth, number, leaf, negate, binary, choice, case_of, set_of, span, no_tree, tree_then, no_branch, branch_then}
+use Rattle.smv_language.specs.Language.{DeclaredTree, range, members, state, Tree, leaf, negate, binary, choice, case_of, set_of, span, no_tree, tree_then, no_branch, branch_then, one, flat_variable, flat_definition, FlatVariable, FlatModel, FlatGives}
+use Rattle.smv_language.specs.Tree.{truth, number}
 use Rattle.smv_type_laws.specs.Intervals.{Interval, product_of, quotient_of, remainder_of}
 use Rattle.smv_flat_laws.specs.FlatTrace.{AreInDomains}
 use Rattle.smv_type_laws.specs.ExpressionKinds.{Kind, Judged, KindRule, truth_class, number_class, symbol_class, mismatch, not_boolean, set_here, may_divide_by_zero, too_wide, empty_range, mixed_enum, case_end, double_member, judge}
@@ -12,8 +11,7 @@ use Rattle.smv_type_laws.specs.DeclaredKinds.{judged_declared}
 use Rattle.smv_type_laws.specs.Costs.{digits_in, declared_width, cost_of, state_bits, model_cost}
 use Rattle.smv_type_laws.specs.Models.{Breach, breaches, IsFault, at_an_item, IsTyped, judged_in}
 use Rattle.smv_type_laws.specs.Laws.{IsClosed}
-use Rattle.smv_language.specs.Values.{number as a_number, one}
-use Rattle.smv_language.specs.Flat.{flat_variable, flat_definition, FlatVariable, FlatModel, FlatGives}
+use Rattle.smv_language.specs.Values.{number as a_number}
 
 from : ℤ → ℤ → Interval
 from lo hi = record { lo = lo; hi = hi }

@@ -3,11 +3,8 @@ use Rattle.std.proofs.Common.{◌≡◌, ℕ, ◌<◌, ℤ, pos, negsuc, nat_lt,
 use Rattle.std.specs.Prelude.{IsTrue, if◌then◌else◌}
 use Rattle.smv_language.specs.declared.program.Member.{Member}
 use Rattle.smv_language.specs.declared.program.Member.TheVariants as member
-use Rattle.smv_language.specs.ProgramTree.{Text, DeclaredTree, boolean, range, members, instance}
-use Rattle.smv_language.specs.Values.{number, symbol, opposite, same_int, at_most}
-use Rattle.smv_language.specs.Texts.{same_text}
-use Rattle.smv_language.specs.Scope.{Role, state, input, frozen_role}
-use Rattle.smv_language.specs.Trace.{is_member, in_domain, value_of_member}
+use Rattle.smv_language.specs.Language.{Text, DeclaredTree, boolean, range, members, instance, symbol, opposite, same_int, at_most, same_text, Role, state, input, frozen_role, is_member, in_domain, value_of_member}
+use Rattle.smv_language.specs.Values.{number}
 use Rattle.smv_language.proofs.ValueLaws.{same_text_refl}
 use Rattle.smv_flat_laws.specs.FlatTrace.{AreInDomains}
 use Rattle.smv_type_laws.specs.LeastValues.{is_less, least_member, least_value, least_values, HasValues, by_role, LeastValuesLie, MixedValuesLie, LeastInputsServe}

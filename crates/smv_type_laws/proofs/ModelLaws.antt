@@ -1,13 +1,8 @@
 -- In a typed model the names have values of their kinds, and so have its expressions.
 use Rattle.std.proofs.Common.{◌≡◌, ℕ, zero, suc, ◌+◌, ◌<◌, arith, Bool, false, List, [], ◌∷◌, ◌++◌, length, Option, Some, refl, sym, ap, ◌∙◌, subst}
 use Rattle.std.specs.Prelude.{slice_get}
-use Rattle.smv_language.specs.Tree.{Tree, Trees, Branches, truth as is_truth, number as is_number, leaf, not_of, negate, next_of, binary, choice, case_of, set_of, span, no_tree, tree_then, no_branch, branch_then}
-use Rattle.smv_language.specs.ProgramTree.{Text}
-use Rattle.smv_language.specs.Trace.{Each, EachBoth}
-use Rattle.smv_language.specs.Values.{Value, symbol, Values, one}
-use Rattle.smv_language.specs.Evaluate.{evaluate}
-use Rattle.smv_language.specs.Laws.{AllLeaves, AllLeavesOfTrees, AllLeavesOfBranches}
-use Rattle.smv_language.specs.Flat.{FlatLeaf, flat_variable, flat_symbol, flat_definition, FlatFormula, flat_leaves, definition_gives, table_after}
+use Rattle.smv_language.specs.Language.{Tree, Trees, Branches, leaf, not_of, negate, next_of, binary, choice, case_of, set_of, span, no_tree, tree_then, no_branch, branch_then, Text, Each, EachBoth, Value, symbol, Values, one, evaluate, AllLeaves, AllLeavesOfTrees, AllLeavesOfBranches, FlatLeaf, flat_variable, flat_symbol, flat_definition, FlatFormula, flat_leaves, definition_gives, table_after}
+use Rattle.smv_language.specs.Tree.{truth as is_truth, number as is_number}
 use Rattle.smv_flat_laws.proofs.Lists.{length_end}
 use Rattle.smv_type_laws.specs.ExpressionKinds.{Kind, Judged, judge, judge_trees, judge_conditions, judge_values}
 use Rattle.smv_type_laws.specs.Models.{leaf_kind, judged_after}

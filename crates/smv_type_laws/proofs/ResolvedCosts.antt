@@ -1,8 +1,6 @@
 -- An expression costs as much resolved as it did.
 use Rattle.std.proofs.Common.{◌≡◌, Option, Some, sym, ◌∙◌, ap}
-use Rattle.smv_language.specs.Tree.{Tree}
-use Rattle.smv_language.specs.ProgramTree.{Path, Formula}
-use Rattle.smv_language.specs.Flat.{FlatLeaf}
+use Rattle.smv_language.specs.Language.{Tree, Path, Formula, FlatLeaf}
 use Rattle.smv_flat_laws.specs.NameResolution.{IsResolved}
 use Rattle.smv_type_laws.specs.Costs.{cost_of}
 use Rattle.smv_type_laws.proofs.Mapped.{cost_mapped}

@@ -4,10 +4,9 @@ use Rattle.std.proofs.lemmas.Int.{ints}
 use Rattle.std.proofs.lemmas.Bool.{lt-ltb, ltb-true}
 use Rattle.smv_language.specs.declared.expr.Op.{Op}
 use Rattle.smv_language.specs.declared.expr.Op.TheVariants as op
-use Rattle.smv_language.specs.Tree.{Tree, Trees, Branches, truth as is_truth, number as is_number, leaf, not_of, negate, next_of, binary, choice, case_of, set_of, span, no_tree, tree_then, no_branch, branch_then}
-use Rattle.smv_language.specs.Laws.{AllLeaves, AllLeavesOfTrees, AllLeavesOfBranches}
-use Rattle.smv_language.specs.Values.{number, Values, one, has}
-use Rattle.smv_language.specs.Evaluate.{Leaves, evaluate}
+use Rattle.smv_language.specs.Language.{Tree, Trees, Branches, leaf, not_of, negate, next_of, binary, choice, case_of, set_of, span, no_tree, tree_then, no_branch, branch_then, AllLeaves, AllLeavesOfTrees, AllLeavesOfBranches, Values, one, has, Leaves, evaluate}
+use Rattle.smv_language.specs.Tree.{truth as is_truth, number as is_number}
+use Rattle.smv_language.specs.Values.{number}
 use Rattle.smv_type_laws.specs.Intervals.{Interval, fits_number}
 use Rattle.smv_type_laws.specs.ExpressionKinds.{Class, truth_class, number_class, symbol_class, Kind, KindRule, mismatch, unless_class, wide, zero_rule, on_both, exact_interval, Judged, judged_binary, broken_in, judge, judge_trees, judge_conditions, judge_values, sets_on_left, sets_on_right}
 use Rattle.smv_type_laws.specs.KindValues.{IsOfClass, LiesIn, GivesSmall, DividesByNoZero, IsSafe, AreSafe, AreSafeBranches}

@@ -1,8 +1,7 @@
 -- The rows of what may be a set: choices, cases, sets and spans.
 use Rattle.std.proofs.Common.{◌≡◌, Bool, true, false, not, ◌||◌, List, [], ◌∷◌, ◌++◌, flat_map, Option, Some, None, ℤ, int_lt, refl, sym, subst}
-use Rattle.smv_language.specs.Trace.{Each}
-use Rattle.smv_language.specs.Values.{Value, truth, number, Values, no_value, one, from_to, either}
-use Rattle.smv_language.specs.Evaluate.{gives_either, gives_choice}
+use Rattle.smv_language.specs.Language.{Each, Value, Values, no_value, one, from_to, either, gives_either, gives_choice}
+use Rattle.smv_language.specs.Values.{truth, number}
 use Rattle.smv_type_laws.specs.Intervals.{Interval, just}
 use Rattle.smv_type_laws.specs.ExpressionKinds.{Class, truth_class, number_class, Kind, mismatch, not_boolean, empty_range, case_end, unless_class, rule_if, wide, joined, Judged, one_value, judged_choice, judged_case, judged_set, judged_span, first_class, hull_of, unlike_first, broken_in, kinds_in, some_set}
 use Rattle.smv_type_laws.specs.KindValues.{IsOfClass, IsOfKind, GivesOne, GivesSome}

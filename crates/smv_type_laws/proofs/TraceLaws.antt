@@ -1,12 +1,7 @@
 -- The traces of a program are the traces of its flat model.
 use Rattle.std.proofs.Common.{◌≡◌, ◌↔◌, ℕ, zero, suc, arith, true, List, [], ◌∷◌, length, map, flat_map, Some, IsTrue, refl, sym, ap, ◌∙◌, subst, codes}
 use Rattle.std.specs.Prelude.{slice_get}
-use Rattle.smv_language.specs.ProgramTree.{Text, DeclaredTree, boolean, range, members, instance, DeclTree, SectionTree, var, ivar, frozen, define, constants, assign, init, invar, trans, ModuleTree, ProgramTree}
-use Rattle.smv_language.specs.Scope.{Place, Role, state, input, frozen_role, a_variable, kind_declared, kind_in, find_module}
-use Rattle.smv_language.specs.Values.{Value}
-use Rattle.smv_language.specs.May.{Valuation}
-use Rattle.smv_language.specs.Trace.{Each, EachPair, AtFirst, in_domain, IsInstance, IsVariable, Declares, DomainSection, IsFirst, IsMoment, IsStep, IsTrace, EachBoth}
-use Rattle.smv_language.specs.Flat.{FlatVariable, FlatModel, Holds}
+use Rattle.smv_language.specs.Language.{Text, DeclaredTree, boolean, range, members, instance, DeclTree, SectionTree, var, ivar, frozen, define, constants, assign, init, invar, trans, ModuleTree, ProgramTree, Place, Role, state, input, frozen_role, a_variable, kind_declared, kind_in, find_module, Value, Valuation, Each, EachPair, AtFirst, in_domain, IsInstance, IsVariable, Declares, DomainSection, IsFirst, IsMoment, IsStep, IsTrace, EachBoth, FlatVariable, FlatModel, Holds}
 use Rattle.smv_flat_laws.specs.FlatTrace.{AreInDomains, IsFlatMoment, IsFlatStep, IsFlatTrace}
 use Rattle.smv_flat_laws.specs.Items.{Item, a_declaration, a_definition, an_assignment, some_constants, an_init, an_invar, a_trans, NumberedItem, items_of_section, items_of, items_named, Visit, visits, variables_of}
 use Rattle.smv_flat_laws.specs.Rules.{IsAccepted}

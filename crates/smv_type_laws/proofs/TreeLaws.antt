@@ -1,12 +1,9 @@
 -- In an expression that breaks no rule each part has values of its kind.
 use Rattle.std.proofs.Common.{◌≡◌, Bool, true, false, not, ◌&&◌, List, [], ◌∷◌, ◌++◌, flat_map, Option, Some, None, refl, ap}
 use Rattle.smv_language.specs.declared.expr.Op.TheVariants as op
-use Rattle.smv_language.specs.Tree.{Tree, Trees, Branches, truth as is_truth, number as is_number, leaf, not_of, negate, next_of, binary, choice, case_of, set_of, span, no_tree, tree_then, no_branch, branch_then}
-use Rattle.smv_language.specs.Trace.{Each}
-use Rattle.smv_language.specs.Laws.{AllLeaves, AllLeavesOfTrees, AllLeavesOfBranches}
-use Rattle.smv_language.specs.Values.{truth, number, symbol, Values, one, same_int, same_bool, opposite}
-use Rattle.smv_language.specs.Texts.{same_text}
-use Rattle.smv_language.specs.Evaluate.{Leaves, evaluate, evaluate_trees, evaluate_branches}
+use Rattle.smv_language.specs.Language.{Tree, Trees, Branches, leaf, not_of, negate, next_of, binary, choice, case_of, set_of, span, no_tree, tree_then, no_branch, branch_then, Each, AllLeaves, AllLeavesOfTrees, AllLeavesOfBranches, symbol, Values, one, same_int, same_bool, opposite, same_text, Leaves, evaluate, evaluate_trees, evaluate_branches}
+use Rattle.smv_language.specs.Tree.{truth as is_truth, number as is_number}
+use Rattle.smv_language.specs.Values.{truth, number}
 use Rattle.smv_type_laws.specs.Intervals.{Interval}
 use Rattle.smv_type_laws.specs.ExpressionKinds.{Class, truth_class, number_class, symbol_class, Kind, KindRule, mismatch, not_boolean, set_here, rule_if, unless_class, Judged, kinds_in, broken_in, is_word_true, ends_in_true, judge, judge_trees, judge_conditions, judge_values}
 use Rattle.smv_type_laws.specs.KindValues.{GivesOne}

@@ -1,9 +1,6 @@
 -- The laws of typed models.
 use Rattle.std.proofs.Common.{◌≡◌, ℕ, suc, ◌+◌, ◌<◌, ◌≤◌, arith, true, false, List, [], ◌∷◌, ◌++◌, length, refl, sym, ap, ◌∙◌, subst, inl, inr, ◌⊎◌}
-use Rattle.smv_language.specs.Trace.{Each, AtSome, EachBoth}
-use Rattle.smv_language.specs.Values.{Value, Values, has}
-use Rattle.smv_language.specs.Laws.{AllLeaves}
-use Rattle.smv_language.specs.Flat.{FlatLeaf, flat_variable, flat_symbol, flat_definition, FlatVariable, FlatFormula, FlatModel, table_after, leaves_at}
+use Rattle.smv_language.specs.Language.{Each, AtSome, EachBoth, Value, Values, has, AllLeaves, FlatLeaf, flat_variable, flat_symbol, flat_definition, FlatVariable, FlatFormula, FlatModel, table_after, leaves_at}
 use Rattle.smv_flat_laws.proofs.Lists.{length_end}
 use Rattle.smv_flat_laws.specs.FlatTrace.{AreInDomains}
 use Rattle.smv_type_laws.specs.ExpressionKinds.{KindRule, number_of, truth_class, not_boolean, unless_class, Judged, judge}

@@ -2,10 +2,8 @@
 use Rattle.std.proofs.Common.{◌≡◌, true, ⊎_elim, List, [], ◌∷◌, ◌++◌, flat_map, map, Option, Some, None, int_lt, refl, subst}
 use Rattle.smv_language.specs.declared.program.Member.{Member}
 use Rattle.smv_language.specs.declared.program.Member.TheVariants as member
-use Rattle.smv_language.specs.ProgramTree.{DeclaredTree, boolean, range, members, instance}
-use Rattle.smv_language.specs.Trace.{Each, is_member, in_domain}
-use Rattle.smv_language.specs.Values.{Value, truth, number, symbol, one, same_int}
-use Rattle.smv_language.specs.Texts.{same_text}
+use Rattle.smv_language.specs.Language.{DeclaredTree, boolean, range, members, instance, Each, is_member, in_domain, Value, symbol, one, same_int, same_text}
+use Rattle.smv_language.specs.Values.{truth, number}
 use Rattle.smv_language.proofs.ValueLaws.{same_int_equal}
 use Rattle.smv_type_laws.specs.Intervals.{Interval, just}
 use Rattle.smv_type_laws.specs.ExpressionKinds.{Class, number_class, KindRule, mixed_enum, empty_range, double_member, rule_if, unless_class, wide, first_class, hull_of, one_value}

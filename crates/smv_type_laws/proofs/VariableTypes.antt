@@ -1,7 +1,6 @@
 -- Variables without a breach have types without one.
 use Rattle.std.proofs.Common.{◌≡◌, List, [], ◌∷◌}
-use Rattle.smv_language.specs.Trace.{Each}
-use Rattle.smv_language.specs.Flat.{FlatVariable}
+use Rattle.smv_language.specs.Language.{Each, FlatVariable}
 use Rattle.smv_type_laws.specs.DeclaredKinds.{judged_declared}
 use Rattle.smv_type_laws.specs.Models.{breaches_at, variable_breaches}
 use Rattle.smv_type_laws.proofs.Parts.{none_first, none_second}

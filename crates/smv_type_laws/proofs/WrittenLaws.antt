@@ -1,15 +1,9 @@
 -- What a written expression of a lawful program may have lies in the kind of its flat form.
 use Rattle.std.proofs.Common.{◌≡◌, Bool, true, false, List, [], ◌∷◌, map, Some, IsTrue, refl, sym, ap, ◌∙◌, subst}
 use Rattle.std.specs.Prelude.{codes}
-use Rattle.smv_language.specs.Tree.{Tree}
-use Rattle.smv_language.specs.ProgramTree.{Text, Formula, DeclaredTree, boolean, range, members, instance, DeclTree, DefineTree, SectionTree, var, ivar, frozen, define, constants, assign, init, invar, trans, ModuleTree, ProgramTree}
-use Rattle.smv_language.specs.Texts.{same_text}
-use Rattle.smv_language.specs.Values.{Value, truth, number, symbol, one}
-use Rattle.smv_language.specs.Scope.{Place, Role, state, input, frozen_role, Kind, a_variable, kind_declared, kind_in_decls, kind_in_defines, kind_in_sections, formal_from, find_module}
-use Rattle.smv_language.specs.May.{Valuation}
-use Rattle.smv_language.specs.Trace.{Each, in_domain, IsVariable, Declares, DomainSection, InDomains, EachBoth}
+use Rattle.smv_language.specs.Language.{Tree, Text, Formula, DeclaredTree, boolean, range, members, instance, DeclTree, DefineTree, SectionTree, var, ivar, frozen, define, constants, assign, init, invar, trans, ModuleTree, ProgramTree, same_text, Value, symbol, one, Place, Role, state, input, frozen_role, Kind, a_variable, kind_declared, kind_in_decls, kind_in_defines, kind_in_sections, formal_from, find_module, Valuation, Each, in_domain, IsVariable, Declares, DomainSection, InDomains, EachBoth, FlatLeaf, FlatVariable, FlatModel, Numbers}
+use Rattle.smv_language.specs.Values.{truth, number}
 use Rattle.smv_language.proofs.ValueLaws.{same_value_refl}
-use Rattle.smv_language.specs.Flat.{FlatLeaf, FlatVariable, FlatModel, Numbers}
 use Rattle.smv_flat_laws.specs.Items.{Visit, visits, variables_of}
 use Rattle.smv_flat_laws.specs.Rules.{IsAccepted}
 use Rattle.smv_flat_laws.specs.Model.{IsVariableOf, IsFlatOf}

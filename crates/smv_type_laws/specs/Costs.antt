@@ -5,12 +5,10 @@ use Rattle.smv_language.specs.declared.expr.Op.{Op}
 use Rattle.smv_language.specs.declared.expr.Op.TheVariants as op
 use Rattle.smv_language.specs.declared.program.Member.{Member}
 use Rattle.smv_language.specs.declared.program.Member.TheVariants as member
-use Rattle.smv_language.specs.Tree.{Tree, Trees, Branches, truth, number, leaf, not_of, negate, next_of, binary, choice, case_of, set_of}
-use Rattle.smv_language.specs.Tree.{span, no_tree, tree_then, no_branch, branch_then}
-use Rattle.smv_language.specs.ProgramTree.{Text, DeclaredTree, boolean, range, members, instance}
-use Rattle.smv_language.specs.Texts.{same_text}
-use Rattle.smv_language.specs.Scope.{Role, state, input, frozen_role}
-use Rattle.smv_language.specs.Flat.{FlatFormula, FlatModel}
+use Rattle.smv_language.specs.Language.{Tree, Trees, Branches, leaf, not_of, negate, next_of, binary, choice, case_of, set_of, span}
+use Rattle.smv_language.specs.Language.{no_tree, tree_then, no_branch, branch_then, Text, DeclaredTree, boolean, range, members, instance}
+use Rattle.smv_language.specs.Language.{same_text, Role, state, input, frozen_role, FlatFormula, FlatModel}
+use Rattle.smv_language.specs.Tree.{truth, number}
 use Rattle.smv_type_laws.specs.Intervals.{Interval, just}
 use Rattle.smv_type_laws.specs.ExpressionKinds.{Kind, number_class, hull_of}
 

@@ -2,9 +2,7 @@
 use Rattle.std.specs.Prelude.{ℤ, ◌||◌, Bool, false, int_lt, Some, None, List, [], ◌∷◌, ◌++◌, map, flat_map}
 use Rattle.smv_language.specs.declared.program.Member.{Member}
 use Rattle.smv_language.specs.declared.program.Member.TheVariants as member
-use Rattle.smv_language.specs.ProgramTree.{DeclaredTree, boolean, range, members, instance}
-use Rattle.smv_language.specs.Values.{same_int}
-use Rattle.smv_language.specs.Texts.{same_text}
+use Rattle.smv_language.specs.Language.{DeclaredTree, boolean, range, members, instance, same_int, same_text}
 use Rattle.smv_type_laws.specs.Intervals.{just}
 use Rattle.smv_type_laws.specs.ExpressionKinds.{Class, Kind, truth_class, number_class, symbol_class, empty_range, mixed_enum}
 use Rattle.smv_type_laws.specs.ExpressionKinds.{double_member, Judged, rule_if, wide, one_value, first_class, unlike_first, hull_of}

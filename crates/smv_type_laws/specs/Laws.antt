@@ -1,16 +1,10 @@
 -- The laws of kinds, as statements.
 use Rattle.std.specs.Prelude.{◌≡◌, ℕ, suc, ◌<◌, ◌≤◌, ◌-◌, ◌^◌, ℤ, pos, negsuc, neg_ℤ, ◌≤ℤ◌, ◌<ℤ◌, Bool, true, false, Some, None, List, []}
 use Rattle.std.specs.Prelude.{◌∷◌, length, map, ◌↔◌}
-use Rattle.smv_language.specs.Tree.{Tree}
-use Rattle.smv_language.specs.ProgramTree.{Formula, ProgramTree}
-use Rattle.smv_language.specs.Laws.{AllLeaves}
-use Rattle.smv_language.specs.Evaluate.{evaluate}
-use Rattle.smv_language.specs.Scope.{Place}
-use Rattle.smv_language.specs.May.{Valuation, name_values, May}
-use Rattle.smv_language.specs.Values.{Value, truth, Values, one}
-use Rattle.smv_language.specs.Trace.{Each, InDomains, IsTrace}
-use Rattle.smv_language.specs.Flat.{FlatLeaf, flat_variable, flat_symbol, flat_definition, FlatFormula, FlatModel, leaves_at, FlatGives}
-use Rattle.smv_language.specs.Flat.{FlatMay, Numbers}
+use Rattle.smv_language.specs.Language.{Tree, Formula, ProgramTree, AllLeaves, evaluate, Place, Valuation, name_values, May, Value, Values}
+use Rattle.smv_language.specs.Language.{one, Each, InDomains, IsTrace, FlatLeaf, flat_variable, flat_symbol, flat_definition, FlatFormula}
+use Rattle.smv_language.specs.Language.{FlatModel, leaves_at, FlatGives, FlatMay, Numbers}
+use Rattle.smv_language.specs.Values.{truth}
 use Rattle.smv_flat_laws.specs.Model.{IsFlatOf}
 use Rattle.smv_flat_laws.specs.FlatTrace.{AreInDomains, IsFlatTrace}
 use Rattle.smv_flat_laws.specs.NameResolution.{Resolver, IsSound, IsResolved}

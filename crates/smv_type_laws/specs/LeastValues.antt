@@ -2,11 +2,9 @@
 use Rattle.std.specs.Prelude.{◌≡◌, ◌<◌, nat_lt, int_lt, Bool, false, IsTrue, List, [], ◌∷◌, length, map, if◌then◌else◌}
 use Rattle.smv_language.specs.declared.program.Member.{Member}
 use Rattle.smv_language.specs.declared.program.Member.TheVariants as member
-use Rattle.smv_language.specs.ProgramTree.{Text, DeclaredTree, boolean, range, members, instance}
-use Rattle.smv_language.specs.Values.{Value, truth, number, at_most}
-use Rattle.smv_language.specs.Scope.{Role, state, input, frozen_role}
-use Rattle.smv_language.specs.Trace.{Each, value_of_member}
-use Rattle.smv_language.specs.Flat.{FlatVariable, FlatModel}
+use Rattle.smv_language.specs.Language.{Text, DeclaredTree, boolean, range, members, instance, Value, at_most, Role, state, input}
+use Rattle.smv_language.specs.Language.{frozen_role, Each, value_of_member, FlatVariable, FlatModel}
+use Rattle.smv_language.specs.Values.{truth, number}
 use Rattle.smv_flat_laws.specs.FlatTrace.{AreInDomains}
 use Rattle.smv_type_laws.specs.Costs.{symbol_number}
 

@@ -2,9 +2,8 @@
 use Rattle.std.specs.Prelude.{◌≡◌, ◌⊎◌, ℕ, ◌<◌, ◌≤◌, nat_lt, Bool, true, false, ◌||◌, Option, Some, None, List, [], ◌∷◌, ◌++◌, map}
 use Rattle.std.specs.Prelude.{flat_map, slice_get, if◌then◌else◌}
 use Rattle.base_values.specs.declared.limits.TheConstants.{MOST_BITS, MOST_COST, MOST_TOP_COST}
-use Rattle.smv_language.specs.Tree.{Tree}
-use Rattle.smv_language.specs.Trace.{Each, AtSome}
-use Rattle.smv_language.specs.Flat.{FlatLeaf, flat_variable, flat_symbol, flat_definition, FlatVariable, FlatFormula, FlatModel}
+use Rattle.smv_language.specs.Language.{Tree, Each, AtSome, FlatLeaf, flat_variable, flat_symbol, flat_definition, FlatVariable}
+use Rattle.smv_language.specs.Language.{FlatFormula, FlatModel}
 use Rattle.smv_type_laws.specs.ExpressionKinds.{Kind, truth_class, symbol_class, KindRule, not_boolean, too_large, number_of, Judged}
 use Rattle.smv_type_laws.specs.ExpressionKinds.{unless_class, judge}
 use Rattle.smv_type_laws.specs.DeclaredKinds.{judged_declared}

@@ -2,8 +2,7 @@
 use Rattle.std.proofs.Common.{◌+◌, ◌≡◌, ℕ, Bool, true, false, List, [], ◌∷◌, Option, Some, None, refl, sym, ap, ◌∙◌, subst, OnOk, min, arith}
 use Rattle.std.specs.Prelude.{Result, Ok, Err, nat_lt}
 use Rattle.base_values.specs.declared.limits.TheConstants.{MOST_COST, MOST_TOP_COST}
-use Rattle.smv_language.specs.Tree.{Tree}
-use Rattle.smv_language.specs.Flat.{FlatLeaf, FlatModel}
+use Rattle.smv_language.specs.Language.{Tree, FlatLeaf, FlatModel}
 use Rattle.smv_type_laws.specs.ExpressionKinds as found
 use Rattle.smv_type_laws.specs.ExpressionKinds.{Judged, KindRule, truth_class, not_boolean, unless_class}
 use Rattle.smv_type_laws.specs.Costs.{cost_of}

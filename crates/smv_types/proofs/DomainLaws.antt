@@ -4,10 +4,8 @@ use Rattle.std.specs.Prelude.{flat_map, map, slice_get}
 use Rattle.std.proofs.lemmas.Option.{slice_get-map, same_Some}
 use Rattle.smv_language.specs.declared.program.Member.{Member}
 use Rattle.smv_language.specs.declared.program.Member.TheVariants as member
-use Rattle.smv_language.specs.ProgramTree.{Text, DeclaredTree, boolean, range, members, instance, declared_tree}
-use Rattle.smv_language.specs.Texts.{same_text}
-use Rattle.smv_language.specs.Trace.{in_domain, is_member}
-use Rattle.smv_language.specs.Values.{Value, truth, number, symbol, same_int, is_between, at_most}
+use Rattle.smv_language.specs.Language.{Text, DeclaredTree, boolean, range, members, instance, declared_tree, same_text, in_domain, is_member, Value, symbol, same_int, is_between, at_most, variable_tree, model_tree}
+use Rattle.smv_language.specs.Values.{truth, number}
 use Rattle.smv_language.proofs.ValueLaws.{same_text_refl, same_int_equal, at_most_from, no_truth, not_less}
 use Rattle.base_values.specs.declared.domain.Domain.TheVariants as domain
 use Rattle.base_values.specs.declared.value.Value.{Value as AValue}
@@ -22,7 +20,6 @@ use Rattle.smv_type_laws.specs.Models.{breaches_at, variable_breaches, IsTyped}
 use Rattle.base_values.specs.declared.domain.Domain.{Domain}
 use Rattle.smv_language.specs.declared.model.FlatModel.{FlatModel}
 use Rattle.smv_language.specs.declared.model.Variable.{Variable}
-use Rattle.smv_language.specs.ModelTree.{variable_tree, model_tree}
 use Rattle.smv_lexer.proofs.SignLemmas.{both_true}
 use Rattle.smv_language.proofs.OneTree.{same_text_equal}
 use Rattle.std.proofs.lemmas.Bool.{or_left, or_right as or_true}

@@ -6,8 +6,7 @@ use Rattle.smv_language.specs.declared.expr.Op.{Op}
 use Rattle.smv_language.specs.declared.expr.Expr.{Expr, fold-roll-Expr}
 use Rattle.smv_language.specs.declared.expr.Expr.TheVariants.{Not, Negate, Binary, Choice, Case, SetOf, Span, rolls-Not, rolls-Negate, rolls-Binary, rolls-Choice, rolls-Span}
 use Rattle.smv_language.specs.declared.expr.Expr.TheOpen as open_
-use Rattle.smv_language.specs.Tree.{Tree}
-use Rattle.smv_language.specs.ExpressionTree.{tree_of, trees_of, branches_of, node_tree}
+use Rattle.smv_language.specs.Language.{Tree, tree_of, trees_of, branches_of, node_tree}
 use Rattle.smv_type_laws.specs.ExpressionKinds.{Kind, judge, judge_trees, judge_values, sets_on_left, sets_on_right}
 use Rattle.smv_types.specs.Rows.{row_not, row_negative, row_binary, row_choice, row_span}
 use Rattle.smv_types.specs.declared.sort.JudgedExpr.{JudgedExpr}

@@ -2,12 +2,10 @@
 use Rattle.std.proofs.Common.{◌≡◌, ℕ, zero, suc, Bool, false, List, [], ◌∷◌, ◌++◌, refl, sym, ap, ◌∙◌}
 use Rattle.std.specs.Prelude.{slice_get, map}
 use Rattle.smv_language.specs.declared.expr.Expr.{Expr}
-use Rattle.smv_language.specs.ExpressionTree.{tree_of}
-use Rattle.smv_language.specs.Flat.{FlatModel}
+use Rattle.smv_language.specs.Language.{tree_of, FlatModel, leaf_of, flat_tree, formula_tree}
 use Rattle.smv_language.specs.declared.model.Flat.{Flat}
 use Rattle.smv_language.specs.declared.model.Flat.TheVariants as flat
 use Rattle.smv_language.specs.declared.model.Formula.{Formula}
-use Rattle.smv_language.specs.ModelTree.{leaf_of, flat_tree, formula_tree}
 use Rattle.smv_type_laws.specs.ExpressionKinds.{Class, truth_class, number_class, symbol_class, Kind, Judged, judge}
 use Rattle.smv_type_laws.specs.Models.{kind_at, leaf_kind, judged_in, broken_condition, breaches_at, condition_breaches}
 use Rattle.smv_type_laws.proofs.Mapped.{judge_mapped}

@@ -3,8 +3,7 @@ use Rattle.std.proofs.Common.{◌≡◌, ℕ, ◌+◌, ◌<◌, Bool, true, fals
 use Rattle.std.specs.Prelude.{flat_map}
 use Rattle.std.proofs.lemmas.List.{drop_more}
 use Rattle.smv_language.specs.declared.expr.Expr.{Expr}
-use Rattle.smv_language.specs.Tree.{Tree, Branches, no_branch, branch_then}
-use Rattle.smv_language.specs.ExpressionTree.{tree_of, trees_of, branches_of}
+use Rattle.smv_language.specs.Language.{Tree, Branches, no_branch, branch_then, tree_of, trees_of, branches_of}
 use Rattle.smv_type_laws.specs.Intervals.{Interval}
 use Rattle.smv_type_laws.specs.ExpressionKinds.{Class, truth_class, number_class, symbol_class, Kind, Judged, KindRule, mismatch, not_boolean, case_end, joined, rule_if, unless_class, unlike_first, hull_of, hull_from, kinds_in, broken_in, some_set, judged_set, judged_case, is_word_true, ends_in_true, judge, judge_trees, judge_conditions, judge_values, same_class as same}
 use Rattle.smv_types.specs.declared.fault.TypeRule.{TypeRule}

@@ -7,8 +7,7 @@ use Rattle.std.specs.Ordering.{int_eq}
 use Rattle.std.proofs.lemmas.List.{drop_more}
 use Rattle.smv_language.specs.declared.program.Member.{Member}
 use Rattle.smv_language.specs.declared.program.Member.TheVariants as member
-use Rattle.smv_language.specs.Texts.{same_text, is_among}
-use Rattle.smv_language.specs.BorrowedTexts.{texts}
+use Rattle.smv_language.specs.Language.{same_text, is_among, texts}
 use Rattle.smv_language.proofs.BorrowedTexts.{inserted}
 use Rattle.smv_type_laws.specs.DeclaredKinds.{same_member, is_member_again, has_double}
 use Rattle.indexmap.specs.IndexSet.{contains}

@@ -4,10 +4,9 @@ use Rattle.std.proofs.Common.{◌≡◌, ℕ, suc, ◌+◌, ◌-◌, ◌<◌, �
 use Rattle.std.specs.Prelude.{if◌then◌else◌}
 use Rattle.std.proofs.lemmas.List.{drop_more}
 use Rattle.indexmap.specs.IndexMap.{IndexMap, get}
-use Rattle.smv_language.specs.Texts.{same_text}
+use Rattle.smv_language.specs.Language.{same_text, same_borrowed}
 use Rattle.smv_type_laws.specs.Costs.{symbol_number}
 use Rattle.smv_types.specs.SymbolNumbering.{number_from, AreNumbered}
-use Rattle.smv_language.specs.BorrowedTexts.{same_borrowed}
 use Rattle.smv_language.proofs.AmongLaws.{pointwise_is}
 
 -- an insertion of the text at a place numbers the texts from that place on

@@ -2,13 +2,10 @@
 use Rattle.std.proofs.Common.{◌≡◌, ℕ, suc, ◌+◌, ◌<◌, false, List, [], ◌∷◌, ◌++◌, length, take, get_or, Option, refl, sym, ap, ◌∙◌, subst, append_assoc, arith}
 use Rattle.std.specs.Prelude.{map}
 use Rattle.std.proofs.lemmas.List.{take_more, append-nil}
-use Rattle.smv_language.specs.ProgramTree.{declared_tree}
-use Rattle.smv_language.specs.ExpressionTree.{tree_of}
-use Rattle.smv_language.specs.Flat.{FlatFormula}
+use Rattle.smv_language.specs.Language.{declared_tree, tree_of, FlatFormula, variable_tree, formula_tree, flat_tree, model_tree}
 use Rattle.smv_language.specs.declared.model.FlatModel.{FlatModel as AModel}
 use Rattle.smv_language.specs.declared.model.Formula.{Formula}
 use Rattle.smv_language.specs.declared.model.Variable.{Variable}
-use Rattle.smv_language.specs.ModelTree.{variable_tree, formula_tree, flat_tree, model_tree}
 use Rattle.smv_type_laws.specs.ExpressionKinds.{Kind, Judged, judge}
 use Rattle.smv_type_laws.specs.DeclaredKinds.{judged_declared}
 use Rattle.smv_type_laws.specs.FirstBreach.{first_of}

@@ -5,13 +5,10 @@ use Rattle.std.specs.Prelude.{map, sum_by}
 use Rattle.std.proofs.lemmas.List.{drop_more}
 use Rattle.std.proofs.lemmas.List.Sums.{sum_by-cons}
 use Rattle.base_values.specs.declared.limits.TheConstants.{MOST_COST}
-use Rattle.smv_language.specs.ProgramTree.{Text}
-use Rattle.smv_language.specs.ExpressionTree.{tree_of}
-use Rattle.smv_language.specs.Flat.{FlatFormula, FlatVariable}
+use Rattle.smv_language.specs.Language.{Text, tree_of, FlatFormula, FlatVariable, leaf_of, formula_tree, variable_tree, model_tree}
 use Rattle.smv_language.specs.declared.model.Formula.{Formula}
 use Rattle.smv_language.specs.declared.model.Variable.{Variable}
 use Rattle.smv_language.specs.declared.model.FlatModel.{FlatModel}
-use Rattle.smv_language.specs.ModelTree.{leaf_of, formula_tree, variable_tree, model_tree}
 use Rattle.smv_type_laws.specs.Costs.{cost_of, declared_cost, model_cost, formulas_cost as cost_of_formulas}
 use Rattle.smv_type_laws.proofs.Mapped.{cost_mapped}
 use Rattle.smv_types.specs.Sizes.{formula_cost, formulas_cost, variable_cost, variables_cost, variable_bits, variables_bits}

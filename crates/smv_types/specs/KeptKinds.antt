@@ -1,7 +1,6 @@
 -- The kinds that are kept of what was judged.
 use Rattle.std.specs.Prelude.{◌≡◌, false, List, map, flat_map}
-use Rattle.smv_language.specs.ExpressionTree.{tree_of}
-use Rattle.smv_language.specs.Flat.{FlatModel}
+use Rattle.smv_language.specs.Language.{tree_of, FlatModel}
 use Rattle.smv_type_laws.specs.ExpressionKinds.{Kind, Judged, judge}
 use Rattle.smv_type_laws.specs.Models.{judged_variables, judged_definitions, broken_condition, Breach, breaches_at}
 use Rattle.smv_language.specs.declared.model.Flat.{Flat}

@@ -4,8 +4,7 @@ use Rattle.std.specs.Ordering.{int_eq}
 use Rattle.indexmap.specs.IndexSet.{contains}
 use Rattle.smv_language.specs.declared.program.Member.{Member}
 use Rattle.smv_language.specs.declared.program.Member.TheVariants as member
-use Rattle.smv_language.specs.Texts.{is_among}
-use Rattle.smv_language.specs.BorrowedTexts.{texts}
+use Rattle.smv_language.specs.Language.{is_among, texts}
 use Rattle.smv_type_laws.specs.DeclaredKinds.{same_member}
 use Rattle.smv_types.specs.declared.members.MetMembers.{MetMembers}
 

@@ -1,11 +1,9 @@
 -- What the variables and formulas of a flat model cost, and how many bits its variables have.
 use Rattle.std.specs.Prelude.{ℕ, List, sum_by}
-use Rattle.smv_language.specs.ProgramTree.{Text, declared_tree}
-use Rattle.smv_language.specs.ExpressionTree.{tree_of}
+use Rattle.smv_language.specs.Language.{Text, declared_tree, tree_of, role_of}
 use Rattle.smv_type_laws.specs.Costs.{cost_of, declared_cost, declared_width, role_width}
 use Rattle.smv_language.specs.declared.model.Formula.{Formula}
 use Rattle.smv_language.specs.declared.model.Variable.{Variable}
-use Rattle.smv_language.specs.ModelTree.{role_of}
 
 -- the cost of a formula of the code
 abbrev pub formula_cost : Formula → ℕ

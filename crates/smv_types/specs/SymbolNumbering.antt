@@ -2,8 +2,7 @@
 use Rattle.std.specs.Prelude.{◌≡◌, ℕ, ◌+◌, Option, Some, None, List, [], ◌∷◌, if◌then◌else◌}
 use Rattle.std.specs.Borrow.{Bor}
 use Rattle.indexmap.specs.IndexMap.{IndexMap, get}
-use Rattle.smv_language.specs.Texts.{same_text}
-use Rattle.smv_language.specs.BorrowedTexts.{same_borrowed}
+use Rattle.smv_language.specs.Language.{same_text, same_borrowed}
 
 -- the first place of a text among texts that are numbered from i on
 abbrev pub number_from : ℕ → List (List ℕ) → List ℕ → Option ℕ

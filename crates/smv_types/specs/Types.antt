@@ -3,8 +3,7 @@ use Rattle.std.specs.Prelude.{◌≡◌, ◌↔◌, ℕ, ℤ, Bool, true, false,
 use Rattle.std.specs.Prelude.{if◌then◌else◌}
 use Rattle.smv_language.specs.declared.program.Member.{Member}
 use Rattle.smv_language.specs.declared.program.Member.TheVariants as member
-use Rattle.smv_language.specs.ProgramTree.{Text, DeclaredTree, boolean, range, members, instance, declared_tree, IsType}
-use Rattle.smv_language.specs.Trace.{in_domain}
+use Rattle.smv_language.specs.Language.{Text, DeclaredTree, boolean, range, members, instance, declared_tree, IsType, in_domain}
 use Rattle.smv_language.specs.Values as told
 use Rattle.base_values.specs.declared.domain.Domain.{Domain}
 use Rattle.base_values.specs.declared.domain.Domain.TheVariants as domain

@@ -5,12 +5,8 @@ use Rattle.std.specs.List.{list_any, AllByRecursion}
 use Rattle.std.proofs.lemmas.Bool.{ltb-true}
 use Rattle.std.proofs.lemmas.List.{length-map}
 use Rattle.std.proofs.lemmas.List.Elements.{recursion_from_All}
-use Rattle.smv_language.specs.ProgramTree.{Text, DeclaredTree, boolean, range, members, instance, declared_tree, IsType}
-use Rattle.smv_language.specs.Tree.{Tree, Trees, Branches, truth as a_truth, number as a_number, leaf, not_of, negate, next_of, binary, choice, case_of, set_of, span, no_tree, tree_then, no_branch, branch_then}
-use Rattle.smv_language.specs.Leaves.{tree_map, trees_map, branches_map}
-use Rattle.smv_language.specs.Laws.{AllLeaves, AllLeavesOfTrees, AllLeavesOfBranches}
-use Rattle.smv_language.specs.ExpressionTree.{tree_of}
-use Rattle.smv_language.specs.Trace.{Each, in_domain}
+use Rattle.smv_language.specs.Language.{Text, DeclaredTree, boolean, range, members, instance, declared_tree, IsType, Tree, Trees, Branches, leaf, not_of, negate, next_of, binary, choice, case_of, set_of, span, no_tree, tree_then, no_branch, branch_then, tree_map, trees_map, branches_map, AllLeaves, AllLeavesOfTrees, AllLeavesOfBranches, tree_of, Each, in_domain, leaf_of, role_of, flat_tree, variable_tree, formula_tree, model_tree, FlatLeaf, flat_variable, flat_symbol, flat_definition, told_moment, told_value}
+use Rattle.smv_language.specs.Tree.{truth as a_truth, number as a_number}
 use Rattle.smv_language.specs.declared.expr.Expr.{Expr}
 use Rattle.base_values.specs.declared.value.Value.{Value}
 use Rattle.base_values.specs.declared.value.Value.TheVariants.{Bool as truth, Num, Sym}
@@ -23,8 +19,6 @@ use Rattle.smv_language.specs.declared.model.Variable.{Variable}
 use Rattle.smv_language.specs.declared.model.Formula.{Formula}
 use Rattle.smv_language.specs.declared.model.FlatModel.{FlatModel}
 use Rattle.smv_scope.specs.ClosedModels.{is_within, tree_all, trees_all, branches_all, is_closed, bounds_of}
-use Rattle.smv_language.specs.ModelTree.{leaf_of, role_of, flat_tree, variable_tree, formula_tree, model_tree}
-use Rattle.smv_language.specs.Flat.{FlatLeaf, flat_variable, flat_symbol, flat_definition}
 use Rattle.smv_flat_laws.specs.NameResolution.{leaves_in}
 use Rattle.smv_flat_laws.specs.FlatTrace.{AreInDomains}
 use Rattle.smv_type_laws.specs.Laws.{IsKnown, ReadsOwn}
@@ -39,7 +33,6 @@ use Rattle.smv_evaluation.specs.EvaluableModels.{IsNumbered, IsLawful}
 use Rattle.test_encoding.specs.Values.{IsKnownSymbol, HasAt}
 use Rattle.std.proofs.lemmas.Option.{slice_get_within as got_below}
 use Rattle.smv_language.proofs.BoolLaws.{left_true, right_true}
-use Rattle.smv_language.specs.NumberedValues.{told_moment, told_value}
 use Rattle.base_values.proofs.ListLaws.{get_within}
 
 -- Types that have members.

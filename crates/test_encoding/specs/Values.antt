@@ -1,13 +1,11 @@
 -- What the tests find out of a value before it is evaluated.
 use Rattle.std.specs.Prelude.{◌≡◌, ℕ, ◌<◌, IsTrue, Some, slice_get}
-use Rattle.smv_language.specs.ProgramTree.{declared_tree}
-use Rattle.smv_language.specs.Trace.{in_domain}
+use Rattle.smv_language.specs.Language.{declared_tree, in_domain, told_value}
 use Rattle.base_values.specs.declared.value.Value.{Value}
 use Rattle.base_values.specs.declared.value.Value.TheVariants.{Bool as truth, Num, Sym}
 use Rattle.smv_language.specs.declared.model.Variable.{Variable}
 use Rattle.smv_language.specs.declared.model.FlatModel.{FlatModel}
 use Rattle.smv_evaluation.specs.EvaluableModels.{IsNumbered}
-use Rattle.smv_language.specs.NumberedValues.{told_value}
 
 -- a value that is a symbol has one of so many numbers
 abbrev pub IsKnownSymbol : ℕ → Value → Type 0

@@ -4,12 +4,8 @@ use Rattle.std.specs.Prelude.{codes}
 use Rattle.base_values.specs.declared.limits.TheConstants.{MOST_FILE_BYTES}
 use Rattle.base_files.specs.declared.files.NamedFile.{NamedFile}
 use Rattle.base_files.specs.Desk.{said_more, SaysPrefix}
-use Rattle.smv_language.specs.Tree.{Tree}
-use Rattle.smv_language.specs.ProgramTree.{Text, ProgramTree}
-use Rattle.smv_language.specs.Trace.{Each}
-use Rattle.smv_language.specs.Flat.{FlatLeaf, FlatModel}
+use Rattle.smv_language.specs.Language.{Tree, Text, ProgramTree, Each, FlatLeaf, FlatModel, flat_tree}
 use Rattle.smv_flat_laws.specs.History.{Mode, with_history}
-use Rattle.smv_language.specs.ModelTree.{flat_tree}
 use Rattle.smv_type_laws.specs.Models.{IsTyped}
 use Rattle.fault_weave.specs.Faults.{Fault}
 use Rattle.cut_text_laws.specs.AnalysisText.{size_line}

@@ -1,15 +1,10 @@
 -- From what was loaded with causes to what a search and a judgement of its staged model ask.
 use Rattle.std.proofs.Common.{arith, ◌≡◌, ◌<◌, ◌≤◌, ◌^◌, ℕ, List, [], ◌∷◌, ◌++◌, length, map, reverse, Option, Some, None, refl, sym, ap, subst, ◌∙◌}
 use Rattle.std.proofs.lemmas.List.{length-map, reverse-reverse}
-use Rattle.smv_language.specs.Tree.{Tree}
-use Rattle.smv_language.specs.ProgramTree.{Path, ProgramTree, program_tree}
-use Rattle.smv_language.specs.Values.{Value}
-use Rattle.smv_language.specs.Trace.{Each}
-use Rattle.smv_language.specs.ModelTree.{flat_tree, place_of, name_of_fault}
+use Rattle.smv_language.specs.Language.{Tree, Path, ProgramTree, program_tree, Value, Each, flat_tree, place_of, name_of_fault, FlatLeaf, FlatModel}
 use Rattle.smv_flat_laws.specs.FaultModes.{mode_of}
 use Rattle.smv_language.specs.declared.model.Fault.{Fault}
 use Rattle.smv_language.specs.declared.model.FlatModel.{FlatModel as Made}
-use Rattle.smv_language.specs.Flat.{FlatLeaf, FlatModel}
 use Rattle.smv_flat_laws.specs.FlatTrace.{IsFlatTrace}
 use Rattle.smv_flat_laws.specs.History.{Mode, with_history}
 use Rattle.smv_flat_laws.specs.Model.{IsFlatOf}

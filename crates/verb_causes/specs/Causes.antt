@@ -3,12 +3,9 @@ use Rattle.std.specs.Prelude.{◌≡◌, ◌⊎◌, ◌++◌, ℕ, List, [], ◌
 use Rattle.base_values.specs.declared.limits.TheConstants.{MOST_FILE_BYTES}
 use Rattle.base_files.specs.declared.files.NamedFile.{NamedFile}
 use Rattle.base_files.specs.Desk.{said_more, SaysPrefix}
-use Rattle.smv_language.specs.Tree.{Tree}
-use Rattle.smv_language.specs.ProgramTree.{Text, Path, Formula, ProgramTree, program_tree}
-use Rattle.smv_language.specs.Values.{Value}
-use Rattle.smv_language.specs.ModelTree.{model_tree, flat_tree, name_of_fault}
+use Rattle.smv_language.specs.Language.{Tree, Text, Path, Formula, ProgramTree, program_tree, Value, model_tree, flat_tree, name_of_fault}
+use Rattle.smv_language.specs.Language.{FlatLeaf, FlatModel}
 use Rattle.smv_flat_laws.specs.FaultModes.{mode_of}
-use Rattle.smv_language.specs.Flat.{FlatLeaf, FlatModel}
 use Rattle.smv_flat_laws.specs.FlatTrace.{IsFlatTrace}
 use Rattle.smv_flat_laws.specs.History.{Mode, with_history}
 use Rattle.smv_language.specs.declared.model.Fault.{Fault as Event}

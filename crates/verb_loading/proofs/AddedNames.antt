@@ -5,8 +5,7 @@ use Rattle.std.proofs.lemmas.Bool.Decides.{nat_tests}
 use Rattle.smv_lexer.specs.Bytes.{is_word_start}
 use Rattle.smv_lexer.specs.Runs.{Runs, takes_word}
 use Rattle.smv_lexer.specs.Tokens.{IsWord}
-use Rattle.smv_language.specs.ProgramTree.{Text}
-use Rattle.smv_language.specs.PrintedTokens.{IsName}
+use Rattle.smv_language.specs.Language.{Text, IsName}
 use Rattle.fault_instructions.specs.AddedNames.{own_name, mode_variable, mode_symbol}
 use Rattle.smv_language.proofs.WordLaws.{suffixed}
 

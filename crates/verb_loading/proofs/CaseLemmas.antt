@@ -1,11 +1,8 @@
 -- An extension in memory, as a case.
 use Rattle.std.proofs.Common.{◌≡◌, ℕ, List, map, sym, ap, subst, ◌∙◌}
-use Rattle.smv_language.specs.ProgramTree.{ProgramTree, program_tree}
-use Rattle.smv_language.specs.Text.{program_text}
+use Rattle.smv_language.specs.Language.{ProgramTree, program_tree, program_text, model_tree, FlatModel as ModelTree, EachBoth}
 use Rattle.smv_language.proofs.Spelled.{program_writable}
-use Rattle.smv_language.specs.ModelTree.{model_tree}
 use Rattle.smv_flat_laws.specs.FaultModes.{mode_of}
-use Rattle.smv_language.specs.Flat.{FlatModel as ModelTree}
 use Rattle.smv_flat_laws.specs.History.{with_history}
 use Rattle.fault_instructions.specs.Instructions.{instruction_tree}
 use Rattle.fault_instructions.specs.declared.instructions.Instructions.{Instructions}
@@ -24,7 +21,6 @@ use Rattle.verb_loading.proofs.OneModes.{one_modes}
 use Rattle.verb_loading.proofs.WholeLemmas.{numbered_modes}
 use Rattle.verb_loading.proofs.WovenSpells.{woven_text_spells}
 use Rattle.cert_laws.specs.ExtendedTraces.{IsModeOfFault}
-use Rattle.smv_language.specs.Trace.{EachBoth}
 
 -- a woven program within the limits is loaded with the instructions that it was woven with
 pub is_loaded : (p : ProgramTree) (bytes : List ℕ) (i : Instructions) (w : Woven) (l : Limited) → IsSpelled p → IsInstructionText bytes (instruction_tree i) → AreTaken p (instruction_tree i) →

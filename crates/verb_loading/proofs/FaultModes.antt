@@ -4,12 +4,8 @@ use Rattle.std.proofs.Common.{◌≡◌, ◌≢◌, ℕ, suc, Bool, true, false,
 use Rattle.std.specs.Prelude.{slice_get, reverse}
 use Rattle.std.specs.Option.{option_map}
 use Rattle.std.proofs.lemmas.List.{reverse-reverse}
-use Rattle.smv_language.specs.ProgramTree.{Text, Path, ModuleTree, ProgramTree}
-use Rattle.smv_language.specs.Texts.{same_text, is_among}
+use Rattle.smv_language.specs.Language.{Text, Path, ModuleTree, ProgramTree, same_text, is_among, Place, state, kind_at, module_at, is_symbol, Each, IsInstance, IsVariable, FlatVariable, FlatModel as ModelTree, place_in, name_in, variable_tree, model_tree, place_of}
 use Rattle.smv_language.proofs.ValueLaws.{same_text_equal}
-use Rattle.smv_language.specs.Scope.{Place, state, kind_at, module_at, is_symbol}
-use Rattle.smv_language.specs.Trace.{Each, IsInstance, IsVariable}
-use Rattle.smv_language.specs.Flat.{FlatVariable, FlatModel as ModelTree}
 use Rattle.smv_flat_laws.specs.Model.{IsVariableNumber, IsFlatOf}
 use Rattle.smv_flat_laws.specs.Rules.{IsAccepted}
 use Rattle.smv_flat_laws.proofs.Lists.{each_more}
@@ -17,7 +13,6 @@ use Rattle.smv_flat_laws.proofs.Variables.{variables_are}
 use Rattle.smv_flat_laws.proofs.Walkable.{accepted_walkable}
 use Rattle.smv_language.specs.declared.model.FlatModel.{FlatModel}
 use Rattle.smv_language.specs.declared.model.Variable.{Variable}
-use Rattle.smv_language.specs.ModelTree.{place_in, name_in, variable_tree, model_tree, place_of}
 use Rattle.smv_scope.proofs.SymbolKinds.{symbols_among}
 use Rattle.fault_instructions.specs.Instructions.{SliceTree, InstructionTree, slices_of}
 use Rattle.fault_instructions.specs.AddedNames.{mode_variable, mode_symbol}

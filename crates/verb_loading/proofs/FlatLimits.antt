@@ -4,9 +4,8 @@ use Rattle.std.specs.Prelude.{nat_lt, ◌||◌, sum_by, length}
 use Rattle.std.proofs.lemmas.List.Sums.{sum_by-append}
 use Rattle.std.proofs.lemmas.Bool.{ltb-false, le-ltb, or_parts as neither}
 use Rattle.base_values.specs.declared.limits.TheConstants.{MOST_BITS, MOST_COST}
-use Rattle.smv_language.specs.ProgramTree.{ProgramTree}
+use Rattle.smv_language.specs.Language.{ProgramTree, FlatVariable, FlatFormula, FlatModel}
 use Rattle.fault_instructions.specs.Instructions.{InstructionTree}
-use Rattle.smv_language.specs.Flat.{FlatVariable, FlatFormula, FlatModel}
 use Rattle.smv_flat_laws.specs.History.{Mode, with_history, bit_variables, bits_at_first, bits_at_step}
 use Rattle.smv_type_laws.specs.Costs.{cost_of, declared_cost, model_cost, role_width, declared_width, state_bits}
 use Rattle.smv_type_laws.specs.Models.{is_too_large, IsTyped}

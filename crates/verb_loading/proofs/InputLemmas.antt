@@ -1,13 +1,11 @@
 -- What the reading of an input file comes to.
 use Rattle.std.proofs.Common.{◌≡◌, ◌∙◌, ap, subst, sym, refl, ℕ, List, [], ◌∷◌, map, Option, Some, None, IfSome}
-use Rattle.smv_language.specs.ProgramTree.{Text, ProgramTree}
-use Rattle.smv_language.specs.Flat.{FlatInstance, FlatModel as ModelTree}
+use Rattle.smv_language.specs.Language.{Text, ProgramTree, FlatInstance, FlatModel as ModelTree, instance_tree, model_tree}
 use Rattle.smv_flat_laws.specs.Model.{IsFlatOf}
 use Rattle.fault_instructions.specs.Instructions.{InstructionTree}
 use Rattle.fault_extend_laws.specs.Expressions.{AllUsesKept}
 use Rattle.smv_language.specs.declared.model.FlatModel.{FlatModel}
 use Rattle.smv_language.specs.declared.model.Instance.{Instance}
-use Rattle.smv_language.specs.ModelTree.{instance_tree, model_tree}
 use Rattle.fault_extend.specs.FirstRefusal.{modules_in}
 use Rattle.base_files.specs.declared.files.NamedFile.{NamedFile}
 use Rattle.verb_loading.specs.declared.status.InputFault.{InputFault}

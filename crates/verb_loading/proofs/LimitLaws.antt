@@ -1,9 +1,7 @@
 -- An extension of a lawful program by instructions that are taken breaks no rule but a limit.
 use Rattle.std.proofs.Common.{◌≡◌, List, [], ◌∷◌, map, Option, Some, None, inl, inr, refl, sym, ap, subst, ◌∙◌}
 use Rattle.std.specs.Prelude.{flat_map}
-use Rattle.smv_language.specs.ProgramTree.{ModuleTree, ProgramTree}
-use Rattle.smv_language.specs.Scope.{Place, module_at}
-use Rattle.smv_language.specs.Trace.{Each, EachBoth}
+use Rattle.smv_language.specs.Language.{ModuleTree, ProgramTree, Place, module_at, Each, EachBoth, FlatModel}
 use Rattle.fault_instructions.specs.Instructions.{ModeTree, SliceTree, InstructionTree, slices_of}
 use Rattle.fault_instructions.specs.AddedNames.{mode_variable}
 use Rattle.fault_weave.specs.Conservative.{IsSlice}
@@ -11,7 +9,6 @@ use Rattle.fault_weave.specs.Faults.{Fault, slice_faults, module_slices, slices_
 use Rattle.fault_instructions.specs.Weavable.{Among}
 use Rattle.fault_weave.specs.WovenProgram.{woven}
 use Rattle.fault_weave.proofs.Added.{contains_among}
-use Rattle.smv_language.specs.Flat.{FlatModel}
 use Rattle.smv_flat_laws.specs.History.{Mode}
 use Rattle.smv_flat_laws.specs.Model.{IsVariableNumber}
 use Rattle.smv_flat_laws.specs.Rules.{too_many, IsFirstBroken, IsAccepted}

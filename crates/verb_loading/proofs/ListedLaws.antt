@@ -3,8 +3,7 @@ use Rattle.std.proofs.Common.{◌≡◌, ℕ, ◌+◌, List, [], ◌∷◌, ◌+
 use Rattle.std.specs.Prelude.{codes}
 use Rattle.std.specs.Fmt.{decimal}
 use Rattle.std.proofs.lemmas.List.{length-map, reverse-reverse}
-use Rattle.smv_language.specs.ProgramTree.{Text, Path}
-use Rattle.smv_language.specs.Text.{each_after, dotted_text}
+use Rattle.smv_language.specs.Language.{Text, Path, each_after, dotted_text, place_of, name_of_fault}
 use Rattle.smv_language.specs.declared.model.FlatModel.{FlatModel}
 use Rattle.smv_language.specs.declared.model.Fault.{Fault}
 use Rattle.fault_extend.specs.declared.faults.WovenFault.{WovenFault}
@@ -14,7 +13,6 @@ use Rattle.cut_report.specs.FaultText as lines
 use Rattle.verb_loading.specs.Reports.{parts_text, place_text, fault_lines, report_text}
 use Rattle.verb_loading.specs.Inputs.{path_of, AreListed}
 use Rattle.verb_loading.specs.CaseAnswers.{faults_text}
-use Rattle.smv_language.specs.ModelTree.{place_of, name_of_fault}
 
 pub are_listed : (m : FlatModel) (ws : List WovenFault) (fs : List Fault) → AreNumbered m ws fs → AreListed ws fs
 are_listed m [] [] h = refl

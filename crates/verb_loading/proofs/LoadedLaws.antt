@@ -1,13 +1,12 @@
 -- What is known of a case in memory: its files hold it, its traces can be read and judged, and its faults have their modes.
 use Rattle.std.proofs.Common.{◌≡◌, List, [], ◌∷◌, Option, Some, None, IfSome, length, refl, ap, subst, suc}
 use Rattle.base_files.specs.declared.files.NamedFile.{NamedFile}
-use Rattle.smv_language.specs.ProgramTree.{Text, ProgramTree}
+use Rattle.smv_language.specs.Language.{Text, ProgramTree, model_tree}
 use Rattle.verb_loading.specs.Inputs.{HoldsModel}
 use Rattle.verb_loading.specs.Cases.{HoldsCase, extension_of}
 use Rattle.verb_loading.specs.LoadedCases.{case_of, HoldsLoaded, IsLoaded}
 use Rattle.verb_loading.specs.declared.loaded.LoadedCase.{LoadedCase}
 use Rattle.std.specs.Prelude.{length}
-use Rattle.smv_language.specs.ModelTree.{model_tree}
 use Rattle.smv_language.specs.declared.model.FlatModel.{FlatModel as Flat}
 use Rattle.smv_language.specs.declared.model.Fault.{Fault as FaultOf}
 use Rattle.smv_evaluation.specs.EvaluableModels.{IsEvaluable}

@@ -1,9 +1,7 @@
 -- The text and the report of an extension in memory are those of the extension that the file gives.
 use Rattle.std.proofs.Common.{◌≡◌, ◌++◌, List, map, Option, Some, None, IfSome, ap, ◌∙◌}
 use Rattle.std.specs.Prelude.{codes}
-use Rattle.smv_language.specs.ProgramTree.{Text, ProgramTree, program_tree}
-use Rattle.smv_language.specs.Text.{program_text}
-use Rattle.smv_language.specs.ModelTree.{name_of_fault}
+use Rattle.smv_language.specs.Language.{Text, ProgramTree, program_tree, program_text, name_of_fault}
 use Rattle.fault_instructions.specs.Instructions.{instruction_tree}
 use Rattle.fault_extend.specs.WovenFaults.{fault_tree}
 use Rattle.base_files.specs.declared.files.NamedFile.{NamedFile}

@@ -1,11 +1,8 @@
 -- What the files of a model and of instructions hold is one case, and neither is then refused.
 use Rattle.std.proofs.Common.{◌≡◌, List, refl, sym, ap, subst, ◌∙◌}
 use Rattle.base_files.specs.declared.files.NamedFile.{NamedFile}
-use Rattle.smv_language.specs.ProgramTree.{Text, ProgramTree}
-use Rattle.smv_language.specs.Text.{program_text}
-use Rattle.smv_language.specs.WritableProgram.{IsWritableProgram}
+use Rattle.smv_language.specs.Language.{Text, ProgramTree, program_text, IsWritableProgram, FlatModel, EachBoth}
 use Rattle.smv_language.proofs.Spelled.{program_writable}
-use Rattle.smv_language.specs.Flat.{FlatModel}
 use Rattle.smv_flat_laws.specs.History.{Mode}
 use Rattle.fault_instructions.specs.Instructions.{InstructionTree}
 use Rattle.fault_weave.specs.Faults.{Fault}
@@ -26,7 +23,6 @@ use Rattle.verb_loading.proofs.OneInstructions.{one_instructions}
 use Rattle.verb_loading.proofs.OneExtending.{taken_not_refused}
 use Rattle.verb_loading.proofs.WovenSpells.{woven_text_spells}
 use Rattle.cert_laws.specs.ExtendedTraces.{IsModeOfFault}
-use Rattle.smv_language.specs.Trace.{EachBoth}
 
 module _ (files : List NamedFile) (model faults : Text) where
   -- the case's instructions are held as those of an extension

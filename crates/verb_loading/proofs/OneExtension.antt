@@ -1,7 +1,6 @@
 -- What is wrong with an extension as a whole is one thing, and nothing is where it passes no limit.
 use Rattle.std.proofs.Common.{◌≡◌, List, sym, subst, ◌∙◌}
-use Rattle.smv_language.specs.ProgramTree.{ProgramTree}
-use Rattle.smv_language.specs.Flat.{FlatModel}
+use Rattle.smv_language.specs.Language.{ProgramTree, FlatModel, EachBoth}
 use Rattle.smv_flat_laws.specs.History.{with_history}
 use Rattle.smv_flat_laws.specs.Rules.{IsAccepted}
 use Rattle.smv_flat_laws.proofs.Laws.{accepted_unbroken}
@@ -13,7 +12,6 @@ use Rattle.verb_loading.specs.Wholes.{IsWhole, IsWrongWhole, by_names, by_kinds,
 use Rattle.verb_loading.proofs.OneModes.{one_modes}
 use Rattle.verb_loading.proofs.OneModelFault.{one_name, one_kind}
 use Rattle.cert_laws.specs.ExtendedTraces.{IsModeOfFault}
-use Rattle.smv_language.specs.Trace.{EachBoth}
 
 module _ (extension : ProgramTree) (faults : List Fault) where
   one_whole : (a b : FlatModel) → IsAccepted extension → IsWhole extension faults a → IsWhole extension faults b → a ≡ b

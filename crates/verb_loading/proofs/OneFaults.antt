@@ -1,8 +1,7 @@
 -- A program has one list of faults under instructions.
 use Rattle.std.proofs.Common.{◌≡◌, ℕ, zero, suc, List, [], ◌∷◌, ◌++◌, Option, Some, None, refl, sym, ◌∙◌, ap}
 use Rattle.std.specs.Prelude.{flat_map}
-use Rattle.smv_language.specs.ProgramTree.{Text, ModuleTree, ProgramTree}
-use Rattle.smv_language.specs.Scope.{Place, module_at}
+use Rattle.smv_language.specs.Language.{Text, ModuleTree, ProgramTree, Place, module_at}
 use Rattle.fault_instructions.specs.Instructions.{InstructionTree}
 use Rattle.fault_weave.specs.Faults.{Fault, instance_names, joined, each_joined, below, instances_in, place_faults, HasFaults}
 

@@ -1,9 +1,7 @@
 -- The faults of a program have one mode each in its flat model.
 use Rattle.std.proofs.Common.{◌≡◌, ℕ, List, [], ◌∷◌, Some, refl, sym, ◌∙◌, ap, subst}
 use Rattle.std.specs.Prelude.{slice_get}
-use Rattle.smv_language.specs.ProgramTree.{Text, ProgramTree}
-use Rattle.smv_language.specs.Scope.{Place}
-use Rattle.smv_language.specs.Flat.{FlatModel}
+use Rattle.smv_language.specs.Language.{Text, ProgramTree, Place, FlatModel, EachBoth}
 use Rattle.smv_flat_laws.specs.Items.{Visit, variables_of}
 use Rattle.smv_flat_laws.specs.Rules.{IsAccepted}
 use Rattle.smv_flat_laws.specs.History.{Mode}
@@ -15,7 +13,6 @@ use Rattle.fault_instructions.specs.AddedNames.{mode_variable, mode_symbol}
 use Rattle.fault_weave.specs.Faults.{Fault}
 use Rattle.smv_flat_laws.proofs.Pairs.{Pairwise, pairwise_same}
 use Rattle.cert_laws.specs.ExtendedTraces.{IsModeOfFault}
-use Rattle.smv_language.specs.Trace.{EachBoth}
 
 module _ (p : ProgramTree) (accepted : IsAccepted p) (m : FlatModel) (is : IsFlatOf p m) where
   one_variable : (at : Place) (x : Text) (i j : ℕ) → IsVariableNumber m at x i → IsVariableNumber m at x j → i ≡ j

@@ -4,15 +4,10 @@ use Rattle.std.proofs.lemmas.Bool.{cases_lt}
 use Rattle.smv_lexer.specs.declared.token.Token.{Token}
 use Rattle.smv_lexer.specs.Tokens.{HasTokens}
 use Rattle.smv_lexer.proofs.SplitLemmas.{one_answer}
-use Rattle.smv_language.specs.Tree.{Tree}
-use Rattle.smv_language.specs.Lexemes.{lexemes_of}
-use Rattle.smv_language.specs.Bytes.{BytesSpellExpr, HasDepths}
-use Rattle.smv_language.specs.ProgramTree.{Text, Formula, ProgramTree}
-use Rattle.smv_language.specs.SpellsProgram.{SpellsExpr}
+use Rattle.smv_language.specs.Language.{Tree, lexemes_of, BytesSpellExpr, HasDepths, Text, Formula, ProgramTree, SpellsExpr, FlatLeaf, FlatModel}
 use Rattle.smv_language.proofs.OneTree.{one_expression}
 use Rattle.smv_expression_reader.specs.declared.fault.ParseFault.{ParseFault}
 use Rattle.smv_expression_reader.specs.Stops.{IsExpression, IsTooDeep, FaultMeans}
-use Rattle.smv_language.specs.Flat.{FlatLeaf, FlatModel}
 use Rattle.smv_flat_laws.specs.Model.{IsFlatOf}
 use Rattle.smv_flat_laws.specs.ResolvedAt.{IsResolvedAt}
 use Rattle.smv_flat_laws.specs.Rules.{Rule, number_of, IsAccepted}

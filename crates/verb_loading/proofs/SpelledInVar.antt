@@ -1,9 +1,7 @@
 -- A program that some tokens spell has its instances in sections of variables alone.
 use Rattle.std.proofs.Common.{List}
-use Rattle.smv_language.specs.Trace.{Each}
-use Rattle.smv_language.specs.Lexemes.{Lexeme}
-use Rattle.smv_language.specs.ProgramTree.{DeclaredTree, DeclTree, SectionTree, ModuleTree, ProgramTree}
-use Rattle.smv_language.specs.SpellsProgram.{SpellsMany, no_more, one_more, SpellsType, is_boolean, is_range, is_members, SpellsDecl, declares, SpellsSection, a_var, an_ivar, a_frozen, a_define, some_constants, an_assign, an_init, an_invar, a_trans, SpellsSections, no_section, a_section, skipped, SpellsModule, a_module, SpellsProgram}
+use Rattle.smv_language.specs.Language.{Each, Lexeme, DeclaredTree, DeclTree, SectionTree, ModuleTree, ProgramTree, SpellsMany, no_more, one_more, SpellsType, is_boolean, is_range, is_members, SpellsDecl, declares, SpellsSection, a_var, an_ivar, a_frozen, some_constants, an_assign, an_init, an_invar, a_trans, SpellsSections, no_section, a_section, skipped, SpellsModule, a_module, SpellsProgram}
+use Rattle.smv_language.specs.SpellsProgram.{a_define}
 use Rattle.fault_extend.specs.InstanceLaws.{IsNoInstance, AreNoInstances, DeclaresInVar, HasInstancesInVar}
 
 a_type : {ts : List Lexeme} {t : DeclaredTree} → SpellsType ts t → IsNoInstance t

@@ -1,7 +1,6 @@
 -- The first broken rule, as it is told.
 use Rattle.std.proofs.Common.{◌≡◌, inl, inr, ℕ, Option, Some, None, IfSome, refl, ap, ◌∙◌}
-use Rattle.smv_language.specs.ProgramTree.{ProgramTree}
-use Rattle.smv_language.specs.Flat.{FlatModel}
+use Rattle.smv_language.specs.Language.{ProgramTree, FlatModel}
 use Rattle.smv_flat_laws.specs.Rules.{Rule, IsFirstBroken}
 use Rattle.smv_scope.specs.Faults.{rule_of, IsFaultOf}
 use Rattle.smv_scope.specs.declared.fault.FlatFault.{FlatFault}

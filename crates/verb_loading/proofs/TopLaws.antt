@@ -2,9 +2,7 @@
 use Rattle.std.proofs.Common.{◌≡◌, Bool, false, List, [], ◌∷◌, Option, Some, None, IfSome, Result, Ok, Err, refl, ap, ◌∙◌}
 use Rattle.std.specs.Prelude.{slice_get, nat_lt}
 use Rattle.base_values.specs.declared.limits.TheConstants.{MOST_TOP_COST}
-use Rattle.smv_language.specs.Tree.{Tree}
-use Rattle.smv_language.specs.ProgramTree.{Text, Formula, ProgramTree}
-use Rattle.smv_language.specs.Flat.{FlatLeaf, FlatModel}
+use Rattle.smv_language.specs.Language.{Tree, Text, Formula, ProgramTree, FlatLeaf, FlatModel}
 use Rattle.smv_flat_laws.specs.Model.{IsFlatOf}
 use Rattle.smv_flat_laws.specs.ResolvedAt.{IsResolvedAt}
 use Rattle.smv_flat_laws.specs.Rules.{Rule, IsAccepted}
@@ -49,6 +47,14 @@ names_untold p e f told kept h is = by_rule (rule_of f.rule) h (is ∙ flat_is f
     by_rule : (o : Option Rule) → IfSome o (λ r. (f.item ≡ 0) × IsLeastBroken p [] false e r) → wrong.Refused told ≡ names_wrong o f.item → ⊥
     by_rule None h is = cc
     by_rule (Some r) h is = kept r h.1.broken
+
+-- nothing is told of want of memory
+pub want_untold : (f : FlatFault) (told : InputFault) → rule_of f.rule ≡ None → wrong.Refused told ≡ flat_wrong f → ⊥
+want_untold f told none is = by_rule (rule_of f.rule) none (is ∙ flat_is f.rule f.item)
+  where
+    by_rule : (o : Option Rule) → o ≡ None → wrong.Refused told ≡ names_wrong o f.item → ⊥
+    by_rule None none is = cc
+    by_rule (Some r) none is = cc
 
 -- the rule of kinds, as it is told
 pub wrong_by_kinds : (p : ProgramTree) (e : Formula) (m : FlatModel) (tree : Tree FlatLeaf) (f : TypeFault) (told : InputFault) → IsLawful p m → KeepsValue p [] false e → IsResolvedAt p m [] e tree →

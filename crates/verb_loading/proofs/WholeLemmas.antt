@@ -2,12 +2,11 @@
 use Rattle.std.proofs.Common.{◌≡◌, ℕ, List, [], ◌∷◌, ◌++◌, map, Option, Some, None, refl, ap, ◌∙◌}
 use Rattle.std.specs.Prelude.{reverse}
 use Rattle.std.proofs.lemmas.List.{reverse-append}
-use Rattle.smv_language.specs.ProgramTree.{Text, Path, ProgramTree}
+use Rattle.smv_language.specs.Language.{Text, Path, ProgramTree, place_in, name_in, variable_tree, model_tree, place_of, EachBoth}
 use Rattle.smv_flat_laws.specs.History.{with_history}
 use Rattle.smv_flat_laws.specs.Model.{IsVariableNumber}
 use Rattle.smv_language.specs.declared.model.FlatModel.{FlatModel}
 use Rattle.smv_language.specs.declared.model.Fault.{Fault}
-use Rattle.smv_language.specs.ModelTree.{place_in, name_in, variable_tree, model_tree, place_of}
 use Rattle.smv_flat_laws.specs.FaultModes.{mode_of}
 use Rattle.fault_instructions.specs.AddedNames.{mode_variable}
 use Rattle.fault_extend.specs.declared.faults.WovenFault.{WovenFault}
@@ -17,7 +16,6 @@ use Rattle.verb_loading.specs.Models.{IsModelOf}
 use Rattle.verb_loading.specs.Wholes.{IsWhole}
 use Rattle.smv_language.proofs.ListLaws.{get_map}
 use Rattle.cert_laws.specs.ExtendedTraces.{IsModeOfFault}
-use Rattle.smv_language.specs.Trace.{EachBoth}
 
 -- the path of a name at an instance, turned
 pub turned : (path : Option Path) (x : Text) → reverse (parts_of path ++ x ∷ []) ≡ x ∷ place_of path

@@ -5,16 +5,10 @@ use Rattle.base_values.specs.declared.limits.TheConstants.{GREATEST_NUMBER}
 use Rattle.smv_language.specs.declared.expr.Op.TheVariants as op
 use Rattle.smv_language.specs.declared.program.Member.{Member}
 use Rattle.smv_language.specs.declared.program.Member.TheVariants as member
-use Rattle.smv_language.specs.Tree.{Trees, Branches, truth, number as is_number, leaf, not_of, negate, next_of, binary, choice, case_of, set_of, span, no_tree, tree_then, no_branch, branch_then, trees_from}
-use Rattle.smv_language.specs.ProgramTree.{Text, Path, Formula, DeclaredTree, boolean, range, members, instance, DeclTree, DefineTree, AssignmentTree, SectionTree, var, ivar, frozen as frozen_section, define, constants, assign, init, invar, trans, ModuleTree, ProgramTree}
-use Rattle.smv_language.specs.Values.{Value, truth as a_truth, number, symbol}
-use Rattle.smv_language.specs.Scope.{Role, state, input, frozen_role, Kind, a_formal, a_variable, a_define, an_instance, undeclared, formal_from, kind_declared, kind_in_decls, kind_in_defines, kind_in_sections, kind_after_formals, kind_in}
-use Rattle.smv_language.specs.Texts.{same_text}
-use Rattle.smv_language.specs.Trace.{Each, value_of_member}
-use Rattle.smv_language.specs.Text.{program_text}
-use Rattle.smv_language.specs.Bytes.{BytesSpellProgram}
-use Rattle.smv_language.specs.PrintedTokens.{IsName, AreNames, IsSmall, IsEnd, IsWritable, AreWritable, AreWritableBranches}
-use Rattle.smv_language.specs.WritableProgram.{IsWritableMember, IsWritableType, IsWritableDeclared, IsWritableDecl, IsWritableTyped, IsWritableAssignment, IsWritableSection, IsWritableModule, IsWritableProgram, IsPlain}
+use Rattle.smv_language.specs.Language.{Trees, Branches, leaf, not_of, negate, next_of, binary, choice, case_of, set_of, span, no_tree, tree_then, no_branch, branch_then, trees_from, Text, Path, Formula, DeclaredTree, boolean, range, members, instance, DeclTree, DefineTree, AssignmentTree, SectionTree, var, ivar, frozen as frozen_section, define, constants, assign, init, invar, trans, ModuleTree, ProgramTree, Value, symbol, Role, state, input, frozen_role, Kind, a_formal, a_variable, an_instance, undeclared, formal_from, kind_declared, kind_in_decls, kind_in_defines, kind_in_sections, kind_after_formals, kind_in, same_text, Each, value_of_member, program_text, BytesSpellProgram, IsName, AreNames, IsSmall, IsEnd, IsWritable, AreWritable, AreWritableBranches, IsWritableMember, IsWritableType, IsWritableDeclared, IsWritableDecl, IsWritableTyped, IsWritableAssignment, IsWritableSection, IsWritableModule, IsWritableProgram, IsPlain}
+use Rattle.smv_language.specs.Tree.{truth, number as is_number}
+use Rattle.smv_language.specs.Values.{truth as a_truth, number}
+use Rattle.smv_language.specs.Scope.{a_define}
 use Rattle.smv_language.proofs.Spelled.{program_writable}
 use Rattle.smv_language.proofs.ProgramSpells.{program_spells}
 use Rattle.fault_instructions.specs.declared.instructions.Dynamics.{Dynamics}

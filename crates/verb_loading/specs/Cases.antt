@@ -2,15 +2,11 @@
 use Rattle.std.specs.Prelude.{◌≡◌, ℕ, ◌≤◌, ◌<◌, false, List, [], length, Some, None}
 use Rattle.base_values.specs.declared.limits.TheConstants.{MOST_TOP_BYTES, MOST_TOPS}
 use Rattle.base_files.specs.declared.files.NamedFile.{NamedFile}
-use Rattle.smv_language.specs.Tree.{Tree}
-use Rattle.smv_language.specs.ProgramTree.{Text, Formula, ProgramTree}
-use Rattle.smv_language.specs.Bytes.{BytesSpellExpr, HasDepths}
-use Rattle.smv_language.specs.Trace.{Each, EachBoth}
+use Rattle.smv_language.specs.Language.{Tree, Text, Formula, ProgramTree, BytesSpellExpr, HasDepths, Each, EachBoth, FlatLeaf, FlatModel}
 use Rattle.smv_expression_reader.specs.declared.fault.ParseFault.{ParseFault}
 use Rattle.smv_expression_reader.specs.Stops.{IsExpression, IsTooDeep, FaultMeans}
 use Rattle.smv_expression_reader.specs.Lists.{BytesSpellExpressions}
 use Rattle.smv_expression_reader.specs.ExpressionDepths.{HaveDepths}
-use Rattle.smv_language.specs.Flat.{FlatLeaf, FlatModel}
 use Rattle.smv_flat_laws.specs.History.{Mode, with_history}
 use Rattle.smv_flat_laws.specs.ResolvedAt.{IsResolvedAt}
 use Rattle.smv_flat_laws.specs.Rules.{Rule}

@@ -5,11 +5,9 @@ use Rattle.base_files.specs.declared.files.NamedFile.{NamedFile}
 use Rattle.base_files.specs.Files.{file_of, content_of}
 use Rattle.base_files.specs.declared.desk.WriteStop.{WriteStop}
 use Rattle.base_files.specs.declared.desk.WriteStop.TheVariants as write_stop
-use Rattle.smv_language.specs.ProgramTree.{Text, Path, ProgramTree}
-use Rattle.smv_language.specs.Text.{program_text}
+use Rattle.smv_language.specs.Language.{Text, Path, ProgramTree, program_text, FlatModel, name_of_fault}
 use Rattle.smv_expression_reader.specs.declared.fault.ParseFault.{ParseFault}
 use Rattle.smv_expression_reader.specs.Stops.{FaultMeans}
-use Rattle.smv_language.specs.Flat.{FlatModel}
 use Rattle.smv_flat_laws.specs.Items.{modules_of_instances}
 use Rattle.smv_flat_laws.specs.Model.{IsFlatOf}
 use Rattle.fault_extend_laws.specs.Expressions.{AllUsesKept}
@@ -42,7 +40,6 @@ use Rattle.verb_loading.specs.Wrongs.{parse_wrong, weave_wrong}
 use Rattle.verb_loading.specs.Models.{IsModelText, IsLawful, IsWrongModel}
 use Rattle.verb_loading.specs.Wholes.{PassesLimit, IsWithinLimits}
 use Rattle.verb_loading.specs.Reports.{report_text}
-use Rattle.smv_language.specs.ModelTree.{name_of_fault}
 
 -- the refusal of an input file, or of the top event
 abbrev pub refusal_at : Input → InputFault → Refusal

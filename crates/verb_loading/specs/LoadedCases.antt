@@ -2,11 +2,9 @@
 use Rattle.std.specs.Prelude.{◌≡◌, ℕ, ◌≤◌, ◌<◌, false, List, [], map, length}
 use Rattle.base_values.specs.declared.limits.TheConstants.{MOST_TOP_BYTES}
 use Rattle.base_files.specs.declared.files.NamedFile.{NamedFile}
-use Rattle.smv_language.specs.Tree.{Tree}
-use Rattle.smv_language.specs.ProgramTree.{Text, Formula, ProgramTree, program_tree}
-use Rattle.smv_language.specs.ModelTree.{model_tree}
+use Rattle.smv_language.specs.Language.{Tree, Text, Formula, ProgramTree, program_tree, model_tree, FlatLeaf, FlatModel, IsWritableProgram}
+use Rattle.smv_language.specs.Language.{BytesSpellExpr, HasDepths}
 use Rattle.smv_flat_laws.specs.FaultModes.{mode_of}
-use Rattle.smv_language.specs.Flat.{FlatLeaf, FlatModel}
 use Rattle.smv_flat_laws.specs.History.{with_history}
 use Rattle.fault_instructions.specs.Instructions.{instruction_tree}
 use Rattle.smv_type_laws.specs.Laws.{ReadsOwn}
@@ -16,8 +14,6 @@ use Rattle.fault_weave.specs.WovenProgram.{woven}
 use Rattle.fault_extend.specs.WovenFaults.{fault_tree}
 use Rattle.fault_extend.specs.NumberedFaults.{AreNumbered}
 use Rattle.fault_extend.specs.declared.faults.Woven.{Woven}
-use Rattle.smv_language.specs.WritableProgram.{IsWritableProgram}
-use Rattle.smv_language.specs.Bytes.{BytesSpellExpr, HasDepths}
 use Rattle.smv_expression_reader.specs.declared.fault.ParseFault.{ParseFault}
 use Rattle.smv_expression_reader.specs.Stops.{IsExpression, IsTooDeep, FaultMeans}
 use Rattle.verb_loading.specs.declared.status.InputFault.{InputFault}

@@ -1,8 +1,5 @@
 -- What the work has in memory once a top event is loaded: the case, and that the event is one of it.
-use Rattle.smv_language.specs.Tree.{Tree}
-use Rattle.smv_language.specs.ProgramTree.{Text, ProgramTree, program_tree}
-use Rattle.smv_language.specs.ModelTree.{flat_tree}
-use Rattle.smv_language.specs.Flat.{FlatLeaf, FlatModel}
+use Rattle.smv_language.specs.Language.{Tree, Text, ProgramTree, program_tree, flat_tree, FlatLeaf, FlatModel}
 use Rattle.verb_loading.specs.declared.loaded.LoadedCase.{LoadedCase}
 use Rattle.verb_loading.specs.declared.event.LoadedEvent.{LoadedEvent}
 use Rattle.verb_loading.specs.Models.{IsLawful}

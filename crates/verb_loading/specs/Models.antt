@@ -1,12 +1,10 @@
 -- What the bytes of a model come to: the program that they spell with its flat model, or what is wrong with them.
 use Rattle.std.specs.Prelude.{ℕ, ◌≡◌, List}
-use Rattle.smv_language.specs.ProgramTree.{ProgramTree}
-use Rattle.smv_language.specs.Bytes.{BytesSpellProgram}
+use Rattle.smv_language.specs.Language.{ProgramTree, BytesSpellProgram, FlatModel}
 use Rattle.smv_expression_reader.specs.declared.fault.ParseFault.{ParseFault}
 use Rattle.smv_expression_reader.specs.Stops.{FaultMeans}
 use Rattle.smv_model_reader.specs.Symbols.{IsProgram}
 use Rattle.smv_model_reader.specs.ProgramDepths.{HasProgramDepths, IsProgramTooDeep}
-use Rattle.smv_language.specs.Flat.{FlatModel}
 use Rattle.smv_flat_laws.specs.Looks.{ActualsMean}
 use Rattle.smv_flat_laws.specs.Rules.{Rule, IsFirstBroken, IsAccepted}
 use Rattle.smv_flat_laws.specs.Model.{IsFlatOf}

@@ -1,8 +1,7 @@
 -- What is said once an extension is written.
 use Rattle.std.specs.Prelude.{ℕ, ◌+◌, List, [], ◌∷◌, ◌++◌, length, reverse, codes}
 use Rattle.std.specs.Fmt.{decimal}
-use Rattle.smv_language.specs.ProgramTree.{Text, Path}
-use Rattle.smv_language.specs.Scope.{Place}
+use Rattle.smv_language.specs.Language.{Text, Path, Place}
 use Rattle.fault_weave.specs.Faults.{Fault}
 
 -- each part with a dot after it

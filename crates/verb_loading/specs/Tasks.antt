@@ -1,8 +1,6 @@
 -- A top event over the extension.
 use Rattle.std.specs.Prelude.{[]}
-use Rattle.smv_language.specs.ProgramTree.{Formula}
-use Rattle.smv_language.specs.Tree.{Tree}
-use Rattle.smv_language.specs.Flat.{FlatLeaf}
+use Rattle.smv_language.specs.Language.{Formula, Tree, FlatLeaf}
 use Rattle.smv_flat_laws.specs.ResolvedAt.{IsResolvedAt}
 use Rattle.verb_loading.specs.Cases.{Case, extension_of}
 

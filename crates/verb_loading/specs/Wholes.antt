@@ -1,8 +1,6 @@
 -- An extension as a whole: it is flattened and typed with a bit for each fault, and may pass a limit.
 use Rattle.std.specs.Prelude.{ℕ, ◌≡◌, List}
-use Rattle.smv_language.specs.ProgramTree.{ProgramTree}
-use Rattle.smv_language.specs.Trace.{Each, EachBoth}
-use Rattle.smv_language.specs.Flat.{FlatModel}
+use Rattle.smv_language.specs.Language.{ProgramTree, Each, EachBoth, FlatModel}
 use Rattle.smv_flat_laws.specs.History.{Mode, with_history}
 use Rattle.smv_flat_laws.specs.Rules.{Rule, too_many, IsFirstBroken, IsAccepted}
 use Rattle.smv_flat_laws.specs.Model.{IsFlatOf}

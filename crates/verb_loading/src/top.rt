@@ -4,6 +4,7 @@ ghost use Rattle.std.specs.Prelude.{◌≡◌, [], false, IfOk, OnOk, IfErr, IsE
 ghost use Rattle.smv_language.specs.ProgramTree.{program_tree};
 ghost use Rattle.smv_language.specs.ExpressionTree.{tree_of};
 ghost use Rattle.smv_language.specs.ModelTree.{model_tree, flat_tree};
+ghost use Rattle.smv_flat.specs.ScopeOf.{IsScopeOf};
 ghost use Rattle.smv_flat_laws.specs.Model.{IsFlatOf};
 ghost use Rattle.smv_flat_laws.specs.ResolvedAt.{IsResolvedAt};
 ghost use Rattle.smv_flat_laws.specs.Rules.{IsAccepted};
@@ -25,8 +26,8 @@ use crate::wrong::Wrong;
 use base_values::Dotted;
 use base_values::limits::MOST_TOP_BYTES;
 use smv_expression_reader::expression;
-use smv_flat::resolve_top;
-use smv_language::model::{Flat, FlatModel};
+use smv_flat::Scope;
+use smv_language::model::Flat;
 use smv_language::{Expr, Program};
 use smv_types::check_top;
 use std::alloc::Global;
@@ -64,13 +65,10 @@ fn top_of(
     ensures wrong { IfErr result (IfRefused (IsWrongWord (program_tree model.now.program) bytes.now)) }
 {
     let written = written_top(alloc, bytes)?;
-    judge_top(alloc, model, &written)?;
-    over_extension(
-        alloc,
-        &case.limited.woven.program,
-        case.limited.typed.model(),
-        &written,
-    )
+    let scope = scope_of(alloc, &model.program)?;
+    judge_top(alloc, model, &scope, &written)?;
+    let wide = scope_of(alloc, &case.limited.woven.program)?;
+    over_extension(alloc, case, &wide, &written)
 }
 
 /// The expression that the bytes spell, where they are not too many.
@@ -89,30 +87,48 @@ fn written_top(alloc: Global, bytes: &[u8]) -> Result<Expr<Dotted>, Wrong>
     Ok(written)
 }
 
-/// Refuses an expression that is no top event of the model.
-pub fn judge_top(alloc: Global, model: &LoadedModel, top: &Expr<Dotted>) -> Result<(), Wrong>
+/// The tables of a program that breaks no rule, for the expressions that are read over it.
+pub fn scope_of<'a>(alloc: Global, program: &'a Program) -> Result<Scope<'a>, Wrong>
+    requires { IsAccepted (program_tree program.now) }
+    ensures ok { IfOk result (IsScopeOf (program_tree program.now)) }
+    ensures wrong { IfErr result (IfRefused (λ fault. ⊥)) }
+{
+    let scope = Scope::of_accepted(alloc, program)?;
+    Ok(scope)
+}
+
+/// Refuses an expression that is no top event of the model, by the scope of its program.
+pub fn judge_top(
+    alloc: Global,
+    model: &LoadedModel,
+    scope: &Scope<'_>,
+    top: &Expr<Dotted>,
+) -> Result<(), Wrong>
     requires lawful { IsLawful (program_tree model.now.program) (model_tree model.now.typed.model) }
+    requires scope { IsScopeOf (program_tree model.now.program) scope.now }
     ensures ok { OnOk result (IsTop (program_tree model.now.program) (tree_of top.now)) }
     ensures wrong { IfErr result (IfRefused (IsWrongTop (program_tree model.now.program) (tree_of top.now) 0)) }
 {
-    let flat = resolve_top(alloc, &model.program, model.typed.model(), top)?;
+    let flat = scope.resolve_at(alloc, model.typed.model(), 0, false, top)?;
     check_top(&model.typed, &flat)?;
     Ok(())
 }
 
-/// A top event that breaks no rule of names over a program, over its flat model.
+/// A top event that breaks no rule of names over the extension, over its flat model, by the scope of its program.
 pub fn over_extension(
     alloc: Global,
-    program: &Program,
-    flat: &FlatModel,
+    case: &LoadedCase,
+    scope: &Scope<'_>,
     top: &Expr<Dotted>,
 ) -> Result<Expr<Flat>, Wrong>
-    requires accepted { IsAccepted (program_tree program.now) }
-    requires flat { IsFlatOf (program_tree program.now) (model_tree flat.now) }
-    requires names { KeepsValue (program_tree program.now) [] false (tree_of top.now) }
-    ensures ok { IfOk result (λ made. IsResolvedAt (program_tree program.now) (model_tree flat.now) [] (tree_of top.now) (flat_tree made)) }
+    requires accepted { IsAccepted (program_tree case.now.limited.woven.program) }
+    requires flat { IsFlatOf (program_tree case.now.limited.woven.program) (model_tree case.now.limited.typed.model) }
+    requires scope { IsScopeOf (program_tree case.now.limited.woven.program) scope.now }
+    requires names { KeepsValue (program_tree case.now.limited.woven.program) [] false (tree_of top.now) }
+    ensures ok { IfOk result (λ made. IsResolvedAt (program_tree case.now.limited.woven.program)
+        (model_tree case.now.limited.typed.model) [] (tree_of top.now) (flat_tree made)) }
     ensures wrong { IfErr result (IfRefused (λ fault. ⊥)) }
 {
-    let made = resolve_top(alloc, program, flat, top)?;
+    let made = scope.resolve_at(alloc, case.limited.typed.model(), 0, false, top)?;
     Ok(made)
 }

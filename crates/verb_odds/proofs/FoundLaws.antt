@@ -4,13 +4,9 @@ use Rattle.std.specs.Prelude.{All}
 use Rattle.std.specs.List.{AllByRecursion}
 use Rattle.std.proofs.lemmas.List.{length-map}
 use Rattle.std.proofs.lemmas.List.Elements.{All-from_recursion}
-use Rattle.smv_language.specs.Tree.{Tree}
-use Rattle.smv_language.specs.Trace.{Each}
-use Rattle.smv_language.specs.ProgramTree.{Text, Formula, ProgramTree}
-use Rattle.smv_language.specs.ModelTree.{model_tree, name_of_fault}
+use Rattle.smv_language.specs.Language.{Tree, Each, Text, Formula, ProgramTree, model_tree, name_of_fault, FlatLeaf}
 use Rattle.smv_flat_laws.specs.FaultModes.{mode_of}
 use Rattle.smv_type_laws.specs.Costs.{state_bits}
-use Rattle.smv_language.specs.Flat.{FlatLeaf}
 use Rattle.sat_encoding_laws.specs.FlatTraces.{IsNumbered}
 use Rattle.fault_extend.specs.WovenFaults.{fault_tree}
 use Rattle.fault_instructions.specs.Instructions.{InstructionTree}

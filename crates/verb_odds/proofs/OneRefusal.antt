@@ -1,8 +1,7 @@
 -- What is refused of odds is refused for one reason, and nothing is where they were found.
 use Rattle.std.proofs.Common.{◌≡◌, ℕ, suc, List, [], ◌∷◌, ◌++◌, Option, Some, None, length, refl, sym, ap, subst, ◌∙◌}
 use Rattle.base_files.specs.declared.files.NamedFile.{NamedFile}
-use Rattle.smv_language.specs.ProgramTree.{Text}
-use Rattle.smv_language.specs.Trace.{Each}
+use Rattle.smv_language.specs.Language.{Text, Each}
 use Rattle.fault_instructions.specs.Instructions.{InstructionTree}
 use Rattle.fault_odds.specs.declared.mode_marks.MarkFault.{MarkFault}
 use Rattle.fault_odds.specs.Marks.{IsFirstMarkFault, HasProbabilities}

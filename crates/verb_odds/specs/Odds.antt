@@ -2,8 +2,7 @@
 use Rattle.std.specs.Prelude.{◌≡◌, ◌≤◌, ℕ, ◌+◌, ◌*◌, ◌^◌, List, ◌++◌, length, map}
 use Rattle.base_files.specs.declared.files.NamedFile.{NamedFile}
 use Rattle.base_files.specs.Desk.{said_more, SaysPrefix}
-use Rattle.smv_language.specs.ProgramTree.{Text, Formula, ProgramTree}
-use Rattle.smv_language.specs.Trace.{Each}
+use Rattle.smv_language.specs.Language.{Text, Formula, ProgramTree, Each}
 use Rattle.fault_odds.specs.declared.mode_marks.MarkFault.{MarkFault}
 use Rattle.fault_odds.specs.declared.mode_marks.MarkFault.TheVariants as wrong
 use Rattle.fault_odds.specs.Units.{one_in_units}

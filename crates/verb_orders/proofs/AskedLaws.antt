@@ -3,11 +3,8 @@ use Rattle.std.proofs.Common.{◌≡◌, ℕ, ◌+◌, ◌-◌, ◌<◌, ◌≤�
 use Rattle.std.specs.Prelude.{slice_get, nat_le}
 use Rattle.std.proofs.lemmas.Bool.Decides.{leb_tells}
 use Rattle.std.proofs.lemmas.List.{length-map}
-use Rattle.smv_language.specs.Tree.{Tree}
-use Rattle.smv_language.specs.ProgramTree.{Text, Formula, program_tree}
-use Rattle.smv_language.specs.ModelTree.{model_tree, flat_tree}
+use Rattle.smv_language.specs.Language.{Tree, Text, Formula, program_tree, model_tree, flat_tree, FlatLeaf, FlatModel}
 use Rattle.smv_flat_laws.specs.FaultModes.{mode_of}
-use Rattle.smv_language.specs.Flat.{FlatLeaf, FlatModel}
 use Rattle.smv_flat_laws.specs.History.{Mode}
 use Rattle.smv_type_laws.specs.Laws.{IsClosed}
 use Rattle.smv_type_laws.specs.Models.{IsTyped}

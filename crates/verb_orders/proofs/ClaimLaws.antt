@@ -4,14 +4,11 @@ use Rattle.std.specs.Prelude.{codes}
 use Rattle.base_files.specs.declared.files.NamedFile.{NamedFile}
 use Rattle.base_files.specs.Desk.{said_more}
 use Rattle.base_values.specs.declared.memory.OutOfMemory.{OutOfMemory}
-use Rattle.smv_language.specs.Tree.{Tree}
-use Rattle.smv_language.specs.ProgramTree.{Text}
+use Rattle.smv_language.specs.Language.{Tree, Text, model_tree, flat_tree, FlatLeaf, FlatModel}
 use Rattle.smv_language.specs.declared.expr.Expr.{Expr}
-use Rattle.smv_language.specs.ModelTree.{model_tree, flat_tree}
 use Rattle.smv_language.specs.declared.model.Flat.{Flat}
 use Rattle.smv_language.specs.declared.model.FlatModel.{FlatModel as Model}
 use Rattle.smv_language.specs.declared.model.Fault.{Fault as FaultOf}
-use Rattle.smv_language.specs.Flat.{FlatLeaf, FlatModel}
 use Rattle.smv_flat_laws.proofs.HistoryLaws.{no_bits}
 use Rattle.cut_search_laws.specs.Searchable.{IsSearchable}
 use Rattle.cert_text.specs.CertificateView.{seen}

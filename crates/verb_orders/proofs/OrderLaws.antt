@@ -3,13 +3,9 @@ use Rattle.std.proofs.Common.{◌≡◌, inl, inr, ℕ, ◌<◌, ◌↔◌, Bool
 use Rattle.std.specs.Prelude.{slice_get}
 use Rattle.base_files.specs.declared.files.NamedFile.{NamedFile}
 use Rattle.base_files.specs.Desk.{said_more, SaysPrefix}
-use Rattle.smv_language.specs.Tree.{Tree}
-use Rattle.smv_language.specs.ProgramTree.{Text}
+use Rattle.smv_language.specs.Language.{Tree, Text, model_tree, flat_tree, FlatLeaf, FlatModel, told_trace}
 use Rattle.base_values.specs.declared.value.Value.{Value as Numbered}
-use Rattle.smv_language.specs.ModelTree.{model_tree, flat_tree}
-use Rattle.smv_language.specs.Flat.{FlatLeaf, FlatModel}
 use Rattle.smv_type_laws.specs.Costs.{state_bits}
-use Rattle.smv_language.specs.NumberedValues.{told_trace}
 use Rattle.cut_text_laws.specs.Analysis.{told_ending}
 use Rattle.base_values.specs.declared.ending.Ending.{Ending as Printed}
 use Rattle.base_values.specs.declared.ending.Ending.TheVariants as printed

@@ -2,17 +2,14 @@
 use Rattle.std.proofs.Common.{◌≡◌, ℕ, suc, ◌+◌, ◌-◌, Bool, List, [], ◌∷◌, ◌++◌, length, map, take, Some, None, refl, sym, ap, subst, ◌∙◌, arith}
 use Rattle.std.specs.Prelude.{slice_get}
 use Rattle.std.proofs.lemmas.List.{length-map, length-append, append-nil}
-use Rattle.smv_language.specs.ProgramTree.{Text}
-use Rattle.smv_language.specs.Values.{Value, truth}
+use Rattle.smv_language.specs.Language.{Text, Value, flat_tree, variable_tree, FlatModel, told_trace}
+use Rattle.smv_language.specs.Values.{truth}
 use Rattle.base_values.specs.declared.value.Value.{Value as Numbered}
 use Rattle.base_values.specs.declared.value.Value.TheVariants.{Bool as ABool, Num, Sym}
-use Rattle.smv_language.specs.ModelTree.{flat_tree, variable_tree}
-use Rattle.smv_language.specs.Flat.{FlatModel}
 use Rattle.smv_flat_laws.specs.History.{Mode}
 use Rattle.smv_flat_laws.specs.FlatTrace.{IsFlatTrace}
 use Rattle.sat_encoding_laws.specs.FlatTraces.{ReachesTop, last_of}
 use Rattle.cert_laws.specs.ExtendedTraces.{IsFlatCut}
-use Rattle.smv_language.specs.NumberedValues.{told_trace}
 use Rattle.base_values.specs.declared.ending.Ending.TheVariants as printed
 use Rattle.cut_search.specs.Values.{value_of, values_of, trace_of}
 use Rattle.fault_orders.specs.declared.Relation.{Relation}

@@ -3,13 +3,10 @@ use Rattle.std.proofs.Common.{◌≡◌, ℕ, ◌+◌, ◌≤◌, List, [], ◌�
 use Rattle.std.specs.Prelude.{Option}
 use Rattle.std.proofs.lemmas.List.{length-map}
 use Rattle.base_values.specs.declared.limits.TheConstants.{MOST_FAULTS}
-use Rattle.smv_language.specs.Tree.{Tree}
-use Rattle.smv_language.specs.ProgramTree.{program_tree}
-use Rattle.smv_language.specs.ModelTree.{model_tree, flat_tree, variable_tree}
+use Rattle.smv_language.specs.Language.{Tree, program_tree, model_tree, flat_tree, variable_tree, FlatLeaf, FlatModel}
 use Rattle.smv_flat_laws.specs.FaultModes.{mode_of}
 use Rattle.smv_language.specs.declared.model.Fault.{Fault}
 use Rattle.smv_language.specs.declared.model.FlatModel.{FlatModel as Model}
-use Rattle.smv_language.specs.Flat.{FlatLeaf, FlatModel}
 use Rattle.smv_flat_laws.specs.History.{Mode, with_history}
 use Rattle.smv_flat_laws.proofs.HistoryLaws.{no_bits}
 use Rattle.smv_type_laws.specs.Models.{IsTyped}

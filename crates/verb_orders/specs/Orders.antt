@@ -4,10 +4,7 @@ use Rattle.std.specs.Fmt.{decimal}
 use Rattle.std.specs.Str.{bytes_eq}
 use Rattle.base_files.specs.declared.files.NamedFile.{NamedFile}
 use Rattle.base_files.specs.Desk.{told_with, said_more, WritesPrefix, SaysPrefix}
-use Rattle.smv_language.specs.Tree.{Tree}
-use Rattle.smv_language.specs.ProgramTree.{Text, Formula}
-use Rattle.smv_language.specs.Values.{Value}
-use Rattle.smv_language.specs.Flat.{FlatLeaf, FlatModel}
+use Rattle.smv_language.specs.Language.{Tree, Text, Formula, Value, FlatLeaf, FlatModel}
 use Rattle.smv_type_laws.specs.Costs.{state_bits}
 use Rattle.fault_weave.specs.ExtensionTraces.{Moment}
 use Rattle.fault_weave.specs.Faults.{Fault}

@@ -1,8 +1,7 @@
 -- A set of faults with two of them, and the extension staged for these two.
 use Rattle.std.specs.Prelude.{◌≡◌, ◌≢◌, ℕ, ◌+◌, IsTrue, List, [], ◌∷◌, ◌++◌, length, map}
 use Rattle.base_files.specs.declared.files.NamedFile.{NamedFile}
-use Rattle.smv_language.specs.ProgramTree.{Text, Formula, ProgramTree}
-use Rattle.smv_language.specs.ModelTree.{model_tree}
+use Rattle.smv_language.specs.Language.{Text, Formula, ProgramTree, model_tree}
 use Rattle.smv_flat_laws.specs.FaultModes.{mode_of}
 use Rattle.cut_right_laws.specs.Sets.{has_number}
 use Rattle.sat_encoding_laws.specs.FlatTraces.{IsNumbered}

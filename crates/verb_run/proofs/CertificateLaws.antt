@@ -2,12 +2,8 @@
 use Rattle.std.proofs.Common.{◌≡◌, ◌<◌, ◌^◌, ℕ, List, Option, Some, None, IfSome, length, map, sym, ap, subst, ◌∙◌}
 use Rattle.base_files.specs.declared.files.NamedFile.{NamedFile}
 use Rattle.base_files.specs.Desk.{said_more}
-use Rattle.smv_language.specs.Tree.{Tree}
-use Rattle.smv_language.specs.ProgramTree.{Text}
-use Rattle.smv_language.specs.Values.{Value}
-use Rattle.smv_language.specs.ModelTree.{model_tree, flat_tree}
+use Rattle.smv_language.specs.Language.{Tree, Text, Value, model_tree, flat_tree, FlatLeaf}
 use Rattle.smv_flat_laws.specs.FaultModes.{mode_of}
-use Rattle.smv_language.specs.Flat.{FlatLeaf}
 use Rattle.smv_flat_laws.specs.FlatTrace.{IsFlatTrace}
 use Rattle.sat_encoding_laws.specs.FlatTraces.{ReachesTop, HasFailedNumber}
 use Rattle.cut_text_laws.specs.TraceOfText.{GivesTrace}

@@ -1,8 +1,7 @@
 -- From what was loaded to what a check comes to, and from an answered run to the check that it has done.
 use Rattle.std.proofs.Common.{◌≡◌, ℕ, List, Option, Some, None, IfSome, sym, subst, ◌∙◌}
 use Rattle.base_files.specs.declared.files.NamedFile.{NamedFile}
-use Rattle.smv_language.specs.ProgramTree.{Text}
-use Rattle.smv_language.specs.ModelTree.{flat_tree}
+use Rattle.smv_language.specs.Language.{Text, flat_tree}
 use Rattle.verb_command_line.specs.Commands.{check}
 use Rattle.verb_command_line.proofs.ReadingLaws.{one_command}
 use Rattle.verb_loading.specs.declared.event.LoadedEvent.{LoadedEvent}

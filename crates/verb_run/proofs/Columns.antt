@@ -8,9 +8,7 @@ use Rattle.std.proofs.lemmas.List.{at_drop_more, at_drop_all}
 use Rattle.std.proofs.lemmas.List.Elements.{All-nil, All-cons, All-weaker, All-contains, All-contains_itself, All-append}
 use Rattle.base_files.specs.declared.files.NamedFile.{NamedFile}
 use Rattle.base_files.specs.Desk.{said_more, SaysPrefix}
-use Rattle.smv_language.specs.ProgramTree.{Text, Formula, ProgramTree}
-use Rattle.smv_language.specs.Tree.{Tree}
-use Rattle.smv_language.specs.Flat.{FlatLeaf}
+use Rattle.smv_language.specs.Language.{Text, Formula, ProgramTree, Tree, FlatLeaf, model_tree, name_of_fault, EachBoth}
 use Rattle.cut_search_laws.specs.Problem.{problem_of}
 use Rattle.cut_search.specs.Answer.{IsAnswer}
 use Rattle.cut_search.specs.declared.answer.Analysis.{Analysis as Searched}
@@ -21,7 +19,6 @@ use Rattle.verb_loading.specs.LoadedCases.{case_of}
 use Rattle.verb_loading.specs.Cases.{Case, HoldsCase, HoldsTops}
 use Rattle.verb_run.specs.Tables.{IsExtensible, IsEventOf, IsColumn, AreColumns, AreFound, HasTabulated, TabulatesInPart, MeansColumn, IsTabulated, table_of, after_column, ended_with_all}
 use Rattle.verb_run.proofs.TopEvents.{counts_in_case, event_found}
-use Rattle.smv_language.specs.ModelTree.{model_tree, name_of_fault}
 use Rattle.smv_type_laws.specs.Costs.{state_bits}
 use Rattle.fault_extend.specs.WovenFaults.{fault_tree}
 use Rattle.cut_report.specs.FaultText as lines
@@ -40,7 +37,6 @@ use Rattle.verb_loading.proofs.ListedLaws.{are_listed, named_lines}
 use Rattle.verb_run.proofs.TableLemmas.{both_over, both_back}
 use Rattle.cut_model_search.specs.CaseAnalysis.{IsFound}
 use Rattle.cut_model_search.proofs.Places.{all_by_place}
-use Rattle.smv_language.specs.Trace.{EachBoth}
 
 -- the sets of an analysis name the case's faults
 pub names_faults : (c : Case) (e : Formula) (size depth : ℕ) (a : Analysis) → IsFound c e size depth a → All (All (λ i. (0 < i) × (i ≤ length c.faults))) a.sets

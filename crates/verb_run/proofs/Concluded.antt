@@ -2,8 +2,7 @@
 use Rattle.std.proofs.Common.{arith, ◌≡◌, inl, inr, ◌≤◌, ℕ, List, Option, Some, None, length, refl, sym, ap, subst, ◌∙◌}
 use Rattle.std.proofs.Math.Seq.{take-length}
 use Rattle.base_files.specs.Desk.{told_with, WritesPrefix, SaysPrefix, said_more}
-use Rattle.smv_language.specs.ProgramTree.{Text, program_tree}
-use Rattle.smv_language.specs.Text.{program_text}
+use Rattle.smv_language.specs.Language.{Text, program_tree, program_text}
 use Rattle.cut_text_laws.specs.Analysis.{told_ending}
 use Rattle.cut_report_laws.specs.ExtendedTraces.{Ending, complete, bounded}
 use Rattle.cert_file.specs.declared.conclusion.Conclusion.{Conclusion}

@@ -6,11 +6,8 @@ use Rattle.base_files.specs.Desk.{said_more}
 use Rattle.base_files.proofs.Writing.{file_of-with_file}
 use Rattle.smv_lexer.specs.declared.token.Token.{Token}
 use Rattle.smv_lexer.proofs.SplitLemmas.{one_answer}
-use Rattle.smv_language.specs.ProgramTree.{Text, ProgramTree}
-use Rattle.smv_language.specs.Lexemes.{lexemes_of}
-use Rattle.smv_language.specs.SpellsProgram.{SpellsProgram}
+use Rattle.smv_language.specs.Language.{Text, ProgramTree, lexemes_of, SpellsProgram, BytesSpellProgram}
 use Rattle.smv_language.proofs.OneProgram.{one_program}
-use Rattle.smv_language.specs.Bytes.{BytesSpellProgram}
 use Rattle.fault_weave.specs.WovenProgram.{woven}
 use Rattle.fault_weave.proofs.WovenNominal.{woven_extends}
 use Rattle.verb_loading.specs.declared.status.Refusal.{Refusal}

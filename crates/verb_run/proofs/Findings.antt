@@ -2,20 +2,15 @@
 use Rattle.std.proofs.Common.{arith, ◌≡◌, ◌<◌, ◌≤◌, ◌^◌, ℕ, Bool, List, Option, Some, None, length, map, sym, ap, subst, ◌∙◌}
 use Rattle.std.proofs.Math.Nat.{min-le_right}
 use Rattle.std.proofs.lemmas.List.{length-map}
-use Rattle.smv_language.specs.Tree.{Tree}
-use Rattle.smv_language.specs.ProgramTree.{Text, Formula, ProgramTree}
-use Rattle.smv_language.specs.Values.{Value}
+use Rattle.smv_language.specs.Language.{Tree, Text, Formula, ProgramTree, Value, flat_tree, name_of_fault, FlatLeaf, told_trace}
 use Rattle.smv_type_laws.specs.Costs.{state_bits}
 use Rattle.smv_language.specs.declared.expr.Expr.{Expr}
 use Rattle.smv_language.specs.declared.model.Flat.{Flat}
-use Rattle.smv_language.specs.ModelTree.{flat_tree, name_of_fault}
 use Rattle.smv_flat_laws.specs.FaultModes.{mode_of}
-use Rattle.smv_language.specs.Flat.{FlatLeaf}
 use Rattle.cut_search_laws.specs.Problem.{problem_of}
 use Rattle.cut_search_laws.specs.Searchable.{IsSearchable}
 use Rattle.fault_extend.specs.WovenFaults.{fault_tree}
 use Rattle.cut_report.specs.FaultText as lines
-use Rattle.smv_language.specs.NumberedValues.{told_trace}
 use Rattle.cut_text_laws.specs.Analysis.{told_ending}
 use Rattle.base_values.specs.declared.ending.Ending.{Ending as Printed}
 use Rattle.cut_search.specs.Answer.{IsAnswer}

@@ -2,20 +2,14 @@
 use Rattle.std.proofs.Common.{◌≡◌, ℕ, ◌<◌, ◌≤◌, arith, true, false, List, [], length, Option, Some, None, refl, sym, ap, subst, ◌∙◌}
 use Rattle.std.specs.Prelude.{codes}
 use Rattle.base_values.specs.declared.limits.TheConstants.{MOST_FILE_BYTES, MOST_INSTANCES, MOST_STAGES}
-use Rattle.smv_language.specs.ProgramTree.{Text, Formula, ProgramTree}
-use Rattle.smv_language.specs.Text.{program_text}
-use Rattle.smv_language.specs.Trace.{Each}
-use Rattle.smv_language.specs.Bytes.{BytesSpellProgram, BytesSpellExpr}
+use Rattle.smv_language.specs.Language.{Text, Formula, ProgramTree, program_text, Each, BytesSpellProgram, BytesSpellExpr, lexemes_of, SpellsExpr, FlatModel}
 use Rattle.smv_language.proofs.ProgramSpells.{program_spells}
 use Rattle.smv_language.proofs.TextSpells.{text_spells}
 use Rattle.smv_language.proofs.OneTree.{one_expression}
 use Rattle.smv_lexer.specs.declared.token.Token.{Token}
 use Rattle.smv_lexer.proofs.SplitLemmas.{one_answer}
-use Rattle.smv_language.specs.Lexemes.{lexemes_of}
-use Rattle.smv_language.specs.SpellsProgram.{SpellsExpr}
 use Rattle.smv_expression_reader.specs.declared.fault.ParseFault.{ParseFault}
 use Rattle.smv_expression_reader.specs.declared.fault.ParseFault.TheVariants as parse
-use Rattle.smv_language.specs.Flat.{FlatModel}
 use Rattle.smv_flat_laws.specs.History.{with_history}
 use Rattle.smv_flat_laws.specs.Model.{IsFlatOf}
 use Rattle.smv_flat_laws.specs.Rules.{IsAccepted}

@@ -4,8 +4,7 @@ use Rattle.std.specs.Prelude.{codes}
 use Rattle.base_files.specs.declared.files.NamedFile.{NamedFile}
 use Rattle.base_files.specs.Files.{with_file}
 use Rattle.base_files.proofs.Writing.{file_of-with_file}
-use Rattle.smv_language.specs.ProgramTree.{Text}
-use Rattle.smv_language.specs.Text.{program_text}
+use Rattle.smv_language.specs.Language.{Text, program_text}
 use Rattle.fault_instructions.specs.InstructionText.{instructions_text}
 use Rattle.verb_command_line.specs.declared.verb.Verb.TheVariants as verb
 use Rattle.verb_command_line.specs.Commands.{make}

@@ -3,15 +3,10 @@ use Rattle.std.proofs.Common.{arith, ◌≡◌, ℕ, ◌≤◌, List, length, sy
 use Rattle.std.proofs.Math.Seq.{take-length}
 use Rattle.std.proofs.lemmas.List.{length-map}
 use Rattle.base_files.specs.Desk.{told_with, WritesPrefix, SaysPrefix, said_more}
-use Rattle.smv_language.specs.Tree.{Tree}
-use Rattle.smv_language.specs.ProgramTree.{Text, ProgramTree}
-use Rattle.smv_language.specs.Text.{program_text}
-use Rattle.smv_language.specs.Bytes.{BytesSpellProgram}
+use Rattle.smv_language.specs.Language.{Tree, Text, ProgramTree, program_text, BytesSpellProgram, model_tree, variable_tree, FlatLeaf}
 use Rattle.fault_instructions.specs.Instructions.{InstructionTree}
 use Rattle.fault_instructions.specs.InstructionText.{instructions_text}
 use Rattle.fault_instructions.specs.SpellsInstructions.{BytesSpellInstructions}
-use Rattle.smv_language.specs.ModelTree.{model_tree, variable_tree}
-use Rattle.smv_language.specs.Flat.{FlatLeaf}
 use Rattle.smv_type_laws.specs.Costs.{state_bits}
 use Rattle.cut_text_laws.specs.Analysis.{told_ending}
 use Rattle.base_values.specs.declared.ending.Ending.{Ending as Printed}

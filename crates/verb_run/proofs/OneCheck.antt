@@ -1,10 +1,7 @@
 -- What a certificate comes to over a case is one, and so is what a check comes to.
 use Rattle.std.proofs.Common.{◌≡◌, List, sym, ap, subst, ◌∙◌}
 use Rattle.base_files.specs.declared.files.NamedFile.{NamedFile}
-use Rattle.smv_language.specs.ProgramTree.{Text}
-use Rattle.smv_language.specs.Tree.{Tree}
-use Rattle.smv_language.specs.Values.{Value}
-use Rattle.smv_language.specs.Flat.{FlatLeaf}
+use Rattle.smv_language.specs.Language.{Text, Tree, Value, FlatLeaf}
 use Rattle.smv_flat_laws.specs.FlatTrace.{IsFlatTrace}
 use Rattle.sat_encoding_laws.specs.FlatTraces.{ReachesTop, HasFailedNumber}
 use Rattle.cut_text_laws.specs.TraceOfText.{GivesTrace}

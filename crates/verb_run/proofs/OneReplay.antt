@@ -2,10 +2,7 @@
 use Rattle.std.proofs.Common.{◌≡◌, List, sym, ap, subst, ◌∙◌}
 use Rattle.base_values.specs.declared.limits.TheConstants.{MOST_TRACE_BYTES}
 use Rattle.base_files.specs.declared.files.NamedFile.{NamedFile}
-use Rattle.smv_language.specs.ProgramTree.{Text}
-use Rattle.smv_language.specs.Tree.{Tree}
-use Rattle.smv_language.specs.Values.{Value}
-use Rattle.smv_language.specs.Flat.{FlatLeaf, FlatModel}
+use Rattle.smv_language.specs.Language.{Text, Tree, Value, FlatLeaf, FlatModel}
 use Rattle.smv_evaluation.specs.Replay.{IsReaching}
 use Rattle.smv_evaluation.proofs.StopLaws.{one_stop, reaching_does_not}
 use Rattle.cut_text_laws.specs.TraceOfText.{IsPrintable, BytesGive}

@@ -6,9 +6,7 @@ use Rattle.base_values.specs.declared.limits.TheConstants.{MOST_TOPS}
 use Rattle.base_files.specs.declared.files.NamedFile.{NamedFile}
 use Rattle.smv_lexer.specs.declared.token.Token.{Token}
 use Rattle.smv_lexer.specs.Tokens.{HasTokens}
-use Rattle.smv_language.specs.Lexemes.{lexemes_of}
-use Rattle.smv_language.specs.ProgramTree.{Text, Formula, ProgramTree}
-use Rattle.smv_language.specs.Trace.{Each}
+use Rattle.smv_language.specs.Language.{lexemes_of, Text, Formula, ProgramTree, Each}
 use Rattle.smv_expression_reader.specs.declared.fault.ParseFault.{ParseFault}
 use Rattle.smv_expression_reader.specs.Stops.{FaultMeans}
 use Rattle.smv_expression_reader.specs.Lists.{IsExpressions}

@@ -2,9 +2,7 @@
 use Rattle.std.proofs.Common.{◌≡◌, ◌⊎◌, inl, inr, ⊎_elim, ℕ, List, [], ◌∷◌, Option, Some, None, IfSome, Result, Ok, Err, IfOk, IsErrOf, refl, sym, ap, subst, ◌∙◌}
 use Rattle.base_files.specs.declared.files.NamedFile.{NamedFile}
 use Rattle.base_files.specs.Desk.{said_more, SaysPrefix}
-use Rattle.smv_language.specs.ProgramTree.{Text, ProgramTree}
-use Rattle.smv_language.specs.Tree.{Tree}
-use Rattle.smv_language.specs.Flat.{FlatLeaf}
+use Rattle.smv_language.specs.Language.{Text, ProgramTree, Tree, FlatLeaf}
 use Rattle.verb_command_line.specs.Commands.{Command}
 use Rattle.verb_command_line.specs.Meaning.{Means as WordsMean}
 use Rattle.verb_command_line.specs.declared.fault.WordFault.{WordFault}

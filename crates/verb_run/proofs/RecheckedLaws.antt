@@ -4,12 +4,7 @@ use Rattle.base_values.specs.declared.limits.TheConstants.{MOST_CERT_BYTES}
 use Rattle.base_files.specs.declared.files.NamedFile.{NamedFile}
 use Rattle.base_files.specs.Files.{file_of, with_file}
 use Rattle.base_files.proofs.Writing.{file_of-with_file}
-use Rattle.smv_language.specs.Tree.{Tree}
-use Rattle.smv_language.specs.ProgramTree.{Text, Formula}
-use Rattle.smv_language.specs.Values.{Value}
-use Rattle.smv_language.specs.ModelTree.{flat_tree}
-use Rattle.smv_language.specs.NumberedValues.{told_trace}
-use Rattle.smv_language.specs.Flat.{FlatLeaf, FlatModel}
+use Rattle.smv_language.specs.Language.{Tree, Text, Formula, Value, flat_tree, told_trace, FlatLeaf, FlatModel}
 use Rattle.smv_flat_laws.specs.FlatTrace.{IsFlatTrace}
 use Rattle.smv_flat_laws.specs.History.{Mode, with_history}
 use Rattle.smv_flat_laws.proofs.HistoryLaws.{no_bits}

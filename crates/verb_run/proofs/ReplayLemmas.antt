@@ -3,20 +3,15 @@ use Rattle.std.proofs.Common.{◌≡◌, ℕ, ◌++◌, List, Option, Some, None
 use Rattle.std.specs.Prelude.{codes, length, map}
 use Rattle.std.proofs.lemmas.List.{length-map}
 use Rattle.base_files.specs.declared.files.NamedFile.{NamedFile}
-use Rattle.smv_language.specs.ProgramTree.{Text, ProgramTree}
-use Rattle.smv_language.specs.Tree.{Tree}
-use Rattle.smv_language.specs.Values.{Value}
+use Rattle.smv_language.specs.Language.{Text, ProgramTree, Tree, Value, model_tree, FlatLeaf, FlatModel, told_trace, told_moment}
 use Rattle.base_values.specs.declared.value.Value.{Value as Numbered}
 use Rattle.base_values.specs.declared.limits.TheConstants.{MOST_TRACE_BYTES}
-use Rattle.smv_language.specs.ModelTree.{model_tree}
 use Rattle.smv_flat_laws.specs.FaultModes.{mode_of}
-use Rattle.smv_language.specs.Flat.{FlatLeaf, FlatModel}
 use Rattle.smv_flat_laws.specs.FlatTrace.{stands_in_some}
 use Rattle.smv_evaluation.specs.Replay.{IsReaching}
 use Rattle.smv_evaluation.specs.Stops.{Stops}
 use Rattle.fault_extend.specs.WovenFaults.{fault_tree}
 use Rattle.fault_extend.specs.NumberedFaults.{AreNumbered}
-use Rattle.smv_language.specs.NumberedValues.{told_trace, told_moment}
 use Rattle.cut_report.specs.Faults.{IsFaultOf}
 use Rattle.cut_report.specs.declared.fault.TraceFault as read
 use Rattle.cut_report.specs.declared.fault.TraceFault.TheVariants as fault

@@ -2,16 +2,11 @@
 use Rattle.std.proofs.Common.{◌≡◌, ◌↔◌, ℕ, List, [], map, Option, Some, None, IfSome, sym, subst, ◌∙◌}
 use Rattle.base_files.specs.declared.files.NamedFile.{NamedFile}
 use Rattle.base_files.specs.Desk.{said_more}
-use Rattle.smv_language.specs.Tree.{Tree}
-use Rattle.smv_language.specs.ProgramTree.{Text, Formula}
-use Rattle.smv_language.specs.Values.{Value}
-use Rattle.smv_language.specs.May.{Valuation}
-use Rattle.smv_language.specs.Trace.{IsTrace}
+use Rattle.smv_language.specs.Language.{Tree, Text, Formula, Value, Valuation, IsTrace, FlatLeaf}
 use Rattle.cut_right_laws.specs.Laws.{Correspond}
 use Rattle.sat_encoding_laws.specs.FlatTraces.{ReachesTop, HasFailedNumber, failed_set}
 use Rattle.sat_encoding_laws.proofs.HistoryFacts.{failed_exactly}
 use Rattle.sat_encoding_laws.proofs.Numbers.{where_rising}
-use Rattle.smv_language.specs.Flat.{FlatLeaf}
 use Rattle.smv_flat_laws.specs.FlatTrace.{IsFlatTrace, stands_in_some}
 use Rattle.smv_type_laws.specs.Laws.{values_by_number}
 use Rattle.smv_type_laws.proofs.TraceLaws.{traces_are}

@@ -1,10 +1,7 @@
 -- A bounded answer has a depth below two more than the number of states.
 use Rattle.std.proofs.Common.{◌≡◌, ℕ, ◌+◌, ◌^◌, ◌<◌, List, [], ◌∷◌, length, map, Option, Some, None, IfSome, refl, sym, ◌∙◌, subst, ap}
 use Rattle.base_files.specs.declared.files.NamedFile.{NamedFile}
-use Rattle.smv_language.specs.Tree.{Tree}
-use Rattle.smv_language.specs.ProgramTree.{Text, Formula}
-use Rattle.smv_language.specs.ModelTree.{flat_tree}
-use Rattle.smv_language.specs.Flat.{FlatLeaf}
+use Rattle.smv_language.specs.Language.{Tree, Text, Formula, flat_tree, FlatLeaf}
 use Rattle.smv_flat_laws.specs.History.{with_history}
 use Rattle.smv_type_laws.specs.Costs.{state_bits}
 use Rattle.cut_text_laws.specs.Analysis.{Ending, complete, bounded}

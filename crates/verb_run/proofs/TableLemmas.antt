@@ -4,11 +4,8 @@ use Rattle.std.specs.Prelude.{slice_get}
 use Rattle.std.proofs.lemmas.Bool.{cases_lt}
 use Rattle.std.proofs.lemmas.List.{take_more, take_all}
 use Rattle.base_files.specs.declared.files.NamedFile.{NamedFile}
-use Rattle.smv_language.specs.Tree.{Tree}
-use Rattle.smv_language.specs.Trace.{Each, EachBoth}
-use Rattle.smv_language.specs.ProgramTree.{Text, Formula, ProgramTree}
+use Rattle.smv_language.specs.Language.{Tree, Each, EachBoth, Text, Formula, ProgramTree, FlatLeaf}
 use Rattle.fault_extend.proofs.EachItem.{item_there}
-use Rattle.smv_language.specs.Flat.{FlatLeaf}
 use Rattle.smv_flat_laws.proofs.Lists.{each_of_map}
 use Rattle.verb_loading.specs.declared.status.InputFault.{InputFault}
 use Rattle.verb_loading.specs.declared.status.Refusal.{Refusal}

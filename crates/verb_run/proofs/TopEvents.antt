@@ -2,10 +2,8 @@
 use Rattle.std.proofs.Common.{arith, ◌≡◌, ◌<◌, ◌≤◌, ◌^◌, ℕ, List, [], length, map, subst, ◌∙◌}
 use Rattle.std.proofs.lemmas.List.{length-map}
 use Rattle.base_values.specs.declared.limits.TheConstants.{MOST_BITS}
-use Rattle.smv_language.specs.Tree.{Tree}
-use Rattle.smv_language.specs.ProgramTree.{Formula, ProgramTree}
+use Rattle.smv_language.specs.Language.{Tree, Formula, ProgramTree, FlatLeaf}
 use Rattle.smv_flat_laws.specs.FaultModes.{mode_of}
-use Rattle.smv_language.specs.Flat.{FlatLeaf}
 use Rattle.smv_type_laws.specs.Models.{IsTyped}
 use Rattle.smv_type_laws.specs.Costs.{cost_of}
 use Rattle.cut_search_laws.specs.Problem.{problem_of}

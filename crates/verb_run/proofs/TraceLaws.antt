@@ -3,9 +3,8 @@ use Rattle.std.proofs.Common.{arith, ◌≡◌, ◌≤◌, ◌<◌, ◌^◌, ℕ
 use Rattle.std.proofs.lemmas.List.{length-append}
 use Rattle.base_values.specs.declared.value.Value.{Value}
 use Rattle.base_values.specs.declared.limits.TheConstants.{MOST_TRACE_BYTES}
-use Rattle.smv_language.specs.Flat.{FlatModel}
+use Rattle.smv_language.specs.Language.{FlatModel, told_trace}
 use Rattle.cut_text_laws.specs.Lines.{Line, fed}
-use Rattle.smv_language.specs.NumberedValues.{told_trace}
 use Rattle.cut_text_laws.specs.TraceOfText.{IsPrintable, BytesGive}
 use Rattle.cert_check.proofs.TraceLaws.{all_lawful, few_moments, some_moments}
 use Rattle.smv_evaluation.specs.EvaluableModels.{CanBeReplayed}

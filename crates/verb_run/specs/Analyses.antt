@@ -2,9 +2,7 @@
 -- the invariant are free: so what answers is a relation between a case and what stands.
 use Rattle.std.specs.Prelude.{◌≡◌, ℕ, List, length}
 use Rattle.base_files.specs.Desk.{told_with, said_more, SaysPrefix, WritesPrefix}
-use Rattle.smv_language.specs.Tree.{Tree}
-use Rattle.smv_language.specs.ProgramTree.{Text, Formula}
-use Rattle.smv_language.specs.Flat.{FlatLeaf}
+use Rattle.smv_language.specs.Language.{Tree, Text, Formula, FlatLeaf}
 use Rattle.cut_report_laws.specs.ExtendedTraces.{Ending, complete, bounded, Analysis}
 use Rattle.cut_report_laws.specs.AnalysisText.{analysis_text}
 use Rattle.verb_loading.specs.declared.status.Status.{Status}

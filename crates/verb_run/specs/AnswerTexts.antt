@@ -1,9 +1,7 @@
 -- The texts that the verbs answer with, but for the report of an analysis.
 use Rattle.std.specs.Prelude.{ℕ, List, [], ◌∷◌, ◌++◌, Option, Some, None, length, slice_get, ◌-◌, codes}
 use Rattle.std.specs.Fmt.{decimal}
-use Rattle.smv_language.specs.ProgramTree.{Text}
-use Rattle.smv_language.specs.Text.{program_text}
-use Rattle.smv_language.specs.Values.{Value}
+use Rattle.smv_language.specs.Language.{Text, program_text, Value}
 use Rattle.fault_weave.specs.Faults.{Fault}
 use Rattle.sat_encoding_laws.specs.FlatTraces.{failed_set}
 use Rattle.cut_report_laws.specs.ExtendedTraces.{Ending, complete, bounded, Analysis}

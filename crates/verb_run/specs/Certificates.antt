@@ -2,10 +2,7 @@
 use Rattle.std.specs.Prelude.{◌≡◌, ◌↔◌, ℕ, List}
 use Rattle.base_files.specs.declared.files.NamedFile.{NamedFile}
 use Rattle.base_files.specs.Desk.{said_more}
-use Rattle.smv_language.specs.Tree.{Tree}
-use Rattle.smv_language.specs.ProgramTree.{Text, Formula}
-use Rattle.smv_language.specs.Values.{Value}
-use Rattle.smv_language.specs.Flat.{FlatLeaf}
+use Rattle.smv_language.specs.Language.{Tree, Text, Formula, Value, FlatLeaf}
 use Rattle.smv_flat_laws.specs.FlatTrace.{IsFlatTrace}
 use Rattle.sat_encoding_laws.specs.FlatTraces.{ReachesTop, HasFailedNumber}
 use Rattle.fault_weave.specs.ExtensionTraces.{Moment, IsExtended, Reaches}

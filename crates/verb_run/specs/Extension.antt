@@ -3,8 +3,7 @@ use Rattle.std.specs.Prelude.{◌≡◌, ℕ, List, Option, Some}
 use Rattle.base_files.specs.declared.files.NamedFile.{NamedFile}
 use Rattle.base_files.specs.Files.{file_of}
 use Rattle.base_files.specs.Desk.{said_more}
-use Rattle.smv_language.specs.ProgramTree.{Text, ProgramTree}
-use Rattle.smv_language.specs.Bytes.{BytesSpellProgram}
+use Rattle.smv_language.specs.Language.{Text, ProgramTree, BytesSpellProgram}
 use Rattle.fault_instructions.specs.Instructions.{InstructionTree}
 use Rattle.fault_instructions.specs.SpellsInstructions.{BytesSpellInstructions}
 use Rattle.fault_weave.specs.Conservative.{IsExtensionOf}

@@ -5,8 +5,7 @@ use Rattle.base_values.specs.declared.limits.TheConstants.{MOST_STAGES}
 use Rattle.base_files.specs.declared.files.NamedFile.{NamedFile}
 use Rattle.base_files.specs.Files.{file_of}
 use Rattle.base_files.specs.Desk.{told_with, said_more, SaysPrefix, WritesPrefix}
-use Rattle.smv_language.specs.ProgramTree.{Text, Formula, ProgramTree}
-use Rattle.smv_language.specs.Text.{program_text}
+use Rattle.smv_language.specs.Language.{Text, Formula, ProgramTree, program_text}
 use Rattle.fault_instructions.specs.InstructionText.{instructions_text}
 use Rattle.fault_generator.specs.Generator.{generated_model, generated_instructions}
 use Rattle.cut_text_laws.specs.Analysis.{told_ending}

@@ -3,8 +3,7 @@ use Rattle.std.specs.Prelude.{◌≡◌, ◌↔◌, ℕ, List, Option, Some, IsS
 use Rattle.base_files.specs.declared.files.NamedFile.{NamedFile}
 use Rattle.base_files.specs.Files.{file_of}
 use Rattle.base_files.specs.Desk.{said_more}
-use Rattle.smv_language.specs.ProgramTree.{Text, Formula}
-use Rattle.smv_language.specs.Bytes.{BytesSpellProgram}
+use Rattle.smv_language.specs.Language.{Text, Formula, BytesSpellProgram}
 use Rattle.fault_weave.specs.Conservative.{IsExtensionOf}
 use Rattle.fault_weave.specs.ExtensionTraces.{Moment, IsExtended, Reaches}
 use Rattle.cut_right_laws.specs.Right.{HasAtMost, IsMinimalCutSet, IsListed}

@@ -2,8 +2,7 @@
 use Rattle.std.specs.Prelude.{◌≡◌, ℕ, ◌++◌, List, Option, codes}
 use Rattle.base_files.specs.declared.files.NamedFile.{NamedFile}
 use Rattle.base_files.specs.Desk.{said_more}
-use Rattle.smv_language.specs.ProgramTree.{Text, Formula}
-use Rattle.smv_language.specs.Values.{Value}
+use Rattle.smv_language.specs.Language.{Text, Formula, Value}
 use Rattle.cut_right_laws.specs.Right.{Shows}
 use Rattle.cut_right_laws.specs.Sets.{IsRising}
 use Rattle.fault_weave.specs.ExtensionTraces.{Moment, IsExtended, Reaches}

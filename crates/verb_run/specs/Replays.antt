@@ -1,12 +1,9 @@
 -- What the file of a trace comes to, and what a replay of it does.
 use Rattle.std.specs.Prelude.{◌≡◌, ℕ, ◌++◌, List, [], ◌∷◌, Bool, if◌then◌else◌, codes, map}
 use Rattle.base_files.specs.declared.files.NamedFile.{NamedFile}
-use Rattle.smv_language.specs.ProgramTree.{Text}
-use Rattle.smv_language.specs.Tree.{Tree}
-use Rattle.smv_language.specs.Values.{Value}
+use Rattle.smv_language.specs.Language.{Text, Tree, Value, FlatLeaf, FlatModel, model_tree, told_trace}
 use Rattle.base_values.specs.declared.value.Value.{Value as Numbered}
 use Rattle.base_values.specs.declared.limits.TheConstants.{MOST_TRACE_BYTES}
-use Rattle.smv_language.specs.Flat.{FlatLeaf, FlatModel}
 use Rattle.smv_flat_laws.specs.History.{Mode}
 use Rattle.smv_evaluation.specs.Stops as stops
 use Rattle.cut_text_laws.specs.TraceOfText.{BytesGive}
@@ -27,12 +24,10 @@ use Rattle.verb_loading.specs.Reports.{name_text}
 use Rattle.verb_loading.specs.Inputs.{IsRefusedAbove, HasAtMost}
 use Rattle.smv_language.specs.declared.model.FlatModel.{FlatModel as Model}
 use Rattle.smv_language.specs.declared.model.Fault.{Fault as Numbering}
-use Rattle.smv_language.specs.ModelTree.{model_tree}
 use Rattle.smv_flat_laws.specs.FaultModes.{mode_of}
 use Rattle.smv_flat_laws.specs.FlatTrace.{stands_in_some}
 use Rattle.fault_extend.specs.declared.faults.WovenFault.{WovenFault}
 use Rattle.fault_extend.specs.WovenFaults.{fault_tree}
-use Rattle.smv_language.specs.NumberedValues.{told_trace}
 
 -- what is wrong first with the text of a trace, as it is told: its number, and the line from 1, or the moment from 0
 abbrev pub text_fault : TraceFault → InputFault

@@ -4,15 +4,11 @@ use Rattle.std.specs.Prelude.{◌≡◌, ◌⊎◌, ℕ, ◌+◌, ◌≤◌, ◌
 use Rattle.base_values.specs.declared.limits.TheConstants.{MOST_TOPS}
 use Rattle.base_files.specs.declared.files.NamedFile.{NamedFile}
 use Rattle.base_files.specs.Desk.{said_more, SaysPrefix}
-use Rattle.smv_language.specs.Tree.{Tree}
-use Rattle.smv_language.specs.ProgramTree.{Text, Formula, ProgramTree, program_tree}
-use Rattle.smv_language.specs.ExpressionTree.{tree_of}
+use Rattle.smv_language.specs.Language.{Tree, Text, Formula, ProgramTree, program_tree, tree_of, FlatLeaf, FlatModel, flat_tree, EachBoth}
 use Rattle.smv_expression_reader.specs.declared.fault.ParseFault.{ParseFault}
 use Rattle.smv_expression_reader.specs.Stops.{FaultMeans}
 use Rattle.smv_expression_reader.specs.Lists.{IsExpressions, BytesSpellExpressions}
 use Rattle.smv_expression_reader.specs.ExpressionDepths.{HaveDepths, AreTooDeep}
-use Rattle.smv_language.specs.Flat.{FlatLeaf, FlatModel}
-use Rattle.smv_language.specs.ModelTree.{flat_tree}
 use Rattle.cut_tables.specs.Tables.{table_text, rows_of, entry_of}
 use Rattle.cut_tables.specs.Columns.{AreTold, NamesFaults}
 use Rattle.cut_text_laws.specs.Analysis.{told_ending}
@@ -37,7 +33,6 @@ use Rattle.verb_loading.specs.Tasks.{IsTopTree}
 use Rattle.verb_loading.specs.LoadedCases.{case_of, IsLoaded}
 use Rattle.verb_loading.specs.CaseAnswers.{Told, Said, faults_text, bits_of}
 use Rattle.cut_model_search.specs.CaseAnalysis.{IsFound}
-use Rattle.smv_language.specs.Trace.{EachBoth}
 
 -- there are more than `MOST_TOPS`
 abbrev pub too_many_tops : InputFault

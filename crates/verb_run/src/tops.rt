@@ -9,6 +9,7 @@ ghost use Rattle.smv_language.specs.ProgramTree.{Formula, program_tree};
 ghost use Rattle.smv_language.specs.Trace.{Each, EachBoth};
 ghost use Rattle.smv_language.specs.ExpressionTree.{tree_of};
 ghost use Rattle.smv_language.specs.ModelTree.{model_tree, flat_tree};
+ghost use Rattle.smv_flat.specs.ScopeOf.{IsScopeOf};
 ghost use Rattle.smv_flat_laws.specs.Model.{IsFlatOf};
 ghost use Rattle.smv_flat_laws.specs.ResolvedAt.{IsResolvedAt};
 ghost use Rattle.smv_flat_laws.specs.Rules.{IsAccepted};
@@ -38,6 +39,7 @@ use cut_report::print_faults;
 use cut_tables::{Column, ColumnList, print_table, table};
 use sat_adviser::Panel;
 use smv_expression_reader::expressions;
+use smv_flat::Scope;
 use smv_language::model::Flat;
 use smv_language::{Expr, ExprList};
 use std::alloc::Global;
@@ -46,7 +48,7 @@ use verb_loading::input::{Input, Stop, read_input};
 use verb_loading::loaded::{LoadedCase, load_case};
 use verb_loading::model::{LoadedModel, load_model};
 use verb_loading::status::{InputFault, Part, Refusal, Status};
-use verb_loading::top::{judge_top, over_extension};
+use verb_loading::top::{judge_top, over_extension, scope_of};
 use verb_loading::wrong::Wrong;
 
 /// Top events as a file spells them, and over the flat model of an extension.
@@ -164,19 +166,27 @@ fn judge_tops(alloc: Global, model: &LoadedModel, tops: &[Expr<Dotted>]) -> Resu
     ensures ok { OnOk result (Each (IsTop (program_tree model.now.program)) (map tree_of tops.now)) }
     ensures wrong { IfErr result (IfRefused (IsFirstNoTop (program_tree model.now.program) (map tree_of tops.now))) }
 {
+    let scope = scope_of(alloc, &model.program)?;
     for (i, top) in tops.iter().enumerate() {
-        judge_at(alloc, model, top, i as u64 + 1)?;
+        judge_at(alloc, model, &scope, top, i as u64 + 1)?;
     }
     Ok(())
 }
 
 /// Refuses an expression that is no top event of the model, at this place.
-fn judge_at(alloc: Global, model: &LoadedModel, top: &Expr<Dotted>, place: u64) -> Result<(), Wrong>
+fn judge_at(
+    alloc: Global,
+    model: &LoadedModel,
+    scope: &Scope<'_>,
+    top: &Expr<Dotted>,
+    place: u64,
+) -> Result<(), Wrong>
     requires lawful { IsLawful (program_tree model.now.program) (model_tree model.now.typed.model) }
+    requires scope { IsScopeOf (program_tree model.now.program) scope.now }
     ensures ok { OnOk result (IsTop (program_tree model.now.program) (tree_of top.now)) }
     ensures wrong { IfErr result (IfRefused (IsWrongTop (program_tree model.now.program) (tree_of top.now) place)) }
 {
-    match judge_top(alloc, model, top) {
+    match judge_top(alloc, model, scope, top) {
         Ok(()) => Ok(()),
         Err(wrong) => Err(at_place(wrong, place)),
     }
@@ -205,14 +215,10 @@ fn over_case(
         (model_tree case.now.limited.typed.model) [] (tree_of e) (flat_tree tree)) tops.now made) }
     ensures wrong { IfErr result (IfRefused (λ fault. ⊥)) }
 {
+    let scope = scope_of(alloc, &case.limited.woven.program)?;
     let mut over = Items::new(alloc);
     for top in tops {
-        over.push(over_extension(
-            alloc,
-            &case.limited.woven.program,
-            case.limited.typed.model(),
-            top,
-        )?)?;
+        over.push(over_extension(alloc, case, &scope, top)?)?;
     }
     Ok(over)
 }

@@ -1,13 +1,11 @@
 -- From the answer of a search in kept frames to what is written and printed of the event.
 use Rattle.std.proofs.Common.{arith, ◌≡◌, ◌<◌, ◌≤◌, ◌^◌, ◌++◌, ℕ, List, Option, length, map, sym, ap, subst, ◌∙◌}
 use Rattle.std.proofs.lemmas.List.{length-map}
-use Rattle.smv_language.specs.ProgramTree.{Text, Formula, ProgramTree}
+use Rattle.smv_language.specs.Language.{Text, Formula, ProgramTree, flat_tree, name_of_fault, told_trace}
 use Rattle.smv_type_laws.specs.Costs.{state_bits}
-use Rattle.smv_language.specs.ModelTree.{flat_tree, name_of_fault}
 use Rattle.smv_flat_laws.specs.FaultModes.{mode_of}
 use Rattle.smv_language.specs.declared.expr.Expr.{Expr}
 use Rattle.smv_language.specs.declared.model.Flat.{Flat}
-use Rattle.smv_language.specs.NumberedValues.{told_trace}
 use Rattle.fault_extend.specs.WovenFaults.{fault_tree}
 use Rattle.cut_report.specs.FaultText as lines
 use Rattle.cut_text_laws.specs.Analysis.{told_ending}

@@ -3,8 +3,7 @@ use Rattle.std.proofs.Common.{arith, ◌≡◌, Bool, true, false, ℕ, zero, su
 use Rattle.std.specs.Prelude.{nat_eq}
 use Rattle.std.proofs.lemmas.List.{take_more, take_all, length-take-le, map-append}
 use Rattle.base_files.specs.Desk.{said_more}
-use Rattle.smv_language.specs.Trace.{EachBoth}
-use Rattle.smv_language.specs.ProgramTree.{Text, Formula}
+use Rattle.smv_language.specs.Language.{EachBoth, Text, Formula}
 use Rattle.cut_text_laws.specs.Analysis.{told_ending}
 use Rattle.cut_report_laws.specs.ExtendedTraces.{Ending, complete, bounded, Analysis}
 use Rattle.cert_file.specs.declared.conclusion.Conclusion.{Conclusion}

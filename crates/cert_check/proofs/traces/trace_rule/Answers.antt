@@ -2,9 +2,8 @@ use Rattle.std.proofs.Common.{◌≡◌, Some, sym, subst}
 use Rattle.std.proofs.lemmas.Result.{IfOk-weaker}
 use Rattle.cert_check.specs.QuestionMatter.{asked}
 use Rattle.cut_text_laws.specs.Lines.{fed}
-use Rattle.smv_language.specs.ModelTree.{model_tree}
+use Rattle.smv_language.specs.Language.{model_tree, told_trace}
 use Rattle.cert_laws.specs.Certificate.{a_trace}
-use Rattle.smv_language.specs.NumberedValues.{told_trace}
 use Rattle.cut_report.specs.Faults.{IsFaultOf}
 use Rattle.cut_text_laws.specs.TraceOfText.{BytesGive}
 use Rattle.cert_check.specs.SiteFindings.{FindsAt}

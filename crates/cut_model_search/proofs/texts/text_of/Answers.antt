@@ -1,7 +1,6 @@
 use Rattle.std.proofs.Common.{◌≡◌, ◌<◌, ◌^◌, ◌∙◌, length, arith}
-use Rattle.smv_language.specs.ModelTree.{model_tree}
+use Rattle.smv_language.specs.Language.{model_tree, told_trace}
 use Rattle.cut_text_laws.specs.TraceText.{trace_text}
-use Rattle.smv_language.specs.NumberedValues.{told_trace}
 use Rattle.cut_model_search.proofs.PrintedLemmas.{cut_text, text_writable}
 use Rattle.cut_model_search.proofs.texts.text_of.Goals as goal
 

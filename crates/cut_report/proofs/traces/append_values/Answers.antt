@@ -1,9 +1,8 @@
 use Rattle.std.proofs.Common.{◌≡◌, ◌++◌, ◌+◌, [], ◌∷◌, Some, sym, ◌∙◌, ap, arith}
 use Rattle.std.specs.Prelude.{slice_get}
 use Rattle.std.proofs.lemmas.Option.{slice_get-get_or}
-use Rattle.smv_language.specs.ModelTree.{variable_tree}
+use Rattle.smv_language.specs.Language.{variable_tree, told_value}
 use Rattle.cut_text_laws.specs.TraceText.{value_line}
-use Rattle.smv_language.specs.NumberedValues.{told_value}
 use Rattle.cut_report.proofs.TextLaws.{lines_from, values_on, values_past}
 use Rattle.cut_report.proofs.traces.append_values.Goals as goal
 use Rattle.cut_report.proofs.traces.append_values.Goals.{then-i-len+in_ok-append_line, else-i-len}

@@ -1,7 +1,6 @@
 use Rattle.std.proofs.Common.{◌≡◌, ◌++◌}
-use Rattle.smv_language.specs.ModelTree.{model_tree}
+use Rattle.smv_language.specs.Language.{model_tree, told_trace}
 use Rattle.cut_text_laws.specs.TraceText.{trace_text}
-use Rattle.smv_language.specs.NumberedValues.{told_trace}
 use Rattle.cut_report.proofs.TextLaws.{moments_from}
 use Rattle.cut_report.proofs.traces.print_moments.Given as goal
 

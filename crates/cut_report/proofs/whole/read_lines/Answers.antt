@@ -1,11 +1,10 @@
 use Rattle.std.proofs.Common.{rules, w64, Fits, ◌+◌, ◌≡◌, ◌≢◌, ◌<◌, ◌≤◌, List, ℕ, [], ◌∷◌, length, false, Result, Ok, Err, refl, sym, ◌∙◌, ap, arith, IfOk, IfErr}
 use Rattle.std.proofs.lemmas.List.{length-map}
-use Rattle.smv_language.specs.ModelTree.{model_tree, variable_tree}
+use Rattle.smv_language.specs.Language.{model_tree, variable_tree, told_trace}
 use Rattle.base_values.specs.declared.value.Value.TheVariants.{Bool as ABool}
 use Rattle.cut_text_laws.specs.TraceOfText.{BytesGive}
 use Rattle.cut_report.specs.Faults.{IsFaultOf}
 use Rattle.cut_report.specs.TraceReading.{IsFinished, IsUnfinished, ended}
-use Rattle.smv_language.specs.NumberedValues.{told_trace}
 use Rattle.cut_report.proofs.WholeLaws.{first_after, read_start, read_more, read_few, begun_fewer, read_tail, read_fault, read_gives}
 use Rattle.cut_report.proofs.whole.read_lines.Goals as goal
 

@@ -1,7 +1,6 @@
 use Rattle.std.proofs.Common.{◌∙◌, sym}
 use Rattle.std.specs.Option.{option_map}
-use Rattle.smv_language.specs.ProgramTree.{declared_tree}
-use Rattle.smv_language.specs.ModelTree.{flat_tree, model_tree}
+use Rattle.smv_language.specs.Language.{declared_tree, flat_tree, model_tree}
 use Rattle.smv_types.specs.Answers.{told_rules}
 use Rattle.smv_types.specs.Calls.{shown}
 use Rattle.fault_extend_laws.specs.Expressions.{broken_by}

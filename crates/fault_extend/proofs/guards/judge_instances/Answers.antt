@@ -2,9 +2,8 @@ use Rattle.std.proofs.Common.{◌≡◌, ◌+◌, List, Some, map, refl, ap, ◌
 use Rattle.std.specs.Prelude.{slice_get, flat_map}
 use Rattle.std.proofs.lemmas.Result.{err_from_is_err_and}
 use Rattle.std.proofs.lemmas.List.{drop_all}
-use Rattle.smv_language.specs.Trace.{Each}
+use Rattle.smv_language.specs.Language.{Each, instance_tree}
 use Rattle.smv_language.specs.declared.model.Instance.{Instance}
-use Rattle.smv_language.specs.ModelTree.{instance_tree}
 use Rattle.fault_rules.specs.PlacedSlices.{seen_placed}
 use Rattle.fault_extend_laws.specs.Expressions.{KeepsUse}
 use Rattle.fault_extend_laws.specs.SliceUses.{uses_of_slices}

@@ -1,8 +1,7 @@
 use Rattle.std.proofs.Common.{◌∙◌, sym}
 use Rattle.std.specs.Option.{option_map}
-use Rattle.smv_language.specs.ProgramTree.{declared_tree}
+use Rattle.smv_language.specs.Language.{declared_tree, flat_tree}
 use Rattle.fault_instructions.specs.Instructions.{mode_tree}
-use Rattle.smv_language.specs.ModelTree.{flat_tree}
 use Rattle.fault_extend.specs.GuardJudgement.{program_in, model_in, use_at}
 use Rattle.fault_extend.proofs.KindAnswers.{mode_told, mode_kept}
 use Rattle.fault_extend.proofs.guards.judge_mode.Goals as goal

@@ -1,7 +1,6 @@
 use Rattle.std.proofs.Common.{◌+◌, map, drop}
-use Rattle.smv_language.specs.ProgramTree.{declared_tree}
+use Rattle.smv_language.specs.Language.{declared_tree, FlatInstance}
 use Rattle.fault_instructions.specs.Instructions.{mode_tree}
-use Rattle.smv_language.specs.Flat.{FlatInstance}
 use Rattle.smv_flat.specs.ResolvedAt.{IsAt}
 use Rattle.fault_extend_laws.specs.SliceUses.{modes_from}
 use Rattle.fault_extend.specs.GuardJudgement.{program_in, model_in}

@@ -1,7 +1,6 @@
 use Rattle.std.proofs.Common.{subst, sym}
 use Rattle.std.proofs.lemmas.Result.{err_from_is_err_and}
-use Rattle.smv_language.specs.ExpressionTree.{tree_of}
-use Rattle.smv_language.specs.ModelTree.{flat_tree, model_tree}
+use Rattle.smv_language.specs.Language.{tree_of, flat_tree, model_tree}
 use Rattle.smv_flat_laws.specs.ResolvedAt.{IsResolvedAt}
 use Rattle.smv_flat.specs.ResolvedAt.{IsAt}
 use Rattle.fault_extend.specs.GuardJudgement.{program_in}

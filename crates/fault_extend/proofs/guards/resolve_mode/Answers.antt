@@ -1,10 +1,8 @@
 use Rattle.std.specs.Prelude.{true, false, IfOk, IfErr, OnOk}
 use Rattle.std.proofs.Common.{◌∙◌, ap, subst, sym}
 use Rattle.std.specs.Option.{option_map}
-use Rattle.smv_language.specs.ProgramTree.{boolean}
-use Rattle.smv_language.specs.ExpressionTree.{tree_of}
+use Rattle.smv_language.specs.Language.{boolean, tree_of, flat_tree}
 use Rattle.fault_instructions.specs.Instructions.{mode_tree}
-use Rattle.smv_language.specs.ModelTree.{flat_tree}
 use Rattle.fault_extend_laws.specs.Expressions.{followed, IsForm, KeepsNames}
 use Rattle.fault_extend.specs.GuardJudgement.{program_in, model_in, use_at, IsSomeKept, IsSomeFault}
 use Rattle.fault_extend.proofs.NameAnswers.{IsNamesFault, both_answered, both_formed, guard_same, names_cause}

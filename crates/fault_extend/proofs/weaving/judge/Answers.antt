@@ -1,9 +1,7 @@
 use Rattle.std.proofs.Common.{◌∙◌, map, ap, subst}
 use Rattle.std.specs.Prelude.{IfErr, OnOk}
-use Rattle.smv_language.specs.ProgramTree.{program_tree}
-use Rattle.smv_language.specs.Trace.{Each}
+use Rattle.smv_language.specs.Language.{program_tree, Each, model_tree}
 use Rattle.fault_instructions.specs.Instructions.{instruction_tree}
-use Rattle.smv_language.specs.ModelTree.{model_tree}
 use Rattle.fault_rules.specs.PlacedSlices.{seen_placed}
 use Rattle.fault_extend_laws.specs.Expressions.{KeepsUse}
 use Rattle.fault_extend_laws.proofs.SliceLaws.{all_uses}

@@ -1,7 +1,6 @@
 use Rattle.std.proofs.Common.{◌∙◌, ap, sym, subst}
-use Rattle.smv_language.specs.ProgramTree.{program_tree}
+use Rattle.smv_language.specs.Language.{program_tree, model_tree}
 use Rattle.smv_type_laws.specs.Models.{IsTyped}
-use Rattle.smv_language.specs.ModelTree.{model_tree}
 use Rattle.fault_extend.proofs.NameAnswers.{want_told}
 use Rattle.fault_extend.proofs.Telling.{typed_wants}
 use Rattle.fault_extend.proofs.weaving.typed_of.Goals as goal

@@ -1,9 +1,8 @@
 use Rattle.std.proofs.Common.{List, map, subst, sym}
 use Rattle.std.specs.Prelude.{IfErr, OnOk}
 use Rattle.std.proofs.lemmas.Result.{err_from_is_err_and, IfOk-weaker}
-use Rattle.smv_language.specs.ProgramTree.{Text, program_tree}
+use Rattle.smv_language.specs.Language.{Text, program_tree, model_tree}
 use Rattle.fault_instructions.specs.Instructions.{instruction_tree}
-use Rattle.smv_language.specs.ModelTree.{model_tree}
 use Rattle.fault_extend_laws.specs.Expressions.{AllUsesKept}
 use Rattle.fault_extend.specs.FirstRefusal.{modules_in, modules_at, KeepsRules, IsTold}
 use Rattle.fault_rules.specs.CountLimits.{count_broken_at}

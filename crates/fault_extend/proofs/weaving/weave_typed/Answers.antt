@@ -1,6 +1,5 @@
-use Rattle.smv_language.specs.ProgramTree.{program_tree}
+use Rattle.smv_language.specs.Language.{program_tree, model_tree}
 use Rattle.std.proofs.Common.{map}
-use Rattle.smv_language.specs.ModelTree.{model_tree}
 use Rattle.fault_extend.proofs.GuardLaws.{uses_judged}
 use Rattle.fault_rules.proofs.WeavableLaw.{weavable}
 use Rattle.fault_instructions.specs.Instructions.{instruction_tree}

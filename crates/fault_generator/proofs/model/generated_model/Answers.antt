@@ -1,7 +1,6 @@
 use Rattle.std.proofs.Common.{◌≡◌, subst, sym, arith}
 use Rattle.std.proofs.lemmas.Result.{IfOk-weaker}
-use Rattle.smv_language.specs.ProgramTree.{program_tree}
-use Rattle.smv_language.specs.WritableProgram.{IsWritableProgram}
+use Rattle.smv_language.specs.Language.{program_tree, IsWritableProgram}
 use Rattle.fault_generator.specs.Generator.{generated_model}
 use Rattle.fault_generator.proofs.Writable.{model_writable}
 use Rattle.fault_generator.proofs.model.generated_model.Goals as goal

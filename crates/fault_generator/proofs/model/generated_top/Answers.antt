@@ -1,7 +1,6 @@
 use Rattle.std.proofs.Common.{◌≡◌, subst, sym}
 use Rattle.std.proofs.lemmas.Result.{IfOk-weaker}
-use Rattle.smv_language.specs.ExpressionTree.{tree_of}
-use Rattle.smv_language.specs.PrintedTokens.{IsWritable}
+use Rattle.smv_language.specs.Language.{tree_of, IsWritable}
 use Rattle.fault_generator.specs.Generator.{generated_top}
 use Rattle.fault_generator.proofs.Writable.{top_writable}
 use Rattle.fault_generator.proofs.model.generated_top.Goals as goal

@@ -1,7 +1,6 @@
 use Rattle.std.proofs.Common.{◌≡◌, drop}
 use Rattle.std.specs.List.{list_any}
-use Rattle.smv_language.specs.ProgramTree.{program_tree}
-use Rattle.smv_language.specs.Scope.{find_module}
+use Rattle.smv_language.specs.Language.{program_tree, find_module}
 use Rattle.fault_rules.specs.Rules.{is_local_member}
 use Rattle.fault_rules.proofs.items.has_local.Given as goal
 

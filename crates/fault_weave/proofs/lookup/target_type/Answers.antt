@@ -1,7 +1,6 @@
 use Rattle.std.proofs.Common.{◌≡◌, ◌∙◌, sym, subst, map}
 use Rattle.std.specs.Prelude.{IfOk}
-use Rattle.smv_language.specs.ProgramTree.{section_tree, declared_tree}
-use Rattle.smv_language.specs.Scope.{kind_in_sections}
+use Rattle.smv_language.specs.Language.{section_tree, declared_tree, kind_in_sections}
 use Rattle.fault_weave.proofs.LookupLaws.{formal_type, no_formal_type}
 use Rattle.fault_weave.proofs.lookup.target_type.Goals as goal
 

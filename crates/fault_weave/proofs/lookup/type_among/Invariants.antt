@@ -1,6 +1,5 @@
 use Rattle.std.proofs.Common.{◌≡◌, drop, map}
-use Rattle.smv_language.specs.ProgramTree.{section_tree}
-use Rattle.smv_language.specs.Scope.{kind_in_sections}
+use Rattle.smv_language.specs.Language.{section_tree, kind_in_sections}
 use Rattle.fault_instructions.specs.KindTypes.{type_of_kind}
 use Rattle.fault_weave.proofs.lookup.type_among.Given as goal
 

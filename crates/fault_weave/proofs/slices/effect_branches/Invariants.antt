@@ -1,6 +1,5 @@
 use Rattle.std.proofs.Common.{◌≡◌, map, take}
-use Rattle.smv_language.specs.ExpressionTree.{branch_trees}
-use Rattle.smv_language.specs.ProgramTree.{declared_tree}
+use Rattle.smv_language.specs.Language.{branch_trees, declared_tree}
 use Rattle.fault_instructions.specs.Instructions.{mode_tree}
 use Rattle.fault_instructions.specs.Templates.{stands, branch}
 use Rattle.fault_weave.proofs.slices.effect_branches.Given as goal

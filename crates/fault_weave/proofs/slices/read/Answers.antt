@@ -1,7 +1,6 @@
 use Rattle.std.proofs.Common.{◌≡◌, subst, map}
 use Rattle.std.specs.Prelude.{IfOk}
-use Rattle.smv_language.specs.ProgramTree.{declared_tree}
-use Rattle.smv_language.specs.ExpressionTree.{tree_of, branch_trees}
+use Rattle.smv_language.specs.Language.{declared_tree, tree_of, branch_trees}
 use Rattle.fault_instructions.specs.Instructions.{mode_tree}
 use Rattle.fault_instructions.specs.AddedNames.{own_name}
 use Rattle.fault_instructions.specs.Templates.{named, branch}

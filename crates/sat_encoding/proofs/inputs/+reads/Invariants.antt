@@ -1,7 +1,5 @@
 use Rattle.std.proofs.Common.{◌≡◌, drop}
-use Rattle.smv_language.specs.ExpressionTree.{trees_of, branches_of}
-use Rattle.smv_language.specs.Leaves.{trees_map, branches_map}
-use Rattle.smv_language.specs.ModelTree.{leaf_of}
+use Rattle.smv_language.specs.Language.{trees_of, branches_of, trees_map, branches_map, leaf_of}
 use Rattle.sat_encoding.specs.Reading.{names_read, trees_any, branches_any}
 use Rattle.sat_encoding.proofs.inputs.+reads.Given as goal
 

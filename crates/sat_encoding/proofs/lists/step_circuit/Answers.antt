@@ -1,8 +1,7 @@
 use Rattle.std.proofs.Common.{◌∙◌, List, true, false, map, sym, ap, subst}
-use Rattle.smv_language.specs.Trace.{Each}
+use Rattle.smv_language.specs.Language.{Each, formula_tree}
 use Rattle.smv_language.specs.declared.model.Formula.{Formula}
 use Rattle.smv_language.specs.declared.model.FlatModel.{FlatModel as Model}
-use Rattle.smv_language.specs.ModelTree.{formula_tree}
 use Rattle.sat_circuits.specs.Circuit.{Circuit}
 use Rattle.sat_encoding_laws.specs.Layout.{variable_signals}
 use Rattle.sat_encoding_laws.specs.Lists.{copy_gates}

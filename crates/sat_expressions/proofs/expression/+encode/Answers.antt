@@ -1,9 +1,7 @@
 use Rattle.std.proofs.Common.{◌≡◌, ◌≤◌, ◌<◌, ◌+◌, ◌-◌, ◌*◌, rules, to_z, of_z, w64, IfOk, refl, sym, ◌∙◌, subst, arith, length}
 use Rattle.std.proofs.lemmas.Int.{to_z-of_z}
-use Rattle.smv_language.specs.ExpressionTree.{trees_of, branches_of}
-use Rattle.smv_language.specs.Leaves.{trees_map, branches_map}
+use Rattle.smv_language.specs.Language.{trees_of, branches_of, trees_map, branches_map, leaf_of}
 use Rattle.sat_circuits.specs.Circuit.{Circuit}
-use Rattle.smv_language.specs.ModelTree.{leaf_of}
 use Rattle.sat_circuits.specs.Numbers.{number_word}
 use Rattle.sat_encoding_laws.specs.Signals.{literal_in, word}
 use Rattle.sat_encoding_laws.specs.Expressions.{span_gates}

@@ -1,7 +1,5 @@
 use Rattle.std.proofs.Common.{◌≡◌, ◌+◌, ◌*◌, drop, length}
-use Rattle.smv_language.specs.ExpressionTree.{trees_of, branches_of}
-use Rattle.smv_language.specs.Leaves.{trees_map, branches_map}
-use Rattle.smv_language.specs.ModelTree.{leaf_of}
+use Rattle.smv_language.specs.Language.{trees_of, branches_of, trees_map, branches_map, leaf_of}
 use Rattle.sat_expressions.specs.Parts.{asked_of, BuildsSome}
 use Rattle.sat_expressions.specs.Branches.{BuildsFirst}
 use Rattle.sat_expressions.proofs.Sizes.{nodes, members_nodes, branches_nodes}

@@ -1,13 +1,11 @@
 use Rattle.std.proofs.Common.{◌≡◌, ◌<◌, ◌^◌, ◌∙◌, length, ap, sym, subst}
 use Rattle.std.specs.Prelude.{All}
-use Rattle.smv_language.specs.ExpressionTree.{tree_of}
-use Rattle.smv_language.specs.ModelTree.{model_tree, flat_tree}
+use Rattle.smv_language.specs.Language.{tree_of, model_tree, flat_tree, told_trace}
 use Rattle.smv_evaluation.specs.MomentTables.{HasRoom, HasValues}
 use Rattle.smv_evaluation.specs.Replay.{replayed, IsReplayed}
 use Rattle.smv_evaluation.proofs.FilledLaws.{all_lawful}
 use Rattle.smv_evaluation.proofs.ReplayLaws.{replayed_law}
 use Rattle.smv_evaluation.proofs.trace.replay.Goals as goal
-use Rattle.smv_language.specs.NumberedValues.{told_trace}
 
 pub replay_in-requires-clause-some : goal.replay_in-requires-clause-some
 replay_in-requires-clause-some c = subst (λ ms. 0 < length ms) (sym c.as_slice.ensures) c.requires.trace.some

@@ -1,9 +1,7 @@
 use Rattle.std.proofs.Common.{◌≡◌, ◌<◌, Some, true, ap, ◌∙◌, subst}
 use Rattle.std.specs.Prelude.{Err}
 use Rattle.base_values.specs.declared.limits.TheConstants.{MOST_HEIGHT}
-use Rattle.smv_language.specs.Tree.{height_of}
-use Rattle.smv_language.specs.ProgramTree.{Formula}
-use Rattle.smv_language.specs.Lexemes.{lexemes_of}
+use Rattle.smv_language.specs.Language.{height_of, Formula, lexemes_of}
 use Rattle.smv_expression_reader.specs.Recogniser as machine
 use Rattle.smv_expression_reader.specs.TreeBuilder.{built}
 use Rattle.smv_expression_reader.proofs.ExpressionLaws.{expression_made, expression_high}

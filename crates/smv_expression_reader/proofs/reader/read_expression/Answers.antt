@@ -1,11 +1,7 @@
 use Rattle.std.proofs.Common.{◌≡◌, ◌≤◌, Some, true, false, subst}
 use Rattle.std.proofs.lemmas.Result.{IfOk-weaker}
 use Rattle.base_values.specs.declared.limits.TheConstants.{MOST_HEIGHT}
-use Rattle.smv_language.specs.Tree.{height_of}
-use Rattle.smv_language.specs.ExpressionTree.{tree_of}
-use Rattle.smv_language.specs.Bytes.{BytesSpellExpr, HasDepths}
-use Rattle.smv_language.specs.ProgramTree.{Formula}
-use Rattle.smv_language.specs.Lexemes.{lexemes_of}
+use Rattle.smv_language.specs.Language.{height_of, tree_of, BytesSpellExpr, HasDepths, Formula, lexemes_of}
 use Rattle.smv_expression_reader.specs.Recogniser as machine
 use Rattle.smv_expression_reader.specs.TreeBuilder.{built}
 use Rattle.smv_expression_reader.specs.Extents.{is_deep}

@@ -1,12 +1,11 @@
 -- The model of an accepted program is its only one, and what is handed on means something.
 use Rattle.std.proofs.Common.{◌≡◌}
 use Rattle.std.proofs.lemmas.Result.{IfOk-weaker}
-use Rattle.smv_language.specs.Flat.{FlatModel as ModelTree}
+use Rattle.smv_language.specs.Language.{FlatModel as ModelTree, model_tree}
 use Rattle.smv_flat_laws.specs.Looks.{ActualsMean}
 use Rattle.smv_flat_laws.specs.Rules.{IsAccepted}
 use Rattle.smv_flat_laws.specs.Model.{IsFlatOf}
 use Rattle.smv_flat_laws.proofs.Walkable.{walkable_accepted}
-use Rattle.smv_language.specs.ModelTree.{model_tree}
 use Rattle.smv_scope.specs.SceneTree.{program_of}
 use Rattle.smv_flat.proofs.ActualLaws.{actuals_mean}
 use Rattle.smv_flat.proofs.FlatFaults.{ok_always}

@@ -1,7 +1,6 @@
 -- The tables of an accepted program only want memory.
 use Rattle.std.proofs.Common.{rules}
-use Rattle.smv_language.specs.ProgramTree.{program_tree}
-use Rattle.smv_language.specs.ExpressionTree.{tree_of}
+use Rattle.smv_language.specs.Language.{program_tree, tree_of}
 use Rattle.smv_scope.specs.Faults.{IsFaultOf}
 use Rattle.smv_flat.specs.ResolvedAt.{IsValueFault}
 use Rattle.smv_flat.proofs.FlatFaults.{no_rule}

@@ -1,7 +1,7 @@
 -- A value that breaks no rule is resolved, or memory is wanting.
 use Rattle.std.proofs.Common.{◌≡◌, not, ◌&&◌, false, IfErr, IfOk, sym, ◌∙◌, subst}
 use Rattle.std.proofs.lemmas.Result.{IfOk-weaker}
-use Rattle.smv_language.specs.ExpressionTree.{tree_of}
+use Rattle.smv_language.specs.Language.{tree_of, model_tree, flat_tree}
 use Rattle.smv_flat_laws.specs.Rules.{SomeHasNoValue}
 use Rattle.smv_scope.specs.declared.fault.FlatRule.TheVariants.{NoSuchName, NextHere, InputHere}
 use Rattle.smv_scope.specs.declared.names.Scene.{Scene}
@@ -9,7 +9,6 @@ use Rattle.smv_scope.specs.declared.needs.Needs.{Needs}
 use Rattle.smv_flat.specs.declared.resolve.ExpressionSource.{ExpressionSource}
 use Rattle.smv_scope.specs.ClosedModels.{bounds_of}
 use Rattle.smv_scope.specs.Faults.{IsWant}
-use Rattle.smv_language.specs.ModelTree.{model_tree, flat_tree}
 use Rattle.smv_scope.specs.SceneTree.{program_of}
 use Rattle.smv_flat.specs.ValueJudgement.{IsJudged}
 use Rattle.smv_flat.specs.ResolverOf.{leaf_at, told_tree, asked_tree, IsKnown}

@@ -1,9 +1,9 @@
 use Rattle.std.proofs.Common.{◌≡◌, ◌-◌, map}
 use Rattle.smv_language.specs.ProgramTree.{decl_tree}
-use Rattle.smv_expression_reader.specs.Marks.{a_name}
 use Rattle.smv_expression_reader.specs.SecondPass.{has_next, each_at, with_front}
 use Rattle.smv_model_reader.specs.ProgramParts.{decl_at, declared_at, decls_at}
 use Rattle.smv_model_reader.proofs.sections.decls.Given as goal
+use Rattle.smv_expression_reader.specs.declared.mark.Mark.TheVariants as mark
 
 abbrev pub invariant-loop-round : goal.invariant-loop-round
-invariant-loop-round l = decls_at declared_at l.fn.cursor ≡ with_front (map decl_tree l.list) (each_at (has_next a_name) (decl_at declared_at) (l.most - l.round) l.cursor)
+invariant-loop-round l = decls_at declared_at l.fn.cursor ≡ with_front (map decl_tree l.list) (each_at (has_next mark.Name) (decl_at declared_at) (l.most - l.round) l.cursor)

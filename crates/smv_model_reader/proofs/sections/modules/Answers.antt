@@ -2,34 +2,34 @@ use Rattle.std.proofs.Common.{sym, ap, ◌∙◌, map}
 use Rattle.std.specs.Prelude.{Err}
 use Rattle.std.proofs.lemmas.Result.{err_from_is_err_and}
 use Rattle.smv_language.specs.ProgramTree.{module_tree}
-use Rattle.smv_expression_reader.specs.Marks.{w_module}
 use Rattle.smv_expression_reader.specs.SecondPass.{has_next}
 use Rattle.smv_model_reader.specs.ProgramParts.{program_at, next_module, module_at}
 use Rattle.smv_expression_reader.proofs.ReadLaws.{each_viewed, each_end, each_spent, each_deep, each_none}
 use Rattle.smv_model_reader.proofs.sections.modules.Goals as goal
 use Rattle.base_values.proofs.ResultLaws.{same_fault}
+use Rattle.smv_expression_reader.specs.declared.mark.Mark.TheVariants as mark
 
 pub returns-then-not-is_next-clause-ok : goal.returns-then-not-is_next-clause-ok
 returns-then-not-is_next-clause-ok c =
-    each_end (has_next w_module) next_module (program_at c.args.cursor.now) (map module_tree c.loop-round.list) c.len-most.result c.loop-round.round c.loop-round.cursor c.loop-round.invariant c.loop-round-test.true
+    each_end (has_next mark.Module) next_module (program_at c.args.cursor.now) (map module_tree c.loop-round.list) c.len-most.result c.loop-round.round c.loop-round.cursor c.loop-round.invariant c.loop-round-test.true
     (sym c.is_next.ensures ∙ c.if-not-is_next.true)
 
 pub returns-in_err-module-clause-deep : goal.returns-in_err-module-clause-deep
 returns-in_err-module-clause-deep c = λ e.
     let exit = err_from_is_err_and c.from_residual.result c.from_residual.ensures.1 in
-    each_deep (has_next w_module) next_module (program_at c.args.cursor.now) (map module_tree c.loop-round.list) c.len-most.result c.loop-round.round c.loop-round.cursor c.loop-round.invariant c.loop-round-test.true
+    each_deep (has_next mark.Module) next_module (program_at c.args.cursor.now) (map module_tree c.loop-round.list) c.len-most.result c.loop-round.round c.loop-round.cursor c.loop-round.invariant c.loop-round-test.true
     (sym c.is_next.ensures ∙ c.if-not-is_next.false) (ap module_at (sym c.skip.ensures) ∙ c.module.ensures.deep (c.in_err-module.was ∙ ap Err (sym exit.2 ∙ same_fault (sym exit.1 ∙ e))))
 
 pub returns-in_err-module-clause-none : goal.returns-in_err-module-clause-none
 returns-in_err-module-clause-none c = λ e.
     let exit = err_from_is_err_and c.from_residual.result c.from_residual.ensures.1 in
-    each_none (has_next w_module) next_module (program_at c.args.cursor.now) (map module_tree c.loop-round.list) c.len-most.result c.loop-round.round c.loop-round.cursor c.loop-round.invariant c.loop-round-test.true
+    each_none (has_next mark.Module) next_module (program_at c.args.cursor.now) (map module_tree c.loop-round.list) c.len-most.result c.loop-round.round c.loop-round.cursor c.loop-round.invariant c.loop-round-test.true
     (sym c.is_next.ensures ∙ c.if-not-is_next.false) (ap module_at (sym c.skip.ensures) ∙ c.module.ensures.none (c.in_err-module.was ∙ ap Err (sym exit.2 ∙ same_fault (sym exit.1 ∙ e))))
 
 pub loop-round-preserved : goal.loop-round-preserved
 loop-round-preserved c =
-    each_viewed module_tree (has_next w_module) next_module (program_at c.args.cursor.now) c.loop-round.list c.push.new.self c.len-most.result c.loop-round.round c.loop-round.cursor c.module.new.cursor c.in_ok-module.field-0
+    each_viewed module_tree (has_next mark.Module) next_module (program_at c.args.cursor.now) c.loop-round.list c.push.new.self c.len-most.result c.loop-round.round c.loop-round.cursor c.module.new.cursor c.in_ok-module.field-0
     c.loop-round.invariant c.loop-round-test.true (sym c.is_next.ensures ∙ c.if-not-is_next.false) (ap module_at (sym c.skip.ensures) ∙ c.in_ok-module.ensures.ok) c.in_ok-push.ensures.ok
 
 pub returns-clause-ok : goal.returns-clause-ok
-returns-clause-ok c = each_spent (has_next w_module) next_module (program_at c.args.cursor.now) (map module_tree c.loop-round.list) c.len-most.result c.loop-round.round c.loop-round.cursor c.loop-round.invariant c.loop-round-test.false
+returns-clause-ok c = each_spent (has_next mark.Module) next_module (program_at c.args.cursor.now) (map module_tree c.loop-round.list) c.len-most.result c.loop-round.round c.loop-round.cursor c.loop-round.invariant c.loop-round-test.false

@@ -1,8 +1,8 @@
 use Rattle.std.proofs.Common.{◌≡◌, ◌-◌}
-use Rattle.smv_expression_reader.specs.Marks.{s_comma}
 use Rattle.smv_expression_reader.specs.SecondPass.{has_next, each_at, with_front}
 use Rattle.smv_model_reader.specs.ProgramParts.{names_at, next_name}
 use Rattle.smv_model_reader.proofs.sections.names.Given as goal
+use Rattle.smv_expression_reader.specs.declared.mark.Mark.TheVariants as mark
 
 abbrev pub invariant-loop-round : goal.invariant-loop-round
-invariant-loop-round l = names_at l.fn.cursor ≡ with_front l.names (each_at (has_next s_comma) next_name (l.most - l.round) l.cursor)
+invariant-loop-round l = names_at l.fn.cursor ≡ with_front l.names (each_at (has_next mark.Comma) next_name (l.most - l.round) l.cursor)

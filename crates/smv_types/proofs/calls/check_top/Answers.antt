@@ -1,7 +1,6 @@
 use Rattle.std.proofs.Common.{◌+◌, ◌∙◌, ap, sym, min}
 use Rattle.base_values.specs.declared.limits.TheConstants.{MOST_COST}
-use Rattle.smv_language.specs.ModelTree.{model_tree, flat_tree, leaf_of}
-use Rattle.smv_language.specs.ExpressionTree.{tree_of}
+use Rattle.smv_language.specs.Language.{model_tree, flat_tree, leaf_of, tree_of}
 use Rattle.smv_type_laws.proofs.Mapped.{cost_mapped}
 use Rattle.smv_types.proofs.CallLaws.{top_answered, top_kept, top_lies}
 use Rattle.smv_types.proofs.calls.check_top.Goals as goal

@@ -1,6 +1,5 @@
 use Rattle.std.proofs.Common.{◌∙◌, ap}
-use Rattle.smv_language.specs.ModelTree.{model_tree}
-use Rattle.smv_language.specs.ExpressionTree.{tree_of}
+use Rattle.smv_language.specs.Language.{model_tree, tree_of}
 use Rattle.smv_type_laws.specs.ExpressionKinds.{judge}
 use Rattle.smv_types.specs.Answers.{told}
 use Rattle.smv_types.specs.Names.{name_kind}

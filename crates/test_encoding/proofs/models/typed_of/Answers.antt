@@ -1,7 +1,6 @@
 use Rattle.std.proofs.Common.{arith, ◌<◌, ◌^◌, length, sym, subst}
-use Rattle.smv_language.specs.ProgramTree.{program_tree}
+use Rattle.smv_language.specs.Language.{program_tree, model_tree}
 use Rattle.smv_language.specs.declared.model.FlatModel.{FlatModel}
-use Rattle.smv_language.specs.ModelTree.{model_tree}
 use Rattle.sat_encoding_laws.specs.Encodable.{IsEncodable}
 use Rattle.sat_encoding_laws.proofs.FlatEncodable.{flat_models_encodable}
 use Rattle.smv_evaluation.specs.EvaluableModels.{IsEvaluable}

@@ -1,5 +1,5 @@
 use Rattle.std.proofs.Common.{rules}
 use Rattle.test_search.proofs.searches.ask.Goals as goal
 
-pub ask-requires-clause-can_assume : goal.ask-requires-clause-can_assume
-ask-requires-clause-can_assume g c = record { in_range = search rules; apart = c.has_no_opposites.ensures.0 c.if-not-has_no_opposites.false }
+pub ask-requires : goal.ask-requires
+ask-requires g c = record { can_assume = record { in_range = search rules; apart = c.has_no_opposites.ensures.0 c.if-not-has_no_opposites.false } }

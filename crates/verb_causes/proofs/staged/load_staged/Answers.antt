@@ -1,7 +1,6 @@
 use Rattle.std.proofs.Common.{Err, IsErrOf, sym, ap, map, ◌∙◌}
 use Rattle.std.proofs.lemmas.Result.{err_from_is_err_and}
-use Rattle.smv_language.specs.ProgramTree.{program_tree}
-use Rattle.smv_language.specs.ModelTree.{model_tree}
+use Rattle.smv_language.specs.Language.{program_tree, model_tree}
 use Rattle.fault_staging.specs.CauseOf.{cause_of}
 use Rattle.verb_loading.specs.LoadedCases.{case_of}
 use Rattle.verb_loading.proofs.LoadedLaws.{holds_case}

@@ -1,8 +1,7 @@
 use Rattle.std.proofs.Common.{sym, ap, map, subst, ◌∙◌}
 use Rattle.std.proofs.lemmas.List.{length-map}
 use Rattle.std.proofs.lemmas.Result.{err_from_is_err_and}
-use Rattle.smv_language.specs.Trace.{Each}
-use Rattle.smv_language.specs.ModelTree.{model_tree}
+use Rattle.smv_language.specs.Language.{Each, model_tree}
 use Rattle.smv_flat_laws.specs.FaultModes.{mode_of}
 use Rattle.smv_language.specs.declared.model.FlatModel.{FlatModel as Made}
 use Rattle.smv_flat_laws.specs.History.{with_history}

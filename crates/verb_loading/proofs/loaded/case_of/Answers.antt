@@ -1,8 +1,7 @@
 use Rattle.std.proofs.Common.{map, sym, subst, ◌∙◌}
 use Rattle.std.proofs.lemmas.Result.{err_from_is_err_and}
 use Rattle.fault_instructions.specs.Instructions.{instruction_tree}
-use Rattle.smv_language.specs.ProgramTree.{program_tree}
-use Rattle.smv_language.specs.ModelTree.{model_tree}
+use Rattle.smv_language.specs.Language.{program_tree, model_tree}
 use Rattle.fault_extend.specs.FirstRefusal.{KeepsRules, IsTold}
 use Rattle.fault_extend.specs.WovenFaults.{fault_tree}
 use Rattle.fault_extend.proofs.InstanceLaws.{instances_listed}

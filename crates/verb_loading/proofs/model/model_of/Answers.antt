@@ -1,7 +1,6 @@
 use Rattle.std.proofs.Common.{subst, sym, ◌∙◌}
 use Rattle.std.proofs.lemmas.Result.{err_from_is_err_and}
-use Rattle.smv_language.specs.ProgramTree.{program_tree}
-use Rattle.smv_language.specs.ModelTree.{model_tree}
+use Rattle.smv_language.specs.Language.{program_tree, model_tree}
 use Rattle.verb_loading.specs.Models.{IsModelText, IsModelOf, IsLawful, IsWrongModel, not_read, not_flat, not_typed}
 use Rattle.verb_loading.proofs.Told.{if_refused, named, of_kind}
 use Rattle.verb_loading.proofs.SpelledInVar.{spelled_in_var}

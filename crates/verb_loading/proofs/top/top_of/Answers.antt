@@ -1,8 +1,6 @@
 use Rattle.std.proofs.Common.{[], false, sym, subst}
 use Rattle.std.proofs.lemmas.Result.{err_from_is_err_and, IfOk-weaker, IfErr-weaker}
-use Rattle.smv_language.specs.ProgramTree.{program_tree}
-use Rattle.smv_language.specs.ExpressionTree.{tree_of}
-use Rattle.smv_language.specs.ModelTree.{flat_tree, model_tree}
+use Rattle.smv_language.specs.Language.{program_tree, tree_of, flat_tree, model_tree}
 use Rattle.smv_flat_laws.specs.ResolvedAt.{IsResolvedAt}
 use Rattle.smv_flat_laws.specs.Rules.{IsAccepted}
 use Rattle.smv_flat_laws.specs.Model.{IsFlatOf}
@@ -29,14 +27,30 @@ returns-in_err-judge_top-clause-wrong c =
     let text = c.in_ok-written.ensures.ok in
     rw (exit.1, exit.2) (refused_weaker (IsWrongTop p e 0) (IsWrongWord p c.args.bytes.now) (λ told bad. not_kept e text.short text.spelled text.depths bad) _ c.in_err-judge_top.ensures.wrong)
 
+pub scope_of-requires : goal.scope_of-requires
+scope_of-requires c = c.requires.lawful.accepted
+
+pub returns-in_err-scope-clause-wrong : goal.returns-in_err-scope-clause-wrong
+returns-in_err-scope-clause-wrong c =
+    let exit = err_from_is_err_and c.from_residual-in_err-scope.result c.from_residual-in_err-scope.ensures.1 in
+    let p = program_tree c.args.model.now.program in
+    rw (exit.1, exit.2) (refused_weaker (λ told. ⊥) (IsWrongWord p c.args.bytes.now) (λ told bad. absurd bad) _ c.in_err-scope.ensures.wrong)
+
+pub scope_of-2-requires : goal.scope_of-2-requires
+scope_of-2-requires c = subst IsAccepted (sym c.requires.loaded.program) c.requires.loaded.is_case.within.accepted
+
+pub returns-in_err-wide-clause-wrong : goal.returns-in_err-wide-clause-wrong
+returns-in_err-wide-clause-wrong c =
+    let exit = err_from_is_err_and c.from_residual-in_err-wide.result c.from_residual-in_err-wide.ensures.1 in
+    let p = program_tree c.args.model.now.program in
+    rw (exit.1, exit.2) (refused_weaker (λ told. ⊥) (IsWrongWord p c.args.bytes.now) (λ told bad. absurd bad) _ c.in_err-wide.ensures.wrong)
+
 pub over_extension-requires-clause-accepted : goal.over_extension-requires-clause-accepted
 over_extension-requires-clause-accepted c = subst IsAccepted (sym c.requires.loaded.program) c.requires.loaded.is_case.within.accepted
 
 pub over_extension-requires-clause-flat : goal.over_extension-requires-clause-flat
 over_extension-requires-clause-flat c =
-    let l = c.args.case.now in
-    subst (λ m. IsFlatOf (program_tree l.limited.woven.program) (model_tree m)) (sym c.model.ensures.model)
-    (subst (λ q. IsFlatOf q (model_tree l.limited.typed.model)) (sym c.requires.loaded.program) c.requires.loaded.is_case.is_flat.is)
+    subst (λ q. IsFlatOf q (model_tree c.args.case.now.limited.typed.model)) (sym c.requires.loaded.program) c.requires.loaded.is_case.is_flat.is
 
 pub over_extension-requires-clause-names : goal.over_extension-requires-clause-names
 over_extension-requires-clause-names c =
@@ -57,8 +71,8 @@ returns-clause-ok c =
     let e = tree_of c.in_ok-written.written in
     let l = c.args.case.now in
     IfOk-weaker c.over_extension.result
-    (λ made. IsResolvedAt (program_tree l.limited.woven.program) (model_tree c.model.result.now) [] e (flat_tree made))
+    (λ made. IsResolvedAt (program_tree l.limited.woven.program) (model_tree l.limited.typed.model) [] e (flat_tree made))
     (λ made. IsTopIn (case_of p l) c.args.bytes.now (flat_tree made))
     (λ made resolved. top_over (case_of p l) c.requires.loaded.is_case (model_tree c.args.model.now.typed.model) c.requires.lawful c.args.bytes.now e (flat_tree made) c.in_ok-written.ensures.ok c.in_ok-judge_top.ensures.ok
-    (subst (λ q. IsResolvedAt q (model_tree l.limited.typed.model) [] e (flat_tree made)) c.requires.loaded.program (subst (λ m. IsResolvedAt (program_tree l.limited.woven.program) (model_tree m) [] e (flat_tree made)) c.model.ensures.model resolved)))
+    (subst (λ q. IsResolvedAt q (model_tree l.limited.typed.model) [] e (flat_tree made)) c.requires.loaded.program resolved))
     c.over_extension.ensures.ok

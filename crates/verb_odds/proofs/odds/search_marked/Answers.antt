@@ -1,6 +1,5 @@
 use Rattle.std.proofs.Common.{arith, subst}
-use Rattle.smv_language.specs.ProgramTree.{program_tree}
-use Rattle.smv_language.specs.ModelTree.{flat_tree}
+use Rattle.smv_language.specs.Language.{program_tree, flat_tree}
 use Rattle.cut_model_search.specs.FaultyModels.{AnswersSearch}
 use Rattle.cut_model_search.proofs.Analysable.{case_few, case_searchable}
 use Rattle.verb_odds.proofs.FoundLaws.{sets_named, odds_found}

@@ -1,7 +1,6 @@
 use Rattle.std.proofs.Common.{◌≡◌, Err, IsErrOf, length, sym, ap, ◌∙◌, subst}
 use Rattle.std.proofs.lemmas.Result.{err_from_is_err_and}
-use Rattle.smv_language.specs.ProgramTree.{program_tree}
-use Rattle.smv_language.specs.ModelTree.{model_tree}
+use Rattle.smv_language.specs.Language.{program_tree, model_tree}
 use Rattle.sat_encoding_laws.specs.FlatTraces.{IsNumbered}
 use Rattle.smv_type_laws.specs.Models.{IsTyped}
 use Rattle.verb_command_line.specs.Sets.{numbers_of}

@@ -1,7 +1,6 @@
 use Rattle.std.specs.Prelude.{codes}
 use Rattle.std.specs.Fmt.{decimal}
-use Rattle.smv_language.specs.ModelTree.{model_tree}
-use Rattle.smv_language.specs.NumberedValues.{told_trace}
+use Rattle.smv_language.specs.Language.{model_tree, told_trace}
 use Rattle.verb_orders.specs.Orders.{either, traces_text}
 use Rattle.verb_orders.proofs.VerdictLaws.{appended}
 use Rattle.verb_orders.proofs.verdict.report_either.Goals as goal

@@ -1,8 +1,7 @@
 use Rattle.std.proofs.Common.{Err, IsErrOf, ◌++◌, sym, ap, ◌∙◌}
 use Rattle.std.specs.Prelude.{codes}
 use Rattle.std.proofs.lemmas.Result.{err_from_is_err_and}
-use Rattle.smv_language.specs.ProgramTree.{program_tree}
-use Rattle.smv_language.specs.ModelTree.{flat_tree}
+use Rattle.smv_language.specs.Language.{program_tree, flat_tree}
 use Rattle.cert_text.specs.CertificateView.{seen}
 use Rattle.cut_text_laws.specs.AnalysisText.{size_line}
 use Rattle.verb_loading.specs.LoadedEvents.{case_in}

@@ -1,7 +1,6 @@
 use Rattle.std.proofs.Common.{ap, subst, ◌∙◌}
 use Rattle.std.proofs.lemmas.Result.{IfOk-weaker}
-use Rattle.smv_language.specs.Text.{program_text}
-use Rattle.smv_language.specs.Bytes.{BytesSpellProgram}
+use Rattle.smv_language.specs.Language.{program_text, BytesSpellProgram}
 use Rattle.verb_run.proofs.make.model_text.Goals as goal
 
 pub returns-clause-text : goal.returns-clause-text

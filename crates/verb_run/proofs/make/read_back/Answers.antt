@@ -1,5 +1,4 @@
-use Rattle.smv_language.specs.ModelTree.{model_tree}
-use Rattle.smv_language.specs.ProgramTree.{program_tree}
+use Rattle.smv_language.specs.Language.{model_tree, program_tree}
 use Rattle.verb_run.proofs.GeneratedLaws.{text_of_generator}
 use Rattle.verb_run.proofs.make.read_back.Goals as goal
 

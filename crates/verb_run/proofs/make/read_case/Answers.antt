@@ -1,5 +1,4 @@
-use Rattle.smv_language.specs.ProgramTree.{program_tree}
-use Rattle.smv_language.specs.ModelTree.{model_tree}
+use Rattle.smv_language.specs.Language.{program_tree, model_tree}
 use Rattle.verb_loading.specs.Inputs.{IsWrongFaults}
 use Rattle.verb_run.proofs.GeneratedLaws.{refuses_none, instructions_length, case_not_wrong}
 use Rattle.verb_run.proofs.make.read_case.Goals as goal

@@ -1,6 +1,5 @@
 use Rattle.std.proofs.Common.{arith, length, ap, subst, ◌∙◌}
-use Rattle.smv_language.specs.ProgramTree.{program_tree}
-use Rattle.smv_language.specs.ModelTree.{flat_tree}
+use Rattle.smv_language.specs.Language.{program_tree, flat_tree}
 use Rattle.verb_run.specs.GeneratedCase.{dead_word}
 use Rattle.cut_model_search.specs.FaultyModels.{AnswersSearch}
 use Rattle.cut_model_search.proofs.Analysable.{case_few, case_searchable}

@@ -1,9 +1,8 @@
 use Rattle.std.proofs.Common.{◌≡◌, ◌++◌}
-use Rattle.smv_language.specs.ModelTree.{model_tree}
+use Rattle.smv_language.specs.Language.{model_tree, told_trace}
 use Rattle.smv_flat_laws.specs.FlatTrace.{stands_in_some}
 use Rattle.verb_run.proofs.NamingLaws.{named_from}
 use Rattle.verb_run.proofs.replay.append_failed.Given as goal
-use Rattle.smv_language.specs.NumberedValues.{told_trace}
 
 abbrev pub invariant-loop-i : goal.invariant-loop-i
 invariant-loop-i l =

@@ -1,5 +1,5 @@
 use Rattle.std.proofs.Common.{sym, subst, ◌-◌, ◌∙◌}
-use Rattle.smv_language.specs.ModelTree.{model_tree, flat_tree}
+use Rattle.smv_language.specs.Language.{model_tree, flat_tree, told_trace}
 use Rattle.smv_evaluation.specs.Stops.{Stops}
 use Rattle.smv_evaluation.specs.Replay.{IsReplayed}
 use Rattle.verb_loading.specs.declared.status.Why.TheVariants as why
@@ -7,7 +7,6 @@ use Rattle.verb_run.specs.Replays.{reason_of}
 use Rattle.verb_run.proofs.ReplayLemmas.{moment_told, as_many}
 use Rattle.verb_run.proofs.replay.judge_trace.Goals as goal
 use Rattle.base_values.proofs.ResultLaws.{same_fault}
-use Rattle.smv_language.specs.NumberedValues.{told_trace}
 
 pub replay-requires-clause-top : goal.replay-requires-clause-top
 replay-requires-clause-top c = record { own = c.requires.own; right = c.requires.kept }

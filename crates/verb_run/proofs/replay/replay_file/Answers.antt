@@ -1,7 +1,6 @@
 use Rattle.std.proofs.Common.{Err, IsErrOf, sym, ap, ◌∙◌}
 use Rattle.std.proofs.lemmas.Result.{err_from_is_err_and}
-use Rattle.smv_language.specs.ProgramTree.{program_tree}
-use Rattle.smv_language.specs.ModelTree.{flat_tree}
+use Rattle.smv_language.specs.Language.{program_tree, flat_tree}
 use Rattle.verb_loading.specs.declared.input.Stop.TheVariants as stop
 use Rattle.verb_loading.proofs.LoadedLaws.{loaded_printable, loaded_symbols, loaded_evaluable}
 use Rattle.verb_run.proofs.ReplayLemmas.{trace_refused, moment_refused, trace_reaches}

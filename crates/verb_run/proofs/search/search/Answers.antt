@@ -1,6 +1,5 @@
 use Rattle.std.proofs.Common.{arith, sym, subst}
-use Rattle.smv_language.specs.ProgramTree.{program_tree}
-use Rattle.smv_language.specs.ModelTree.{flat_tree}
+use Rattle.smv_language.specs.Language.{program_tree, flat_tree}
 use Rattle.cut_model_search.specs.Certifiable.{IsCertifiable}
 use Rattle.cut_model_search.specs.FaultyModels.{faulty_case, AnswersSearch}
 use Rattle.cut_model_search.specs.Reports.{IsReported}

@@ -1,6 +1,5 @@
 use Rattle.std.proofs.Common.{arith, sym, ap, subst, ◌∙◌}
-use Rattle.smv_language.specs.ProgramTree.{program_tree}
-use Rattle.smv_language.specs.ModelTree.{flat_tree}
+use Rattle.smv_language.specs.Language.{program_tree, flat_tree}
 use Rattle.cut_model_search.specs.FaultyModels.{whole_in, AnswersSearch}
 use Rattle.sat_encoding_laws.specs.Lists.{system_of}
 use Rattle.verb_run.proofs.TopEvents.{few_in_case, event_searchable}

@@ -1,11 +1,9 @@
 use Rattle.std.proofs.Common.{arith, map, sym, ◌∙◌, subst}
-use Rattle.smv_language.specs.ProgramTree.{Formula}
-use Rattle.smv_language.specs.ModelTree.{flat_tree}
+use Rattle.smv_language.specs.Language.{Formula, flat_tree, EachBoth}
 use Rattle.verb_run.specs.Tables.{IsEventOf, IsColumn, tabulated_case, tabulated_events}
 use Rattle.verb_run.proofs.TableLemmas.{first_at, both_next, both_whole}
 use Rattle.verb_run.proofs.Columns.{columns_of_events}
 use Rattle.verb_run.proofs.tops.columns_in.Goals as goal
-use Rattle.smv_language.specs.Trace.{EachBoth}
 
 pub column_of-requires-clause-event : goal.column_of-requires-clause-event
 column_of-requires-clause-event g c =

@@ -1,9 +1,7 @@
 use Rattle.std.proofs.Common.{◌≡◌, take}
-use Rattle.smv_language.specs.ProgramTree.{Formula}
-use Rattle.smv_language.specs.ModelTree.{flat_tree}
+use Rattle.smv_language.specs.Language.{Formula, flat_tree, EachBoth}
 use Rattle.verb_run.specs.Tables.{IsEventOf, IsColumn, tabulated_case}
 use Rattle.verb_run.proofs.tops.columns_in.Given as goal
-use Rattle.smv_language.specs.Trace.{EachBoth}
 
 abbrev pub invariant-loop-top : goal.invariant-loop-top
 invariant-loop-top g l = record {

@@ -1,7 +1,6 @@
 use Rattle.std.proofs.Common.{◌≡◌, [], ◌∷◌, List, Bool, true, false, arith, map, length, ◌<◌, ◌∙◌, refl, sym, ap, subst, eqb-true}
 use Rattle.std.specs.Prelude.{nat_eq}
-use Rattle.smv_language.specs.ProgramTree.{program_tree}
-use Rattle.smv_language.specs.ModelTree.{flat_tree}
+use Rattle.smv_language.specs.Language.{program_tree, flat_tree, EachBoth}
 use Rattle.sat_encoding_laws.specs.Lists.{system_of}
 use Rattle.cut_model_search.specs.FaultyModels.{whole_in}
 use Rattle.verb_run.specs.Tables.{AreColumns, IsEventOf, tabulated_case, tabulated_events}
@@ -9,7 +8,6 @@ use Rattle.verb_run.proofs.TableLemmas.{first_at}
 use Rattle.verb_run.proofs.TopEvents.{event_searchable}
 use Rattle.verb_run.proofs.Columns.{columns_of_events}
 use Rattle.verb_run.proofs.tops.columns_of.Goals as goal
-use Rattle.smv_language.specs.Trace.{EachBoth}
 
 none_there : {A : Type 0} (xs : List A) → length xs ≡ 0 → xs ≡ []
 none_there [] none = refl

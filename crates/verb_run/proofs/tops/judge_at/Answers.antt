@@ -1,5 +1,4 @@
-use Rattle.smv_language.specs.ProgramTree.{program_tree}
-use Rattle.smv_language.specs.ExpressionTree.{tree_of}
+use Rattle.smv_language.specs.Language.{program_tree, tree_of}
 use Rattle.verb_run.proofs.TableLemmas.{refused_at}
 use Rattle.verb_run.proofs.tops.judge_at.Goals as goal
 

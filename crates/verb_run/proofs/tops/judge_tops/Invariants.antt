@@ -1,6 +1,5 @@
 use Rattle.std.proofs.Common.{map}
-use Rattle.smv_language.specs.ProgramTree.{program_tree}
-use Rattle.smv_language.specs.ExpressionTree.{tree_of}
+use Rattle.smv_language.specs.Language.{program_tree, tree_of}
 use Rattle.verb_loading.specs.Cases.{IsTop}
 use Rattle.verb_run.proofs.TableLemmas.{AreBefore}
 use Rattle.verb_run.proofs.tops.judge_tops.Given as goal

@@ -1,8 +1,6 @@
 use Rattle.std.proofs.Common.{Err, IfSome, IsErrOf, map, sym, ap, subst, ◌∙◌}
 use Rattle.std.proofs.lemmas.Result.{err_from_is_err_and}
-use Rattle.smv_language.specs.ProgramTree.{program_tree}
-use Rattle.smv_language.specs.ExpressionTree.{tree_of}
-use Rattle.smv_language.specs.ModelTree.{model_tree}
+use Rattle.smv_language.specs.Language.{program_tree, tree_of, model_tree}
 use Rattle.verb_loading.specs.Cases.{HoldsTops}
 use Rattle.verb_loading.specs.LoadedCases.{case_of}
 use Rattle.verb_loading.specs.declared.input.Stop.TheVariants as stop

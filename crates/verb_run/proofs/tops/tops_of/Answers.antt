@@ -2,10 +2,7 @@ use Rattle.std.proofs.Common.{[], ◌≤◌, length, false, map, sym, subst}
 use Rattle.std.proofs.lemmas.Result.{err_from_is_err_and}
 use Rattle.std.proofs.lemmas.List.{length-map}
 use Rattle.base_values.specs.declared.limits.TheConstants.{MOST_TOPS}
-use Rattle.smv_language.specs.ProgramTree.{program_tree}
-use Rattle.smv_language.specs.Trace.{Each, EachBoth}
-use Rattle.smv_language.specs.ExpressionTree.{tree_of}
-use Rattle.smv_language.specs.ModelTree.{flat_tree, model_tree}
+use Rattle.smv_language.specs.Language.{program_tree, Each, EachBoth, tree_of, flat_tree, model_tree}
 use Rattle.smv_flat_laws.specs.Model.{IsFlatOf}
 use Rattle.smv_flat_laws.specs.ResolvedAt.{IsResolvedAt}
 use Rattle.smv_flat_laws.specs.Rules.{IsAccepted}

@@ -1,8 +1,7 @@
 use Rattle.std.proofs.Common.{Err, IsErrOf, sym, ap, subst, ◌∙◌}
 use Rattle.std.proofs.lemmas.Result.{err_from_is_err_and}
-use Rattle.smv_language.specs.ModelTree.{model_tree}
+use Rattle.smv_language.specs.Language.{model_tree, told_trace}
 use Rattle.cut_text_laws.specs.TraceOfText.{BytesGive}
-use Rattle.smv_language.specs.NumberedValues.{told_trace}
 use Rattle.cut_report.specs.Faults.{IsFaultOf}
 use Rattle.verb_loading.specs.declared.input.Stop.TheVariants as stop
 use Rattle.verb_run.proofs.ReplayLemmas.{refuses_trace_file, refuses_trace_text, holds_trace}

@@ -1,7 +1,6 @@
 use Rattle.std.proofs.Common.{Err, IsErrOf, sym, ap, ◌∙◌}
 use Rattle.std.proofs.lemmas.Result.{err_from_is_err_and, IfOk-weaker}
-use Rattle.smv_language.specs.ProgramTree.{program_tree}
-use Rattle.smv_language.specs.ModelTree.{flat_tree}
+use Rattle.smv_language.specs.Language.{program_tree, flat_tree}
 use Rattle.verb_loading.specs.LoadedCases.{case_of}
 use Rattle.verb_run.specs.Runs.{refuses, says}
 use Rattle.verb_loading.specs.declared.input.Stop.TheVariants as stop

@@ -1,7 +1,5 @@
 use Rattle.std.proofs.Common.{◌≡◌, [], length, map, sym, ap, subst, ◌∙◌, eqb-true}
-use Rattle.smv_language.specs.ProgramTree.{program_tree}
-use Rattle.smv_language.specs.Trace.{EachBoth}
-use Rattle.smv_language.specs.ModelTree.{flat_tree}
+use Rattle.smv_language.specs.Language.{program_tree, EachBoth, flat_tree}
 use Rattle.verb_loading.specs.declared.status.Status.TheVariants as status
 use Rattle.sat_encoding_laws.specs.Lists.{system_of}
 use Rattle.cut_model_search.specs.FaultyModels.{whole_in}

@@ -1,6 +1,5 @@
 use Rattle.std.proofs.Common.{arith, ◌≡◌, ◌+◌, length, map, take, sym, subst, ◌∙◌}
-use Rattle.smv_language.specs.Trace.{EachBoth}
-use Rattle.smv_language.specs.ModelTree.{flat_tree}
+use Rattle.smv_language.specs.Language.{EachBoth, flat_tree}
 use Rattle.verb_run.specs.Tables.{IsEventOf}
 use Rattle.verb_tops.specs.Each.{HasReported}
 use Rattle.verb_tops.specs.Work.{case_of_asked, events_of_asked, size_of_asked}

@@ -13,14 +13,14 @@ use Rattle.cut_frames.proofs.GuardedLaws.{asks}
 use Rattle.cut_frames.proofs.GuardedVerdicts.{tells_sat, tells_unsat, asked_up_to, asked_apart}
 use Rattle.cut_frames.proofs.guarded.Guarded.ask.Goals as goal
 
-pub ask-requires-clause-can_assume : goal.ask-requires-clause-can_assume
-ask-requires-clause-can_assume g c =
+pub ask-requires : goal.ask-requires
+ask-requires g c =
     let s = c.args.self.now in
     let under : c.as_slice.result.now ≡ asked_guards s c.args.beside c.args.frame ++ c.args.assumptions.now = grind (arith, common_steps) in
-    record {
+    record { can_assume = record {
       in_range = subst (All (IsUpTo s.search.kept.vars)) (sym under) (asked_up_to s c.args.beside c.args.frame c.args.assumptions.now c.requires.well c.requires.frame c.requires.up_to);
       apart = subst HasNoOpposites (sym under) (asked_apart s c.args.beside c.args.frame c.args.assumptions.now c.requires.well c.requires.frame c.requires.up_to c.requires.apart);
-    }
+    } }
 
 pub returns-in-Sat-clause-asked : goal.returns-in-Sat-clause-asked
 returns-in-Sat-clause-asked g c =

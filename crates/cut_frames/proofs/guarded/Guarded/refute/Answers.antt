@@ -13,14 +13,14 @@ use Rattle.cut_frames.proofs.PartLemmas.{some_of}
 use Rattle.cut_frames.proofs.GuardedVerdicts.{tells_unsat, asked_up_to, asked_apart}
 use Rattle.cut_frames.proofs.guarded.Guarded.refute.Goals as goal
 
-pub refute-requires-clause-can_assume : goal.refute-requires-clause-can_assume
-refute-requires-clause-can_assume g c =
+pub refute-requires : goal.refute-requires
+refute-requires g c =
     let s = c.args.self.now in
     let under : c.as_slice.result.now ≡ asked_guards s c.args.beside c.args.frame ++ c.args.assumptions.now = grind (arith, common_steps) in
-    record {
+    record { can_assume = record {
       in_range = subst (All (IsUpTo s.search.kept.vars)) (sym under) (asked_up_to s c.args.beside c.args.frame c.args.assumptions.now c.requires.well c.requires.frame c.requires.up_to);
       apart = subst HasNoOpposites (sym under) (asked_apart s c.args.beside c.args.frame c.args.assumptions.now c.requires.well c.requires.frame c.requires.up_to c.requires.apart);
-    }
+    } }
 
 pub returns-in-None-clause-asked : goal.returns-in-None-clause-asked
 returns-in-None-clause-asked g c =

@@ -1,6 +1,5 @@
 use Rattle.std.proofs.Common.{◌≡◌, length, sym, ap, ◌∙◌, subst, arith}
-use Rattle.smv_language.specs.ModelTree.{model_tree, flat_tree}
-use Rattle.smv_language.specs.Flat.{FlatModel}
+use Rattle.smv_language.specs.Language.{model_tree, flat_tree, FlatModel}
 use Rattle.sat_encoding_laws.specs.Encodable.{IsEncodable, IsFitTop}
 use Rattle.cut_model_search.specs.FaultyModels.{flat_in, modes_in, whole_in}
 use Rattle.cut_model_search.proofs.BadLists.{faults_within, bad_is}

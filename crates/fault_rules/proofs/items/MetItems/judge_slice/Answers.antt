@@ -1,7 +1,5 @@
 use Rattle.std.proofs.Common.{◌≡◌, ◌∙◌, sym, ap, Some}
-use Rattle.smv_language.specs.ProgramTree.{program_tree, declared_tree}
-use Rattle.smv_language.specs.Texts.{is_among}
-use Rattle.smv_language.specs.Scope.{find_module}
+use Rattle.smv_language.specs.Language.{program_tree, declared_tree, is_among, find_module}
 use Rattle.fault_instructions.specs.Instructions.{slice_tree}
 use Rattle.fault_rules.specs.Sites.{owned}
 use Rattle.fault_rules.specs.Rules.{target_kind, hides_symbol}

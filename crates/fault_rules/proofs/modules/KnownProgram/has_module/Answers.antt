@@ -1,11 +1,9 @@
 use Rattle.std.proofs.Common.{◌∙◌, sym, ap, is_some}
-use Rattle.smv_language.specs.ProgramTree.{program_tree}
+use Rattle.smv_language.specs.Language.{program_tree, first_with, opposite}
 use Rattle.fault_rules.specs.Locals.{locals_in, scopes_in}
 use Rattle.fault_rules.proofs.KeyedLaws.{has_key}
 use Rattle.fault_rules.proofs.LocalLaws.{missing_is}
 use Rattle.fault_rules.proofs.modules.KnownProgram.has_module.Goals as goal
-use Rattle.smv_language.specs.Texts.{first_with}
-use Rattle.smv_language.specs.Values.{opposite}
 
 pub returns : goal.returns
 returns c =

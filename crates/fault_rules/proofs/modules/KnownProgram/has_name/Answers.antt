@@ -1,6 +1,5 @@
 use Rattle.std.proofs.Common.{◌∙◌, ap}
-use Rattle.smv_language.specs.ProgramTree.{program_tree}
-use Rattle.smv_language.specs.Texts.{is_among}
+use Rattle.smv_language.specs.Language.{program_tree, is_among}
 use Rattle.fault_rules.proofs.LocalLaws.{program_has}
 use Rattle.fault_rules.proofs.modules.KnownProgram.has_name.Goals as goal
 

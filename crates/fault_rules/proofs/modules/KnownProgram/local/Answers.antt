@@ -1,11 +1,10 @@
 use Rattle.std.proofs.Common.{◌∙◌, sym, ap}
 use Rattle.std.specs.Prelude.{option_map}
 use Rattle.std.specs.Option.{option_copied}
-use Rattle.smv_language.specs.ProgramTree.{program_tree}
+use Rattle.smv_language.specs.Language.{program_tree, first_with}
 use Rattle.fault_rules.specs.Locals.{locals_in, local_in}
 use Rattle.fault_rules.proofs.LocalLaws.{local_there}
 use Rattle.fault_rules.proofs.modules.KnownProgram.local.Goals as goal
-use Rattle.smv_language.specs.Texts.{first_with}
 
 pub returns-in-Some : goal.returns-in-Some
 returns-in-Some c =

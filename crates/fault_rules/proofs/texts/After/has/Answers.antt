@@ -1,7 +1,6 @@
 use Rattle.std.proofs.Common.{List, Some, ◌++◌, refl, sym, ◌∙◌, ap}
 use Rattle.std.specs.Prelude.{codes}
-use Rattle.smv_language.specs.ProgramTree.{Text}
-use Rattle.smv_language.specs.Texts.{is_among}
+use Rattle.smv_language.specs.Language.{Text, is_among}
 use Rattle.fault_rules.specs.Steps.{is_end_of, walk_on}
 use Rattle.fault_rules.proofs.StepLaws.{ends_have, walk_more}
 use Rattle.fault_rules.proofs.texts.After.has.Goals as goal

@@ -1,6 +1,5 @@
 use Rattle.std.proofs.Common.{arith, ◌∙◌, ap, map}
-use Rattle.smv_language.specs.Tree.{branches_height, branches_from}
-use Rattle.smv_language.specs.ExpressionTree.{branch_trees}
+use Rattle.smv_language.specs.Language.{branches_height, branches_from, branch_trees}
 use Rattle.smv_expression_reader.proofs.Heights.{branch_height}
 use Rattle.smv_expression_reader.proofs.grown.GrownBranches.with.Goals as goal
 

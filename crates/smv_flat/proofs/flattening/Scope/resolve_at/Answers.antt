@@ -1,9 +1,6 @@
 -- The tables are those of the scope's program.
 use Rattle.std.proofs.Common.{IfOk, IfErr, OnOk, subst}
-use Rattle.smv_language.specs.ProgramTree.{ProgramTree}
-use Rattle.smv_language.specs.ExpressionTree.{tree_of}
-use Rattle.smv_language.specs.Flat.{FlatInstance}
-use Rattle.smv_language.specs.ModelTree.{model_tree, flat_tree}
+use Rattle.smv_language.specs.Language.{ProgramTree, tree_of, FlatInstance, model_tree, flat_tree}
 use Rattle.smv_flat_laws.specs.ResolvedAt.{IsResolvedAt}
 use Rattle.smv_flat.specs.ResolvedAt.{IsAt, IsValueFault}
 use Rattle.smv_flat.proofs.flattening.Scope.resolve_at.Goals as goal

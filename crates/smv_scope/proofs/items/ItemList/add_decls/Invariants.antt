@@ -1,8 +1,7 @@
 -- The items so far, with those that are left, are all.
 use Rattle.std.proofs.Common.{◌≡◌, map, drop}
-use Rattle.smv_language.specs.ProgramTree.{decl_tree}
+use Rattle.smv_language.specs.Language.{decl_tree, role_of}
 use Rattle.smv_flat_laws.specs.Items.{a_declaration}
-use Rattle.smv_language.specs.ModelTree.{role_of}
 use Rattle.smv_scope.specs.ItemTree.{counted_of, with_items}
 use Rattle.smv_scope.proofs.items.ItemList.add_decls.Given as goal
 

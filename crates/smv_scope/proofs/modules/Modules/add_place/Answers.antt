@@ -1,7 +1,6 @@
 -- A module whose name has a place is there already.
 use Rattle.std.proofs.Common.{rules, ◌≡◌, true, false, ◌&&◌, ◌++◌, ◌∷◌, [], codes, length, List, ap, ◌∙◌, sym}
-use Rattle.smv_language.specs.ProgramTree.{Text, ModuleTree, module_tree}
-use Rattle.smv_language.specs.Texts.{same_text, is_among}
+use Rattle.smv_language.specs.Language.{Text, ModuleTree, module_tree, same_text, is_among}
 use Rattle.smv_flat_laws.specs.Rules.{has_formals, is_module_among}
 use Rattle.smv_scope.specs.ModuleFaults.{trees_read, texts_of}
 use Rattle.smv_scope.specs.SceneTree.{named}

@@ -2,8 +2,7 @@
 use Rattle.std.proofs.Common.{rules, ◌≡◌, ◌<◌, ◌∙◌, Some, None, length, ap, sym, subst}
 use Rattle.std.specs.Prelude.{slice_get}
 use Rattle.std.proofs.lemmas.Option.{slice_get-get_or, slice_get_within as get_less}
-use Rattle.smv_language.specs.ProgramTree.{Text, program_tree}
-use Rattle.smv_language.specs.Scope.{find_module}
+use Rattle.smv_language.specs.Language.{Text, program_tree, find_module}
 use Rattle.smv_scope.specs.declared.modules.ModuleNames.{ModuleNames}
 use Rattle.smv_scope.specs.ModuleFaults.{IsModuleAt}
 use Rattle.smv_scope.proofs.FoundModule.{not_found, listed, found}

@@ -1,7 +1,6 @@
 -- The actuals of an instance.
 use Rattle.std.proofs.Common.{◌≡◌, map, rules, ap, sym, subst, ◌∙◌}
-use Rattle.smv_language.specs.ProgramTree.{instance, decl_tree, declared_tree}
-use Rattle.smv_language.specs.ExpressionTree.{tree_of}
+use Rattle.smv_language.specs.Language.{instance, decl_tree, declared_tree, tree_of}
 use Rattle.smv_scope.specs.NumberedScenes.{NamesDeclared}
 use Rattle.smv_scope.proofs.NamingItems.{instance_named}
 use Rattle.smv_scope.proofs.names.Scene.add_declared.Goals as goal

@@ -1,8 +1,7 @@
 -- An item means what it is numbered as.
 use Rattle.std.proofs.Common.{◌≡◌, None, refl, sym, ap, rules}
-use Rattle.smv_language.specs.ProgramTree.{decl_tree, define_tree}
+use Rattle.smv_language.specs.Language.{decl_tree, define_tree, role_of}
 use Rattle.smv_scope.specs.ItemTree.{item_tree}
-use Rattle.smv_language.specs.ModelTree.{role_of}
 use Rattle.smv_scope.specs.Steps.{numbered_at}
 use Rattle.smv_scope.proofs.Naming.{same_start}
 use Rattle.smv_scope.proofs.NamingItems.{define_named, declared_named, other_named, no_item_named, no_names}

@@ -1,8 +1,6 @@
 -- The look-up of a formal begins at its actual.
 use Rattle.std.proofs.Common.{◌≡◌, ◌<◌, ◌≤◌, arith, Some, None, length, get_or, rules, refl, sym, ◌∙◌, ap, subst}
-use Rattle.smv_language.specs.ProgramTree.{Path}
-use Rattle.smv_language.specs.ExpressionTree.{tree_of}
-use Rattle.smv_language.specs.Scope.{plain_name}
+use Rattle.smv_language.specs.Language.{Path, tree_of, plain_name}
 use Rattle.smv_scope.proofs.Frames.{frame_made}
 use Rattle.smv_scope.proofs.Actuals.{spot_within, own_within, own_plain}
 use Rattle.smv_scope.proofs.names.Scene.frame_of.Goals as goal

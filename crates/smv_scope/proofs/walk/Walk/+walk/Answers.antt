@@ -3,9 +3,8 @@ use Rattle.std.proofs.Common.{rules, ◌≡◌, ◌<◌, ◌+◌, ◌-◌, ◌*�
 use Rattle.std.specs.Prelude.{slice_get}
 use Rattle.std.proofs.lemmas.List.{length-append, length-map}
 use Rattle.std.proofs.lemmas.Option.{slice_get-get_or, slice_get_within as get_less}
-use Rattle.smv_language.specs.ProgramTree.{Text, Path, instance, declared_tree}
+use Rattle.smv_language.specs.Language.{Text, Path, instance, declared_tree, tree_of, role_of}
 use Rattle.smv_language.specs.declared.expr.Expr.{Expr}
-use Rattle.smv_language.specs.ExpressionTree.{tree_of}
 use Rattle.smv_scope.specs.declared.items.Numbered.{Numbered}
 use Rattle.smv_scope.specs.declared.modules.Modules.{Modules}
 use Rattle.smv_scope.specs.declared.modules.ModuleNames.{ModuleNames}
@@ -13,7 +12,6 @@ use Rattle.smv_scope.specs.declared.walk.Spot.{Spot}
 use Rattle.smv_scope.specs.declared.walk.Walk.{Walk}
 use Rattle.smv_scope.specs.declared.walk.Meaning.{Meaning as Found}
 use Rattle.smv_scope.specs.ItemTree.{numbered_tree}
-use Rattle.smv_language.specs.ModelTree.{role_of}
 use Rattle.smv_scope.specs.ModuleFaults.{IsTold}
 use Rattle.smv_scope.specs.InstanceWalk.{program_in, on_path_of, visits_at, visits_here, visits_within, visits_told, told_from, instance_told, declared_item, HasMet, IsEntry, IsStanding}
 use Rattle.smv_scope.proofs.PassedOn.{passed_on}

@@ -1,8 +1,7 @@
 -- One outer module more.
 use Rattle.std.proofs.Common.{rules, ◌≡◌, ◌<◌, List, Bor, ℕ, true, false, length, get_or, ap, ◌∙◌, sym, subst}
 use Rattle.std.proofs.lemmas.List.{drop_all}
-use Rattle.smv_language.specs.Texts.{same_text, is_among}
-use Rattle.smv_language.specs.BorrowedTexts.{texts}
+use Rattle.smv_language.specs.Language.{same_text, is_among, texts}
 use Rattle.smv_scope.proofs.HeaderLaws.{same_test}
 use Rattle.smv_scope.proofs.PathLaws.{among_reverse, outer_same, outer_other}
 use Rattle.smv_scope.proofs.walk.Walk.is_inside.Goals as goal

@@ -1,7 +1,6 @@
 -- What is left of the path has the name where all of it has.
 use Rattle.std.proofs.Common.{◌≡◌, drop}
-use Rattle.smv_language.specs.Texts.{is_among}
-use Rattle.smv_language.specs.BorrowedTexts.{texts}
+use Rattle.smv_language.specs.Language.{is_among, texts}
 use Rattle.smv_scope.proofs.walk.Walk.is_inside.Given as goal
 
 abbrev pub invariant-loop-outer : goal.invariant-loop-outer

@@ -1,6 +1,5 @@
 use Rattle.std.proofs.Common.{◌∙◌, ap, not, refl, sym, subst}
-use Rattle.smv_language.specs.Texts.{is_among}
-use Rattle.smv_language.specs.BorrowedTexts.{texts}
+use Rattle.smv_language.specs.Language.{is_among, texts}
 use Rattle.smv_types.specs.MemberTests.{has_met, AddsMember}
 use Rattle.smv_types.specs.declared.members.MetMembers.{MetMembers}
 use Rattle.smv_types.proofs.MetLaws.{symbol_added}
