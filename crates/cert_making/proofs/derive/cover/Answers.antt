@@ -12,10 +12,12 @@ ask-requires g c =
     let is : c.as_slice.result.now ≡ asked c.args.search.now.kept.vars c.at.result.now =
     c.as_slice.ensures.value ∙ c.in_ok-assumed.ensures ∙ ap (λ n. asked n c.lits.result.now) (c.args.part.now.highest ∙ sym c.requires.before.vars) ∙ ap (asked c.args.search.now.kept.vars) c.lits.ensures in
     let can = can_be_asked c.args.part.now.givens.now c.args.part.now.goals.now c.args.place c.at.result.now c.args.search.now.kept c.args.search.now.recorder c.args.part.now.small c.args.part.now.follow c.args.part.now.apart c.at.ensures c.requires.before in
-    record { can_assume = record {
-      in_range = subst (All (IsUpTo c.args.search.now.kept.vars)) (sym is) can.assumptions_in_range;
-      apart = subst HasNoOpposites (sym is) can.apart;
-    } }
+    record {
+      can_assume = record {
+        in_range = subst (All (IsUpTo c.args.search.now.kept.vars)) (sym is) can.assumptions_in_range;
+        apart = subst HasNoOpposites (sym is) can.apart;
+      };
+    }
 
 pub returns-clause-way : goal.returns-clause-way
 returns-clause-way g c =

@@ -7,10 +7,12 @@ use Rattle.cut_search.proofs.search.look.Goals as goal
 use Rattle.cut_search.proofs.SearchLemmas.{lawful_path, found_path, looks_along}
 
 pub clear-requires : goal.clear-requires
-clear-requires g c = record { history = record {
-  over_bits = subst (λ s. IsOverBits s c.history.result.now) (sym c.requires.system) c.history.ensures.over_bits;
-  positive = c.history.ensures.positive;
-} }
+clear-requires g c = record {
+  history = record {
+    over_bits = subst (λ s. IsOverBits s c.history.result.now) (sym c.requires.system) c.history.ensures.over_bits;
+    positive = c.history.ensures.positive;
+  };
+}
 
 pub show-requires-clause-lawful : goal.show-requires-clause-lawful
 show-requires-clause-lawful g c =

@@ -17,10 +17,12 @@ pub ask-requires : goal.ask-requires
 ask-requires g c =
     let s = c.args.self.now in
     let under : c.as_slice.result.now ≡ asked_guards s c.args.beside c.args.frame ++ c.args.assumptions.now = grind (arith, common_steps) in
-    record { can_assume = record {
-      in_range = subst (All (IsUpTo s.search.kept.vars)) (sym under) (asked_up_to s c.args.beside c.args.frame c.args.assumptions.now c.requires.well c.requires.frame c.requires.up_to);
-      apart = subst HasNoOpposites (sym under) (asked_apart s c.args.beside c.args.frame c.args.assumptions.now c.requires.well c.requires.frame c.requires.up_to c.requires.apart);
-    } }
+    record {
+      can_assume = record {
+        in_range = subst (All (IsUpTo s.search.kept.vars)) (sym under) (asked_up_to s c.args.beside c.args.frame c.args.assumptions.now c.requires.well c.requires.frame c.requires.up_to);
+        apart = subst HasNoOpposites (sym under) (asked_apart s c.args.beside c.args.frame c.args.assumptions.now c.requires.well c.requires.frame c.requires.up_to c.requires.apart);
+      };
+    }
 
 pub returns-in-Sat-clause-asked : goal.returns-in-Sat-clause-asked
 returns-in-Sat-clause-asked g c =
