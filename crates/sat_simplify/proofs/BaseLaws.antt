@@ -28,7 +28,10 @@ becomes_all a b c f g = record {
   simpler = simpler_all a.places a.slots.items b.slots.items c.slots.items f.simpler (subst (λ n. IsSimpler n b.slots.items c.slots.items) f.places g.simpler);
 }
 
--- clauses are added one by one
+-- clauses are added one by one, or one if there is one
+pub adds_some : (a b : Base) (c : List Literal) → Adds a b c → AddsAll a b (c ∷ [])
+adds_some a b c f = record { sound = f.sound; places = f.places; slots = f.slots }
+
 pub adds_none : (b : Base) → IsSound b → AddsAll b b []
 adds_none b sound = record { sound = sound; places = refl; slots = sym (append-nil b.slots.items) }
 

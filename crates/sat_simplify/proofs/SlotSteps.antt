@@ -5,7 +5,8 @@ use Rattle.std.proofs.lemmas.List.{set_past, set-get_or, append-nil, take_all, t
 use Rattle.std.proofs.lemmas.List.Sums.{fold_more}
 use Rattle.sat_clauses.specs.Literal.{Literal}
 use Rattle.std.specs.Option.{option_to_list}
-use Rattle.sat_simplify.specs.Slots.{Slot, standing}
+use Rattle.std.specs.List.{filter}
+use Rattle.sat_simplify.specs.Slots.{Slot, standing, has_clause}
 use Rattle.sat_simplify.specs.Resolution.{has_literal, subsumes, each_once, resolvent}
 use Rattle.sat_simplify.specs.Elimination.{unless_tautology, resolvents_with, resolvents}
 use Rattle.sat_simplify.specs.Changes.{slot_at, changed_at, changed, slot_has, dropped, covered, slot_covered, picked, gathered, entered}
@@ -68,6 +69,12 @@ entered_more c d list i now next lt is e once step =
 pub standing_more : (o : Slot) (slots : List Slot) (i : ℕ) (now next : List (List Literal)) → i < length slots → o ≡ get_or slots i o → now ≡ standing (take i slots) → next ≡ now ++ option_to_list o → next ≡ standing (take (i + 1) slots)
 standing_more o slots i now next lt is e step =
     step ∙ (ap (λ r. r ++ option_to_list o) e ∙ (flat_map_more option_to_list [] (take i slots) o ∙ ap standing (ap (λ x. take i slots ++ x ∷ []) is ∙ sym (take_more slots i o lt))))
+
+-- slots without a clause go
+pub closed_up : (slots : List Slot) → standing (filter has_clause slots) ≡ standing slots
+closed_up [] = refl
+closed_up (None ∷ slots) = closed_up slots
+closed_up (Some c ∷ slots) = ap (λ cs. c ∷ cs) (closed_up slots)
 
 pub ruleset dropped_rules = (changed_past, changed_same, changed_to, dropped_has, dropped_lacks)
 

@@ -1,5 +1,5 @@
 -- The slots of a clause base: each has a clause, or none once that was taken out.
-use Rattle.std.specs.Prelude.{◌≡◌, ℕ, ◌≤◌, Bool, true, IsTrue, List, [], Option, Some, None, All, Contains, slice_get, slice_index_or}
+use Rattle.std.specs.Prelude.{◌≡◌, ℕ, ◌≤◌, Bool, true, false, IsTrue, List, [], Option, Some, None, All, Contains, slice_get, slice_index_or}
 use Rattle.std.specs.List.{flat_map}
 use Rattle.std.specs.Option.{option_to_list}
 use Rattle.sat_clauses.specs.Literal.{Literal}
@@ -9,6 +9,11 @@ use Rattle.sat_clauses.specs.Models.{TotalAssignment, clause_value}
 -- a clause, or none
 abbrev pub Slot : Type 0
 Slot = Option (List Literal)
+
+-- whether a clause stands there
+abbrev pub has_clause : Slot → Bool
+has_clause None = false
+has_clause (Some c) = true
 
 -- the clauses that stand
 abbrev pub standing : List Slot → List (List Literal)

@@ -3,15 +3,18 @@
 //! What always holds is that each clause that stands is noted at each of its literals (`IsSound`): so elimination finds
 //! all clauses of a variable. [`Base::eliminate`] and [`Base::propagate`] are the main calls. When which call pays is
 //! asked elsewhere: each of them says the same of the places whenever it is called.
-ghost use Rattle.std.specs.Prelude.{◌≡◌, ◌^◌, ◌↔◌, ◌<◌, ◌++◌, ◌∷◌, [], IfOk, OnOk, IfSome, IsTrue, Some, map};
+ghost use Rattle.std.specs.Prelude.{◌≡◌, ◌^◌, ◌↔◌, ◌<◌, ◌++◌, ◌∷◌, [], IsOk, IfOk, OnOk, IfSome, IsTrue, Some, map};
+ghost use Rattle.std.specs.Option.{option_to_list};
 ghost use Rattle.sat_simplify.specs.SamePlaces.{IsOwn};
 ghost use Rattle.sat_simplify.specs.Changes.{slot_at, resolvents_in};
-ghost use Rattle.sat_simplify.specs.Slots.{IsSimpler, AreNoted};
+ghost use Rattle.sat_simplify.specs.Slots.{IsSimpler, AreNoted, standing as stands};
 ghost use Rattle.sat_simplify.specs.ClauseBase.{IsSound, Becomes, Adds, AddsAll, TakesOut, Assigns, Covers};
 
+use crate::lists::{close_up, standing};
 use crate::occurrences::Occurrences;
 use crate::resolving::resolve_all;
-use crate::slots::{count_each, cover_each, drop_each, gather, shrink_each, slot_covered};
+use crate::slots::{cover_each, drop_each, gather, shrink_each, slot_covered};
+use crate::tally::Tally;
 use base_values::OutOfMemory;
 use sat_clauses::clause::{Clause, ClauseList};
 use sat_clauses::lit::Lit;
@@ -22,6 +25,14 @@ pub const PRODUCT: usize = 16;
 
 /// The most occurrences of a literal at which subsumed clauses are looked for.
 pub const LOOKED_AT: usize = 64;
+
+// The number of a slot. A base with 2^32 slots would take 171 GB.
+fn number_of(slot: usize) -> Result<u32, OutOfMemory>
+    ensures same { IfOk result (λ number. number ≡ slot) }
+    ensures fits { slot < 2 ^ 32 → IsOk result }
+{
+    u32::try_from(slot).map_err(|_too_large| OutOfMemory)
+}
 
 /// Clauses with their occurrence lists.
 #[derive(Drop)]
@@ -35,6 +46,8 @@ pub struct Base {
     pub occurrences: Occurrences,
     /// Slots of clauses of one literal, which have still to be propagated.
     pub units: Vec<usize>,
+    // What the passes ask.
+    tally: Tally,
 }
 
 impl Base {
@@ -50,6 +63,7 @@ impl Base {
             slots: Vec::new(alloc),
             occurrences: Occurrences::new(alloc),
             units: Vec::new(alloc),
+            tally: Tally::new(alloc),
         }
     }
 
@@ -62,7 +76,7 @@ impl Base {
 
     // How many clauses have a literal, counted up to a limit.
     fn count(&self, lit: Lit, limit: usize) -> usize {
-        count_each(&self.slots, self.occurrences.at(lit), lit, limit)
+        self.tally.count(lit).min(limit)
     }
 
     /// How many clauses have the variable of a literal, each sign counted up to a limit.
@@ -85,9 +99,34 @@ impl Base {
         ensures { OnOk result (Adds self.old self.new lits.now) }
     {
         let clause = Clause::from_lits(self.alloc, lits)?;
-        self.occurrences.note_clause(lits, self.slots.len())?;
+        let slot = number_of(self.slots.len())?;
+        self.occurrences.note_clause(lits, slot)?;
+        self.tally.add_each(lits)?;
         self.slots.push(Some(clause))?;
         Ok(())
+    }
+
+    // Appends a clause; one of one literal is to be propagated.
+    fn add_one(&mut self, lits: &[Lit]) -> Result<(), OutOfMemory>
+        requires { IsSound self.old }
+        ensures { OnOk result (Adds self.old self.new lits.now) }
+    {
+        if lits.len() == 1 {
+            self.units.push(self.slots.len())?;
+        }
+        self.add(lits)
+    }
+
+    /// Appends a clause, if there is one.
+    #[tactic(auto, using(crate::proofs::BaseLaws::adds_none, crate::proofs::BaseLaws::adds_some))]
+    pub fn add_some(&mut self, one: &Option<Clause>) -> Result<(), OutOfMemory>
+        requires { IsSound self.old }
+        ensures { OnOk result (AddsAll self.old self.new (option_to_list one.now)) }
+    {
+        let Some(clause) = one else {
+            return Ok(());
+        };
+        self.add_one(clause.lits())
     }
 
     /// Appends clauses; those of one literal are to be propagated.
@@ -97,10 +136,7 @@ impl Base {
         ensures { OnOk result (AddsAll self.old self.new list.now) }
     {
         for clause in list.as_slice() {
-            if clause.lits().len() == 1 {
-                self.units.push(self.slots.len())?;
-            }
-            self.add(clause.lits())?;
+            self.add_one(clause.lits())?;
         }
         Ok(())
     }
@@ -110,9 +146,19 @@ impl Base {
         requires { IsSound self.old }
         ensures { TakesOut self.old self.new lit }
     {
-        drop_each(&mut self.slots, self.occurrences.at(lit), lit);
+        drop_each(
+            &mut self.slots,
+            self.occurrences.at(lit),
+            lit,
+            &mut self.tally,
+        );
         let opposite = lit.neg();
-        drop_each(&mut self.slots, self.occurrences.at(opposite), opposite);
+        drop_each(
+            &mut self.slots,
+            self.occurrences.at(opposite),
+            opposite,
+            &mut self.tally,
+        );
     }
 
     // The resolvents on a literal, if they are at most so many, and few and short enough to stand in the place of their clauses.
@@ -174,13 +220,19 @@ impl Base {
         requires { IsSound self.old }
         ensures { OnOk result (Assigns self.old self.new lit) }
     {
-        drop_each(&mut self.slots, self.occurrences.at(lit), lit);
+        drop_each(
+            &mut self.slots,
+            self.occurrences.at(lit),
+            lit,
+            &mut self.tally,
+        );
         let opposite = lit.neg();
         shrink_each(
             &mut self.slots,
             self.occurrences.at(opposite),
             opposite,
             &mut self.units,
+            &mut self.tally,
         )?;
         self.add(&[lit])?;
         Ok(())
@@ -212,18 +264,31 @@ impl Base {
         rarest
     }
 
-    // Whether the clause of a place subsumes another one of these places.
-    fn covers_another(&self, i: usize, lits: &[Lit], at: &[usize]) -> bool {
-        for j in at {
-            if *j != i && *j < self.slots.len() && slot_covered(&self.slots[*j], lits) {
+    // Whether the clause of a place subsumes another one of these places, which rise, from the place `from` on.
+    fn covers_another(&self, i: usize, lits: &[Lit], at: &[u32], from: usize) -> bool {
+        for j in at.iter().rev() {
+            let j = *j as usize;
+            if j < from {
+                return false;
+            }
+            if j != i && j < self.slots.len() && slot_covered(&self.slots[j], lits) {
                 return true;
             }
         }
         false
     }
 
+    // From where on there can be clauses that the clause of a place subsumes, if those before `from` were looked at once.
+    fn unseen_from(&self, i: usize, from: usize) -> usize {
+        if i >= from || self.tally.is_shorter(i) {
+            0
+        } else {
+            from
+        }
+    }
+
     // A literal all of whose clauses are to be looked at for those that the clause of a place subsumes, if there are any.
-    fn covering(&self, i: usize) -> Option<Lit> {
+    fn covering(&self, i: usize, from: usize) -> Option<Lit> {
         if i >= self.slots.len() {
             return None;
         }
@@ -231,7 +296,8 @@ impl Base {
             return None;
         };
         let rarest = self.rarest(clause.lits())?;
-        if !self.covers_another(i, clause.lits(), self.occurrences.at(rarest)) {
+        let from = self.unseen_from(i, from);
+        if !self.covers_another(i, clause.lits(), self.occurrences.at(rarest), from) {
             return None;
         }
         Some(rarest)
@@ -256,7 +322,12 @@ impl Base {
         requires { IsSound self.old }
         ensures { OnOk result (Covers self.old self.new lit clause.now) }
     {
-        cover_each(&mut self.slots, self.occurrences.at(lit), clause.lits());
+        cover_each(
+            &mut self.slots,
+            self.occurrences.at(lit),
+            clause.lits(),
+            &mut self.tally,
+        );
         self.add(clause.lits())?;
         Ok(())
     }
@@ -274,16 +345,37 @@ impl Base {
         Ok(())
     }
 
-    /// Takes out what the clause of a place subsumes, if its literals are rare enough to look for that.
+    /// Takes out what the clause of a place subsumes, if its literals are rare enough to look for that. The clauses of the slots before
+    /// `from` have been looked at together.
     #[tactic(auto, using(crate::proofs::BaseLaws::becomes_itself))]
-    pub fn subsume(&mut self, i: usize) -> Result<(), OutOfMemory>
+    pub fn subsume(&mut self, i: usize, from: usize) -> Result<(), OutOfMemory>
         requires { IsSound self.old }
         ensures { OnOk result (Becomes self.old self.new) }
     {
-        let Some(lit) = self.covering(i) else {
+        let Some(lit) = self.covering(i, from) else {
             return Ok(());
         };
         self.cover_from(i, lit)
+    }
+
+    /// Whether a clause with the variable of a literal came or went since it was last tried; from now on it counts as tried.
+    #[tactic(auto, using(crate::proofs::SimplerLaws::simpler_itself))]
+    pub fn take_touched(&mut self, lit: Lit) -> bool
+        requires { IsSound self.old }
+        ensures { Becomes self.old self.new }
+    {
+        let is_touched = self.tally.is_touched(lit);
+        self.tally.settle(lit);
+        is_touched
+    }
+
+    /// Subsumed clauses were looked for everywhere.
+    #[tactic(auto, using(crate::proofs::SimplerLaws::simpler_itself))]
+    pub fn settle_slots(&mut self)
+        requires { IsSound self.old }
+        ensures { Becomes self.old self.new }
+    {
+        self.tally.settle_slots();
     }
 
     /// A slot whose clause is to be propagated, if there is one left.
@@ -293,6 +385,23 @@ impl Base {
         ensures { Becomes self.old self.new }
     {
         self.units.pop()
+    }
+
+    // The slots. What was kept beside them is let go.
+    fn into_slots(self) -> Vec<Option<Clause>>
+        ensures { result.items ≡ self.slots.items }
+    {
+        self.slots
+    }
+
+    /// The clauses that stand. Whatever else was kept is let go before they are listed.
+    pub fn into_left(self) -> Result<ClauseList, OutOfMemory>
+        ensures { IfOk result (λ list. list ≡ stands self.slots.items) }
+    {
+        let alloc = self.alloc;
+        let mut slots = self.into_slots();
+        close_up(&mut slots);
+        standing(alloc, slots.as_slice())
     }
 
     /// One more than the highest variable.

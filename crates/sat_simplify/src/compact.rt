@@ -11,6 +11,7 @@ ghost use Rattle.sat_simplify.specs.CompactNumbers.{compacted_list};
 use base_values::OutOfMemory;
 use sat_clauses::clause::{Clause, ClauseList};
 use sat_clauses::lit::Lit;
+use smallvec::SmallVec;
 use std::alloc::Global;
 
 // Makes a place for each number up to this one.
@@ -25,9 +26,9 @@ fn make_room(marks: &mut Vec<bool>, i: usize) -> Result<(), OutOfMemory>
     Ok(())
 }
 
-// Marks a number.
+/// Marks a number.
 #[tactic(auto, using(crate::proofs::CompactMarks::setting_rules))]
-fn mark(marks: &mut Vec<bool>, i: usize) -> Result<(), OutOfMemory>
+pub fn mark(marks: &mut Vec<bool>, i: usize) -> Result<(), OutOfMemory>
     ensures has { OnOk result (IsTrue (slice_index_or marks.new.items i false)) }
     ensures keeps { OnOk result (KeepsMarks marks.old.items marks.new.items) }
 {
@@ -117,7 +118,7 @@ pub fn clause_of(
 ) -> Result<Clause, OutOfMemory>
     ensures { IfOk result (λ c. c ≡ compacted_clause places gaps.now lits.now) }
 {
-    let mut all = Vec::new(alloc);
+    let mut all: SmallVec<Lit, 12> = SmallVec::new(alloc);
     for lit in lits {
         all.push(literal_of(places, gaps, *lit))?;
     }

@@ -12,8 +12,8 @@
 //! place is eliminated where its resolvents are no more than its clauses: all of them then stand in the place of the
 //! clauses that have it (`specs/Resolution.antt`, `specs/Elimination.antt`). Each of these is one change of a clause
 //! base, [`base`], with one law in `proofs/SimplerLaws.antt`. The clauses lie in slots with an occurrence list for each
-//! literal, [`occurrences`], so that no change looks at all clauses. [`passes`] says what is tried when: no proof depends
-//! on that. What is left above the places is numbered anew, without gaps, [`compact`].
+//! literal, [`occurrences`], so that no change looks at all clauses. [`passes`] says what is tried when, by what [`tally`] counts and
+//! marks: no proof depends on that. What is left above the places is numbered anew, without gaps, [`compact`].
 //!
 //! ```text
 //! // places 2 and 3: the gate 4 is 2 and 3, and 4 is true
@@ -33,6 +33,7 @@ mod passes;
 mod queue;
 mod resolving;
 mod slots;
+mod tally;
 mod unread;
 
 use base_values::OutOfMemory;
@@ -49,6 +50,6 @@ pub fn simplified(alloc: Global, places: u64, list: &[Clause]) -> Result<ClauseL
 {
     let mut base = unread::read_base(alloc, places, list)?;
     passes::simplify(&mut base)?;
-    let left = lists::standing(alloc, base.slots.as_slice())?;
+    let left = base.into_left()?;
     compact::compact(alloc, places, left.as_slice())
 }

@@ -9,7 +9,11 @@ ghost use Rattle.sat_simplify.specs.Resolution.{with_literal, without as rest_of
 use base_values::OutOfMemory;
 use sat_clauses::clause::Clause;
 use sat_clauses::lit::Lit;
+use smallvec::SmallVec;
 use std::alloc::Global;
+
+// The literals of a clause that is made. Those of most clauses take no memory.
+type Literals = SmallVec<Lit, 12>;
 
 /// Whether the literal is one of these.
 pub fn has(lits: &[Lit], lit: Lit) -> bool
@@ -26,7 +30,7 @@ pub fn is_tautology(lits: &[Lit]) -> bool
 }
 
 // Appends the literal, unless it is there.
-fn push_missing(out: &mut Vec<Lit>, lit: Lit) -> Result<(), OutOfMemory>
+fn push_missing(out: &mut Literals, lit: Lit) -> Result<(), OutOfMemory>
     ensures { OnOk result (out.new.items ≡ with_literal out.old.items lit) }
 {
     if !has(out.as_slice(), lit) {
@@ -36,7 +40,7 @@ fn push_missing(out: &mut Vec<Lit>, lit: Lit) -> Result<(), OutOfMemory>
 }
 
 // Appends the literals but one that are not there.
-fn push_rest(out: &mut Vec<Lit>, lits: &[Lit], but: Lit) -> Result<(), OutOfMemory>
+fn push_rest(out: &mut Literals, lits: &[Lit], but: Lit) -> Result<(), OutOfMemory>
     ensures { OnOk result (out.new.items ≡ joined out.old.items (rest_of but lits.now)) }
 {
     for lit in lits {
@@ -51,7 +55,7 @@ fn push_rest(out: &mut Vec<Lit>, lits: &[Lit], but: Lit) -> Result<(), OutOfMemo
 pub fn each_once(alloc: Global, lits: &[Lit]) -> Result<Clause, OutOfMemory>
     ensures { IfOk result (λ c. c ≡ once lits.now) }
 {
-    let mut out = Vec::new(alloc);
+    let mut out = SmallVec::new(alloc);
     for lit in lits {
         push_missing(&mut out, *lit)?;
     }
@@ -62,7 +66,7 @@ pub fn each_once(alloc: Global, lits: &[Lit]) -> Result<Clause, OutOfMemory>
 pub fn without(alloc: Global, lits: &[Lit], lit: Lit) -> Result<Clause, OutOfMemory>
     ensures { IfOk result (λ c. c ≡ once (rest_of lit lits.now)) }
 {
-    let mut out = Vec::new(alloc);
+    let mut out = SmallVec::new(alloc);
     push_rest(&mut out, lits, lit)?;
     Clause::from_lits(alloc, out.as_slice())
 }
@@ -76,7 +80,7 @@ pub fn resolvent(
 ) -> Result<Clause, OutOfMemory>
     ensures { IfOk result (λ c. c ≡ resolved lit with.now other.now) }
 {
-    let mut out = Vec::new(alloc);
+    let mut out = SmallVec::new(alloc);
     push_rest(&mut out, with, lit)?;
     push_rest(&mut out, other, lit.neg())?;
     Clause::from_lits(alloc, out.as_slice())

@@ -13,7 +13,7 @@ use std::marker::Model;
 /// A list of numbers.
 #[derive(Drop)]
 pub struct Numbers {
-    numbers: Vec<usize>,
+    numbers: Vec<u32>,
 }
 
 impl Model for Numbers {
@@ -35,7 +35,7 @@ impl Numbers {
     }
 
     // Appends a number.
-    fn push(&mut self, number: usize) -> Result<(), OutOfMemory>
+    fn push(&mut self, number: u32) -> Result<(), OutOfMemory>
         ensures ok { OnOk result (self.new ≡ self.old ++ number ∷ []) }
     {
         self.numbers.push(number)?;
@@ -43,7 +43,7 @@ impl Numbers {
     }
 
     // The numbers as a slice.
-    fn as_slice(&self) -> &[usize]
+    fn as_slice(&self) -> &[u32]
         ensures { result.now ≡ self.now }
     {
         self.numbers.as_slice()
@@ -84,7 +84,7 @@ impl Occurrences {
     }
 
     /// The numbers that were noted at a literal.
-    pub fn at(&self, lit: Lit) -> &[usize]
+    pub fn at(&self, lit: Lit) -> &[u32]
         ensures { result.now ≡ noted_at self.now (code_of lit) }
     {
         match self.lists.get(lit.code() as usize) {
@@ -106,7 +106,7 @@ impl Occurrences {
     }
 
     // Notes a number at a code that has a list.
-    fn push(&mut self, code: usize, number: usize) -> Result<(), OutOfMemory>
+    fn push(&mut self, code: usize, number: u32) -> Result<(), OutOfMemory>
         requires { code < length self.old }
         ensures { OnOk result (self.new ≡ slice_set self.old code (noted_at self.old code ++ number ∷ [])) }
     {
@@ -115,7 +115,7 @@ impl Occurrences {
 
     #[tactic(auto, using(crate::proofs::OccurringLaws::noting_rules))]
     /// Notes a number at a literal.
-    pub fn note(&mut self, lit: Lit, number: usize) -> Result<(), OutOfMemory>
+    pub fn note(&mut self, lit: Lit, number: u32) -> Result<(), OutOfMemory>
         ensures has { OnOk result (IsNotedAt self.new number lit) }
         ensures keeps { OnOk result (KeepsNotes self.old self.new) }
     {
@@ -126,7 +126,7 @@ impl Occurrences {
 
     #[tactic(auto, using(crate::proofs::OccurringLaws::noted_steps))]
     /// Notes a number at each literal of a clause.
-    pub fn note_clause(&mut self, lits: &[Lit], number: usize) -> Result<(), OutOfMemory>
+    pub fn note_clause(&mut self, lits: &[Lit], number: u32) -> Result<(), OutOfMemory>
         ensures { OnOk result (HasNoted self.old self.new lits.now number) }
     {
         for lit in lits {

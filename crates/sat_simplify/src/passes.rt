@@ -72,6 +72,9 @@ fn try_one(base: &mut Base, queue: &mut Queue, lit: Lit) -> Result<bool, OutOfMe
     requires { IsSound base.old }
     ensures { OnOk result (Becomes base.old base.new) }
 {
+    if !base.take_touched(lit) {
+        return Ok(false);
+    }
     let from = base.slots.len();
     let is_gone = base.eliminate(lit, usize::MAX)?;
     if is_gone {
@@ -99,26 +102,27 @@ fn eliminate_all(base: &mut Base) -> Result<bool, OutOfMemory>
     Ok(changed)
 }
 
-// Takes out the clauses that others subsume.
+// Takes out the clauses that others subsume. Of those before `from` only the ones that are shorter by now are compared.
 #[tactic(auto, using(crate::proofs::BaseLaws::becomes_itself, crate::proofs::BaseLaws::becomes_all))]
-fn subsume_all(base: &mut Base) -> Result<(), OutOfMemory>
+fn subsume_all(base: &mut Base, from: usize) -> Result<(), OutOfMemory>
     requires { IsSound base.old }
     ensures { OnOk result (Becomes base.old base.new) }
 {
     for i in 0..base.slots.len() {
-        base.subsume(i)?;
+        base.subsume(i, from)?;
     }
+    base.settle_slots();
     Ok(())
 }
 
 // One round: subsumed clauses are taken out, variables are eliminated, and what that left of one literal is propagated. Answers whether one
 // was.
 #[tactic(auto, using(crate::proofs::BaseLaws::becomes_all))]
-fn one_round(base: &mut Base) -> Result<bool, OutOfMemory>
+fn one_round(base: &mut Base, from: usize) -> Result<bool, OutOfMemory>
     requires { IsSound base.old }
     ensures { OnOk result (Becomes base.old base.new) }
 {
-    subsume_all(base)?;
+    subsume_all(base, from)?;
     let changed = eliminate_all(base)?;
     propagate_all(base)?;
     Ok(changed)
@@ -145,11 +149,14 @@ pub fn simplify(base: &mut Base) -> Result<(), OutOfMemory>
 {
     propagate_all(base)?;
     eliminate_unread(base)?;
+    let mut from = 0;
     for _round in 0..ROUNDS {
-        let changed = one_round(base)?;
+        let slots = base.slots.len();
+        let changed = one_round(base, from)?;
         if !changed {
             return Ok(());
         }
+        from = slots;
     }
     Ok(())
 }

@@ -8,6 +8,7 @@ ghost use Rattle.sat_simplify.specs.Changes.{slot_covered as covered_at, slot_ha
 ghost use Rattle.sat_simplify.specs.Resolution.{subsumes};
 
 use crate::literals::{has, without};
+use crate::tally::Tally;
 use base_values::OutOfMemory;
 use sat_clauses::clause::{Clause, ClauseList};
 use sat_clauses::lit::Lit;
@@ -23,40 +24,34 @@ fn slot_has(slot: &Option<Clause>, lit: Lit) -> bool
     }
 }
 
-/// How many of these places have a clause with the literal, counted up to a limit.
-pub fn count_each(slots: &[Option<Clause>], at: &[usize], lit: Lit, limit: usize) -> usize {
-    let mut count: usize = 0;
-    for i in at {
-        if count >= limit {
-            return count;
-        }
-        if *i < slots.len() && slot_has(&slots[*i], lit) {
-            count = count.saturating_add(1);
-        }
+// The clause of a slot goes.
+fn forget(slot: &Option<Clause>, tally: &mut Tally) {
+    if let Some(clause) = slot {
+        tally.remove_each(clause.lits());
     }
-    count
 }
 
 // Takes the clause of a place out if it has the literal.
 #[tactic(auto, using(crate::proofs::SlotSteps::dropped_rules))]
-fn drop_at(slots: &mut Vec<Option<Clause>>, i: usize, lit: Lit)
+fn drop_at(slots: &mut Vec<Option<Clause>>, i: usize, lit: Lit, tally: &mut Tally)
     ensures { slots.new.items ≡ changed_at (dropped lit) slots.old.items i }
 {
     if i >= slots.len() {
         return;
     }
     if slot_has(&slots[i], lit) {
+        forget(&slots[i], tally);
         slots[i] = None;
     }
 }
 
 /// Takes the clauses of these places out that have the literal.
 #[tactic(auto, using(crate::proofs::SlotSteps::changed_more))]
-pub fn drop_each(slots: &mut Vec<Option<Clause>>, at: &[usize], lit: Lit)
+pub fn drop_each(slots: &mut Vec<Option<Clause>>, at: &[u32], lit: Lit, tally: &mut Tally)
     ensures { slots.new.items ≡ changed (dropped lit) slots.old.items at.now }
 {
     for i in at {
-        drop_at(slots, *i, lit);
+        drop_at(slots, *i as usize, lit, tally);
     }
 }
 
@@ -85,6 +80,7 @@ fn shrink_at(
     slots: &mut Vec<Option<Clause>>,
     i: usize,
     lit: Lit,
+    tally: &mut Tally,
 ) -> Result<bool, OutOfMemory>
     ensures { OnOk result (slots.new.items ≡ changed_at (shrunk lit) slots.old.items i) }
 {
@@ -94,6 +90,7 @@ fn shrink_at(
     let Some(less) = shrunk_clause(alloc, &slots[i], lit)? else {
         return Ok(false);
     };
+    tally.shorten(i, lit, less.lits())?;
     let is_short = less.lits().len() <= 1;
     slots[i] = Some(less);
     Ok(is_short)
@@ -104,16 +101,17 @@ fn shrink_at(
 #[tactic(auto, using(crate::proofs::SlotSteps::changed_more))]
 pub fn shrink_each(
     slots: &mut Vec<Option<Clause>>,
-    at: &[usize],
+    at: &[u32],
     lit: Lit,
     units: &mut Vec<usize>,
+    tally: &mut Tally,
 ) -> Result<(), OutOfMemory>
     ensures { OnOk result (slots.new.items ≡ changed (shrunk lit) slots.old.items at.now) }
 {
     let alloc = *units.allocator();
     for i in at {
-        if shrink_at(alloc, slots, *i, lit)? {
-            units.push(*i)?;
+        if shrink_at(alloc, slots, *i as usize, lit, tally)? {
+            units.push(*i as usize)?;
         }
     }
     Ok(())
@@ -138,24 +136,25 @@ pub fn slot_covered(slot: &Option<Clause>, lits: &[Lit]) -> bool
 
 // Takes the clause of a place out if the clause of these literals subsumes it.
 #[tactic(auto, using(crate::proofs::SlotSteps::covered_rules))]
-fn cover_at(slots: &mut Vec<Option<Clause>>, i: usize, lits: &[Lit])
+fn cover_at(slots: &mut Vec<Option<Clause>>, i: usize, lits: &[Lit], tally: &mut Tally)
     ensures { slots.new.items ≡ changed_at (covered lits.now) slots.old.items i }
 {
     if i >= slots.len() {
         return;
     }
     if slot_covered(&slots[i], lits) {
+        forget(&slots[i], tally);
         slots[i] = None;
     }
 }
 
 /// Takes the clauses of these places out that the clause of these literals subsumes.
 #[tactic(auto, using(crate::proofs::SlotSteps::changed_more))]
-pub fn cover_each(slots: &mut Vec<Option<Clause>>, at: &[usize], lits: &[Lit])
+pub fn cover_each(slots: &mut Vec<Option<Clause>>, at: &[u32], lits: &[Lit], tally: &mut Tally)
     ensures { slots.new.items ≡ changed (covered lits.now) slots.old.items at.now }
 {
     for i in at {
-        cover_at(slots, *i, lits);
+        cover_at(slots, *i as usize, lits, tally);
     }
 }
 
@@ -185,14 +184,14 @@ fn pick_at(
 pub fn gather(
     alloc: Global,
     slots: &[Option<Clause>],
-    at: &[usize],
+    at: &[u32],
     lit: Lit,
 ) -> Result<ClauseList, OutOfMemory>
     ensures { IfOk result (λ list. list ≡ gathered lit slots.now at.now) }
 {
     let mut list = ClauseList::new(alloc);
     for i in at {
-        pick_at(&mut list, slots, *i, lit)?;
+        pick_at(&mut list, slots, *i as usize, lit)?;
     }
     Ok(list)
 }

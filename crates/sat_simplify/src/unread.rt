@@ -264,7 +264,7 @@ fn base_at(
     for k in 0..at.len() {
         let clause = clause_of(alloc, places, gaps, lits_of(list, at, k))?;
         let one = entered(alloc, clause.lits())?;
-        base.add_all(&one)?;
+        base.add_some(&one)?;
     }
     Ok(base)
 }

@@ -1,4 +1,5 @@
 use Rattle.std.proofs.Common.{◌≤◌, ◌<◌, map, ap, length, ◌∙◌, arith}
+use Rattle.std.specs.Option.{option_to_list}
 use Rattle.sat_simplify.specs.Elimination.{unless_tautology}
 use Rattle.sat_simplify.specs.Resolution.{each_once}
 use Rattle.sat_simplify.specs.Unread.{compacted_at}
@@ -12,8 +13,8 @@ loop-k-init c = entered_none c.args.places (map (compacted_at c.args.places c.ar
 pub loop-k-preserved : goal.loop-k-preserved
 loop-k-preserved c =
     let within : c.loop-k.k < length c.args.at.now = omega arith in
-    place_entered c.args.places c.args.gaps.now c.args.list.now c.args.at.now c.loop-k.base c.add_all.new.self c.in_ok-one.one c.loop-k.k c.lits_of.result.now c.in_ok-clause.clause within c.lits_of.ensures c.in_ok-clause.ensures c.loop-k.invariant
-    (c.in_ok-one.ensures ∙ ap (λ l. unless_tautology (each_once l)) c.lits.ensures) c.in_ok-add_all.ensures
+    place_entered c.args.places c.args.gaps.now c.args.list.now c.args.at.now c.loop-k.base c.add_some.new.self (option_to_list c.in_ok-one.one) c.loop-k.k c.lits_of.result.now c.in_ok-clause.clause within c.lits_of.ensures c.in_ok-clause.ensures c.loop-k.invariant
+    (c.in_ok-one.ensures ∙ ap (λ l. unless_tautology (each_once l)) c.lits.ensures) c.in_ok-add_some.ensures
 
 pub returns : goal.returns
 returns c =
