@@ -36,8 +36,8 @@ returns-in_err-scope-clause-wrong c =
     let p = program_tree c.args.model.now.program in
     rw (exit.1, exit.2) (refused_weaker (λ told. ⊥) (IsWrongWord p c.args.bytes.now) (λ told bad. absurd bad) _ c.in_err-scope.ensures.wrong)
 
-pub scope_of-2-requires : goal.scope_of-2-requires
-scope_of-2-requires c = subst IsAccepted (sym c.requires.loaded.program) c.requires.loaded.is_case.within.accepted
+pub scope_of-requires-2 : goal.scope_of-requires-2
+scope_of-requires-2 c = subst IsAccepted (sym c.requires.loaded.program) c.requires.loaded.is_case.within.accepted
 
 pub returns-in_err-wide-clause-wrong : goal.returns-in_err-wide-clause-wrong
 returns-in_err-wide-clause-wrong c =
