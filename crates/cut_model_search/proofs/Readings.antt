@@ -23,10 +23,10 @@ use Rattle.sat_encoding.specs.Values.{StandFor, HasState}
 use Rattle.cut_search.specs.Values.{value_of, values_of}
 use Rattle.cut_search.specs.Progress.{IsReadable, IsReadOf}
 use Rattle.cut_model_search.specs.MomentReading.{IsRead}
-use Rattle.sat_clauses.specs.Models.{values_of}
+use Rattle.sat_clauses.specs.Models.{values_of as values_in}
 
 -- what is read agrees with what is there
-read_agrees : (k n : ℕ) (a : Assignment) → Agrees (values_of a) n (read_from n k a)
+read_agrees : (k n : ℕ) (a : Assignment) → Agrees (values_in a) n (read_from n k a)
 read_agrees zero n a = tt
 read_agrees (suc k) n a = (refl, read_agrees k (n + 1) a)
 
@@ -61,7 +61,7 @@ module _ (m : FlatModel) (fs : List Mode) (top : Tree FlatLeaf) (encodable : IsE
   has_state : (last : Bool) (a : Assignment) (r : IsReadable (problem_of m fs top) last a) → HasState (with_history m fs) a r.values
   has_state last a r = record {
     domains = r.domains;
-    state = subst (Agrees (values_of a) 2) (sym r.state) (read_agrees (system_of (with_history m fs)).state_bits 2 a);
+    state = subst (Agrees (values_in a) 2) (sym r.state) (read_agrees (system_of (with_history m fs)).state_bits 2 a);
   }
 
   pub is_read_of : (last : Bool) (a : Assignment) (v : List Value) → IsReadable (problem_of m fs top) last a → IsRead (with_history m fs) last a v →
@@ -86,7 +86,7 @@ module _ (m : FlatModel) (fs : List Mode) (top : Tree FlatLeaf) (encodable : IsE
       (read r.values (record {
         domains = start.domains;
         state = start.state;
-        inputs = subst (Agrees (values_of a) (input_place whole)) (sym (r.inputs refl)) (read_agrees (system_of whole).input_bits (input_place whole) a);
+        inputs = subst (Agrees (values_in a) (input_place whole)) (sym (r.inputs refl)) (read_agrees (system_of whole).input_bits (input_place whole) a);
       })) in
       record {
         domains = subst (AreInDomains whole.variables) (sym told) r.domains;
