@@ -1,7 +1,7 @@
 -- From what is written and said of an analysis to what stands, whole or in part.
 use Rattle.std.proofs.Common.{arith, ◌≡◌, inl, inr, ◌≤◌, ℕ, List, Option, Some, None, length, refl, sym, ap, subst, ◌∙◌}
 use Rattle.std.proofs.Math.Seq.{take-length}
-use Rattle.base_files.specs.Desk.{told_with, WritesPrefix, SaysPrefix, said_more}
+use Rattle.base_files.specs.Desk.{Told as AtDesk, told_with, WritesPrefix, SaysPrefix, said_more, OnlyWrites, IsLater}
 use Rattle.smv_language.specs.Language.{Text, program_tree, program_text}
 use Rattle.cut_text_laws.specs.Analysis.{told_ending}
 use Rattle.cut_report_laws.specs.ExtendedTraces.{Ending, complete, bounded}
@@ -14,6 +14,10 @@ use Rattle.verb_run.specs.AnswerTexts.{extension_text}
 use Rattle.verb_run.specs.Analyses.{ended_with, AreWritten, HasAnalysed, AnalysesInPart, part_of_extension, part_of_certificate, part_of_report}
 use Rattle.verb_run.specs.Findings.{IsCertifiedAs, IsFinding, analysed_case}
 use Rattle.cert_file.specs.Conclusions.{ConcludesInPart}
+
+-- what only writes leaves the desk a later one
+pub writes_later : (a b : AtDesk) → OnlyWrites a b → IsLater a b
+writes_later a b w = record { later = w.later; quiet = w.quiet }
 
 -- a text that was written whole
 pub whole_prefix : (before after : Told) (name bytes : Text) → after ≡ told_with before name bytes → WritesPrefix before after name bytes

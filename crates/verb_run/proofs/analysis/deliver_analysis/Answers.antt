@@ -3,8 +3,8 @@ use Rattle.base_files.specs.Desk.{said_more}
 use Rattle.verb_run.specs.AnswerTexts.{extension_text}
 use Rattle.verb_run.specs.Findings.{analysed_case}
 use Rattle.verb_run.specs.Analyses.{part_of_extension}
-use Rattle.verb_run.proofs.Concluded.{whole_prefix, written_extension, has_analysed, analyses_in_part}
-use Rattle.base_files.proofs.Stays.{writes_later, later_on}
+use Rattle.verb_run.proofs.Concluded.{writes_later, whole_prefix, written_extension, has_analysed, analyses_in_part}
+use Rattle.base_files.proofs.Stays.{later_on}
 use Rattle.verb_run.proofs.analysis.deliver_analysis.Goals as goal
 
 pub returns-in_err-found-clause-part : goal.returns-in_err-found-clause-part

@@ -1,6 +1,7 @@
 use Rattle.std.proofs.Common.{◌∙◌}
 use Rattle.verb_run.proofs.MakeLaws.{model_in_part, faults_in_part, files_in_part, summary_in_part, summary_whole, has_made}
-use Rattle.base_files.proofs.Stays.{writes_later, says_later, later_on}
+use Rattle.base_files.proofs.Stays.{says_later, later_on}
+use Rattle.verb_run.proofs.Concluded.{writes_later}
 use Rattle.verb_run.proofs.make.deliver_made.Goals as goal
 
 pub returns-in_err-write_whole-clause-part : goal.returns-in_err-write_whole-clause-part

@@ -3,7 +3,8 @@ use Rattle.base_files.specs.Desk.{told_with}
 use Rattle.smv_language.specs.Text.{program_text}
 use Rattle.verb_tops.specs.Each.{HasReported}
 use Rattle.verb_tops.specs.Work.{case_of_asked, events_of_asked, size_of_asked}
-use Rattle.base_files.proofs.Stays.{writes_later, later_on}
+use Rattle.base_files.proofs.Stays.{later_on}
+use Rattle.verb_run.proofs.Concluded.{writes_later}
 use Rattle.verb_tops.proofs.each.deliver_each.Goals as goal
 
 pub returns-clause-ok : goal.returns-clause-ok

@@ -1,4 +1,4 @@
-use Rattle.std.proofs.Common.{◌≡◌, [], length, map, sym, ap, subst, ◌∙◌, eqb-true}
+use Rattle.std.proofs.Common.{◌≡◌, [], length, map, refl, sym, ap, subst, ◌∙◌, eqb-true, arith}
 use Rattle.smv_language.specs.Language.{program_tree, EachBoth, flat_tree}
 use Rattle.verb_loading.specs.declared.status.Status.TheVariants as status
 use Rattle.sat_encoding_laws.specs.Lists.{system_of}
@@ -11,7 +11,6 @@ use Rattle.verb_tops.specs.Work.{case_of_asked, events_of_asked, size_of_asked}
 use Rattle.verb_tops.proofs.ReportLaws.{none_reported, some_there, no_events}
 use Rattle.verb_tops.proofs.each.search_each.Goals as goal
 use Rattle.std.proofs.lemmas.List.{nil_from_length}
-use Rattle.base_files.proofs.Stays.{later_none}
 
 pub returns-then-is_empty-clause-ok : goal.returns-then-is_empty-clause-ok
 returns-then-is_empty-clause-ok g c =
@@ -36,4 +35,4 @@ pub search_in-requires-clause-system : goal.search_in-requires-clause-system
 search_in-requires-clause-system g c = c.in_ok-frames.ensures ∙ ap (λ v. system_of (whole_in v)) c.in_ok-model.ensures.model
 
 pub returns-then-is_empty-clause-stays : goal.returns-then-is_empty-clause-stays
-returns-then-is_empty-clause-stays g c = later_none _
+returns-then-is_empty-clause-stays g c = record { later = omega arith; quiet = λ q. (q, refl) }
