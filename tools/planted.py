@@ -29,16 +29,20 @@ class Function:
     """A function in a file of src/: its lines, from 0 and the end not among them, its path and whether others see it."""
 
     def __init__(self, path, line, end, owner, name, is_public):
-        self.path, self.line, self.end, self.name, self.is_public = path, line, end, name, is_public
+        self.path, self.line, self.end, self.owner, self.name, self.is_public = path, line, end, owner, name, is_public
         module = path.removeprefix("src/").removesuffix(".rt").removesuffix("/mod")
         parts = [] if module in ("lib", "main") else module.split("/")
         self.module = "::".join(parts)
         self.shown = "::".join([*parts, *([owner] if owner else []), name])
 
     def verdicts(self, crate, said):
-        """Returns the checker's words of this function, of all impls where several have one of its name."""
+        """Returns the checker's words of this function, of all impls where several have one of its name. It may name a method by the
+        module of its type."""
         module = f"{re.escape(self.module)}::" if self.module else ""
-        return re.findall(rf"(?m)^fn {crate}::{module}(?:[\w+]+::)*{self.name}(?:::[^\s:]+)*: (.*)$", said)
+        found = re.findall(rf"(?m)^fn {crate}::{module}(?:[\w+]+::)*{self.name}(?:::[^\s:]+)*: (.*)$", said)
+        if not found and self.owner:
+            found = re.findall(rf"(?m)^fn {crate}::(?:\w+::)*{re.escape(self.owner)}::{self.name}: (.*)$", said)
+        return found
 
     def in_proofs(self, said):
         """Returns the errors in the files of this function's proof, and those in its cycle's files that name a goal of it."""
@@ -173,7 +177,7 @@ class Plant:
         goals = [goal for line in verdicts for goal in re.findall(r"`([^`\s]+)`", line.partition("did not prove")[2].partition(";")[0])]
         goals += [goal for line in self.in_source(said) for goal in re.findall(r"\(`([^`\s]+)`\)", line)]
         goals += [re.match(r"`([^`]+)`|", it)[1] for it in in_proofs if not GONE.search(it)]
-        goals = list(dict.fromkeys(it for it in goals if it and re.fullmatch(r"[a-z][\w-]+", it)))
+        goals = list(dict.fromkeys(it for it in goals if it and re.fullmatch(r"(?:[\w+]+::)?[a-z][\w-]+", it)))
         if goals:
             return f"refused by {', '.join(goals[:6])}"
         if any(GONE.search(it) for it in in_proofs):
