@@ -6,7 +6,7 @@ use Rattle.smv_language.specs.declared.expr.Op.{Op}
 use Rattle.smv_language.specs.declared.expr.Op.TheVariants as op
 use Rattle.smv_language.specs.Language.{Tree, Trees, Branches, Lexeme, word, num, sign, is_reserved, Path, at_expr, at_not, operator, is_repeated, SpellsInt, plain_int, minus_int, SpellsDotted, one_name, more_names, Spells, only_iff, implies, repeated, only_or, chooses, only_not, negates, only_atom, inverts, SpellsMore, no_operator, one_operator, SpellsAtom, is_true, is_false, is_number, is_span, is_name, in_parentheses, is_next, is_set, is_case, SpellsTrees, one_tree, more_trees, SpellsBranches, one_branch, more_branches}
 use Rattle.smv_expression_reader.specs.Recogniser.{role_of, Ended, by_number, by_name, by_other, State, wants, wants_not, wants_high, wants_name, wants_open, wants_branch, had, stuck, step, run, is_whole, start}
-use Rattle.smv_language.proofs.OneTree.{is_none_of}
+use Rattle.smv_expression_reader.proofs.WordLaws.{use_of_name}
 use Rattle.smv_expression_reader.specs.declared.frames.OpenFrame.{OpenFrame as Frame}
 use Rattle.smv_expression_reader.specs.declared.machine.TokenRole.{TokenRole as Role}
 use Rattle.smv_expression_reader.specs.declared.frames.OpenFrame.TheVariants as frame
@@ -18,20 +18,7 @@ run_append st (t ∷ xs) ys = run_append (step st (role_of t)) xs ys
 
 -- a word that is not reserved is a name
 pub role_of_name : (x : List ℕ) → is_reserved x ≡ false → role_of (word x) ≡ role.Name
-role_of_name x n =
-    rw (
-      is_none_of x (codes "TRUE") refl n,
-      is_none_of x (codes "FALSE") refl n,
-      is_none_of x (codes "next") refl n,
-      is_none_of x (codes "case") refl n,
-      is_none_of x (codes "esac") refl n,
-      is_none_of x (codes "mod") refl n,
-      is_none_of x (codes "union") refl n,
-      is_none_of x (codes "in") refl n,
-      is_none_of x (codes "xor") refl n,
-      is_none_of x (codes "xnor") refl n,
-      n,
-    ) refl
+role_of_name x n = ap (λ u. u.0) (use_of_name x n)
 
 -- the list is taken from a state to an operand over a stack
 pub record Takes (st : State) (xs : List Lexeme) (s : List Frame) : Type 0 where

@@ -1,3 +1,4 @@
+pub mod WordLaws
 pub mod Accepted
 pub mod Prepended
 pub mod Rest

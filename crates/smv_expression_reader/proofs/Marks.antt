@@ -1,34 +1,23 @@
 -- Marks of lexemes, and what a lexeme with a mark, or of a word, is.
-use Rattle.std.proofs.Common.{◌≡◌, ℕ, Bool, true, false, List, [], ◌∷◌, refl, ◌∙◌, ap, subst}
-use Rattle.std.specs.Prelude.{◌||◌, codes, if◌then◌else◌}
+use Rattle.std.proofs.Common.{◌≡◌, ℕ, Bool, true, false, List, refl, ◌∙◌, ap}
+use Rattle.std.specs.Prelude.{codes}
 use Rattle.smv_lexer.specs.declared.token.TokenKind.TheVariants as k
-use Rattle.smv_language.specs.Language.{Lexeme, word, num, sign, is_reserved, section_words, same_text, is_among, skipped_words}
-use Rattle.smv_expression_reader.specs.Recogniser.{role_of_word}
+use Rattle.smv_language.specs.Language.{Lexeme, word, num, sign, is_reserved, section_words, is_among, skipped_words}
+use Rattle.smv_expression_reader.specs.Recogniser.{role_of}
 use Rattle.smv_expression_reader.specs.Places.{is_word}
-use Rattle.smv_expression_reader.specs.Marks.{mark_of_word, mark_of, is_section}
-use Rattle.smv_language.proofs.OneTree.{same_text_equal, is_none_of}
-use Rattle.smv_expression_reader.proofs.Rest.{same_word}
+use Rattle.smv_expression_reader.specs.Marks.{mark_of, is_section}
+use Rattle.smv_language.proofs.OneTree.{same_text_equal}
+use Rattle.smv_language.proofs.OneParts.{among}
+use Rattle.smv_expression_reader.specs.Words.{use_of}
+use Rattle.smv_expression_reader.proofs.WordLaws.{use_of_name, in_words}
 use Rattle.smv_expression_reader.specs.declared.mark.Mark.{Mark}
 use Rattle.smv_expression_reader.specs.declared.machine.TokenRole.TheVariants as role
 use Rattle.smv_expression_reader.specs.declared.mark.Mark.TheVariants as mark
 
 pub word_there : (t : Lexeme) (w : List ℕ) → is_word t w ≡ true → t ≡ word w
-word_there (word x) w h = same_word x w h
+word_there (word x) w h = ap word (same_text_equal x w h)
 word_there (num n d) w h = cc
 word_there (sign s) w h = cc
-
--- a word of a list has what each word of the list has
-abbrev AllOf : (List ℕ → Type 0) → List (List ℕ) → Type 0
-AllOf P [] = Unit {0}
-AllOf P (w ∷ ws) = P w × AllOf P ws
-
-pub among : (P : List ℕ → Type 0) (ws : List (List ℕ)) (x : List ℕ) → AllOf P ws → is_among ws x ≡ true → P x
-among P [] x all h = cc
-among P (w ∷ ws) x all h = go (same_text w x) refl h (λ e. among P ws x all.1 e)
-  where
-    go : (b : Bool) → same_text w x ≡ b → (b || is_among ws x) ≡ true → (is_among ws x ≡ true → P x) → P x
-    go true e h rec = subst P (same_text_equal w x e) all.0
-    go false e h rec = rec h
 
 unfoldable pub Marked : Mark → Lexeme → Type 0
 Marked mark.Module t = t ≡ word (codes "MODULE")
@@ -60,29 +49,12 @@ Marked mark.Dot t = t ≡ sign k.Dot
 Marked mark.Minus t = t ≡ sign k.Minus
 Marked mark.Nothing t = Unit {0}
 
-by_test : (b : Bool) (P : Mark → Type 0) (x y : Mark) → (b ≡ true → P x) → (b ≡ false → P y) → P (if b then x else y)
-by_test true P x y f g = f refl
-by_test false P x y f g = g refl
-
-marked_word : (x : List ℕ) → Marked (mark_of_word x) (word x)
+marked_word : (x : List ℕ) → Marked (use_of x).1 (word x)
 unfolding Marked
 marked_word x =
-    let P : Mark → Type 0 = λ c. Marked c (word x) in
-    by_test (same_text x (codes "MODULE")) P _ _ (λ e. same_word x (codes "MODULE") e) (λ n1.
-    by_test (same_text x (codes "VAR")) P _ _ (λ e. same_word x (codes "VAR") e) (λ n2.
-    by_test (same_text x (codes "IVAR")) P _ _ (λ e. same_word x (codes "IVAR") e) (λ n3.
-    by_test (same_text x (codes "FROZENVAR")) P _ _ (λ e. same_word x (codes "FROZENVAR") e) (λ n4.
-    by_test (same_text x (codes "DEFINE")) P _ _ (λ e. same_word x (codes "DEFINE") e) (λ n5.
-    by_test (same_text x (codes "CONSTANTS")) P _ _ (λ e. same_word x (codes "CONSTANTS") e) (λ n6.
-    by_test (same_text x (codes "ASSIGN")) P _ _ (λ e. same_word x (codes "ASSIGN") e) (λ n7.
-    by_test (same_text x (codes "INIT")) P _ _ (λ e. same_word x (codes "INIT") e) (λ n8.
-    by_test (same_text x (codes "INVAR")) P _ _ (λ e. same_word x (codes "INVAR") e) (λ n9.
-    by_test (same_text x (codes "TRANS")) P _ _ (λ e. same_word x (codes "TRANS") e) (λ n10.
-    by_test (is_among skipped_words x) P _ _ (λ e. (x, refl, e)) (λ n11.
-    by_test (same_text x (codes "boolean")) P _ _ (λ e. same_word x (codes "boolean") e) (λ n12.
-    by_test (same_text x (codes "init")) P _ _ (λ e. same_word x (codes "init") e) (λ n13.
-    by_test (same_text x (codes "next")) P _ _ (λ e. same_word x (codes "next") e) (λ n14.
-    by_test (is_reserved x) P mark.Nothing mark.Name (λ e. tt) (λ e. (x, refl, e))))))))))))))))
+    in_words (λ w row. Marked row.1 (word w)) x
+    (refl, (refl, (refl, (refl, (refl, (refl, (refl, (refl, (refl, (refl, ((_, refl, refl), ((_, refl, refl), ((_, refl, refl), ((_, refl, refl), ((_, refl, refl), ((_, refl, refl), (tt, (tt, (tt, (tt, (tt, (tt, (refl, (refl, (tt, (tt, (tt, (tt, (tt, (tt, (refl, (tt, (tt, (tt, (tt, (tt, (tt, (tt, (tt, (tt, (tt, (tt, (tt, (tt, tt))))))))))))))))))))))))))))))))))))))))))))
+    (λ n. (x, refl, n))
 
 pub marked : (t : Lexeme) → Marked (mark_of t) t
 unfolding Marked
@@ -102,41 +74,17 @@ marked (sign k.Minus) = refl
 marked (sign s) = tt
 
 -- the marks of names and of skipped words
-not_skipped : (x : List ℕ) → is_reserved x ≡ false → is_among skipped_words x ≡ false
-not_skipped x n = go (is_among skipped_words x) refl
-  where
-    go : (b : Bool) → is_among skipped_words x ≡ b → b ≡ false
-    go true e = let clash : is_reserved x ≡ true = among (λ w. is_reserved w ≡ true) skipped_words x (refl, (refl, (refl, (refl, (refl, (refl, tt)))))) e in cc
-    go false e = refl
-
 pub mark_of_name : (x : List ℕ) → is_reserved x ≡ false → mark_of (word x) ≡ mark.Name
-mark_of_name x n =
-    rw (
-      is_none_of x (codes "MODULE") refl n,
-      is_none_of x (codes "VAR") refl n,
-      is_none_of x (codes "IVAR") refl n,
-      is_none_of x (codes "FROZENVAR") refl n,
-      is_none_of x (codes "DEFINE") refl n,
-      is_none_of x (codes "CONSTANTS") refl n,
-      is_none_of x (codes "ASSIGN") refl n,
-      is_none_of x (codes "INIT") refl n,
-      is_none_of x (codes "INVAR") refl n,
-      is_none_of x (codes "TRANS") refl n,
-      not_skipped x n,
-      is_none_of x (codes "boolean") refl n,
-      is_none_of x (codes "init") refl n,
-      is_none_of x (codes "next") refl n,
-      n,
-    ) refl
+mark_of_name x n = ap (λ u. u.1) (use_of_name x n)
 
 pub mark_of_skipped : (x : List ℕ) → is_among skipped_words x ≡ true → mark_of (word x) ≡ mark.Skipped
-mark_of_skipped x h = among (λ w. mark_of_word w ≡ mark.Skipped) skipped_words x (refl, (refl, (refl, (refl, (refl, (refl, tt)))))) h
+mark_of_skipped x h = among (λ w. mark_of (word w) ≡ mark.Skipped) skipped_words x (refl, (refl, (refl, (refl, (refl, (refl, tt)))))) h
 
 pub skipped_section : (x : List ℕ) → is_among skipped_words x ≡ true → is_among section_words x ≡ true
 skipped_section x h = among (λ w. is_among section_words w ≡ true) skipped_words x (refl, (refl, (refl, (refl, (refl, (refl, tt)))))) h
 
-pub section_no_role : (x : List ℕ) → is_among section_words x ≡ true → role_of_word x ≡ role.Nothing
-section_no_role x h = among (λ w. role_of_word w ≡ role.Nothing) section_words x
+pub section_no_role : (x : List ℕ) → is_among section_words x ≡ true → role_of (word x) ≡ role.Nothing
+section_no_role x h = among (λ w. role_of (word w) ≡ role.Nothing) section_words x
     (refl, (refl, (refl, (refl, (refl, (refl, (refl, (refl, (refl, (refl, (refl, (refl, (refl, (refl, (refl, (refl, (refl, (refl, (refl, tt))))))))))))))))))) h
 
 abbrev pub begins_section : Mark → Bool

@@ -1,10 +1,13 @@
 -- Worked examples of where reading stops, and of trees.
-use Rattle.std.proofs.Common.{◌≡◌, true, false, [], ◌∷◌, Some, refl}
-use Rattle.std.specs.Prelude.{codes, pos, negsuc}
+use Rattle.std.proofs.Common.{◌≡◌, ℕ, Bool, true, false, List, [], ◌∷◌, Some, refl}
+use Rattle.std.specs.Prelude.{codes, pos, negsuc, map, filter}
 use Rattle.smv_lexer.specs.declared.token.TokenKind.TheVariants as k
 use Rattle.smv_language.specs.declared.expr.Op.TheVariants as op
 use Rattle.smv_language.specs.Tree.{number, leaf, not_of, negate, binary, choice, span}
-use Rattle.smv_language.specs.Lexemes.{Lexeme, word, num, sign}
+use Rattle.smv_language.specs.Lexemes.{Lexeme, word, num, sign, left_out_words}
+use Rattle.smv_expression_reader.specs.Words.{word_rows, is_nothing}
+use Rattle.smv_expression_reader.specs.declared.machine.TokenRole.{TokenRole as Role}
+use Rattle.smv_expression_reader.specs.declared.mark.Mark.{Mark}
 use Rattle.smv_expression_reader.specs.Recogniser.{run, start, is_stuck, is_whole}
 use Rattle.smv_expression_reader.specs.TreeBuilder.{built}
 
@@ -75,3 +78,7 @@ e13 = refl
 
 e14 : is_stuck (run start (word (codes "next") ∷ a ∷ [])) ≡ true
 e14 = refl
+
+-- the words that are left out are those of the language that it left out, and three that begin a section
+e15 : map (λ (row : List ℕ × (Role × Mark × Bool)). row.0) (filter (λ row. is_nothing row.1.0 row.1.1) word_rows) ≡ codes "FAIRNESS" ∷ codes "JUSTICE" ∷ codes "COMPASSION" ∷ left_out_words
+e15 = refl

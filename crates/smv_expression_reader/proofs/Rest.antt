@@ -1,12 +1,13 @@
 -- What is accepted spells a tree.
-use Rattle.std.proofs.Common.{◌≡◌, ℕ, ℤ, Bool, true, false, List, [], ◌∷◌, ◌++◌, ◌⊎◌, inl, inr, refl, sym, ◌∙◌, ap, subst, arith, append_assoc, append-nil}
-use Rattle.std.specs.Prelude.{pos, codes, if◌then◌else◌}
+use Rattle.std.proofs.Common.{◌≡◌, ℕ, ℤ, true, false, List, [], ◌∷◌, ◌++◌, ◌⊎◌, inl, inr, refl, sym, ◌∙◌, ap, subst, arith, append_assoc, append-nil}
+use Rattle.std.specs.Prelude.{pos, codes}
 use Rattle.smv_lexer.specs.declared.token.TokenKind.TheVariants as k
 use Rattle.smv_language.specs.declared.expr.Op.TheVariants as op
-use Rattle.smv_language.specs.Language.{Tree, Trees, Branches, Lexeme, word, num, sign, is_reserved, same_text, Path, at_expr, at_neg, at_not, operator, minus, SpellsInt, plain_int, minus_int, SpellsDotted, one_name, more_names, Spells, only_not, only_atom, inverts, SpellsAtom, is_true, is_false, is_number, is_span, is_name, in_parentheses, is_next, is_set, is_case, SpellsTrees, one_tree, more_trees, SpellsBranches, one_branch, more_branches}
+use Rattle.smv_language.specs.Language.{Tree, Trees, Branches, Lexeme, word, num, sign, is_reserved, Path, at_expr, at_neg, at_not, operator, minus, SpellsInt, plain_int, minus_int, SpellsDotted, one_name, more_names, Spells, only_not, only_atom, inverts, SpellsAtom, is_true, is_false, is_number, is_span, is_name, in_parentheses, is_next, is_set, is_case, SpellsTrees, one_tree, more_trees, SpellsBranches, one_branch, more_branches}
 use Rattle.smv_language.specs.Tree.{truth}
-use Rattle.smv_expression_reader.specs.Recogniser.{role_of_word, role_of, Ended, by_number, by_name, by_other, State, wants, wants_not, wants_low, wants_dots, wants_high, wants_digits, wants_name, wants_open, wants_branch, had, stuck, begin, close, follow, step, run, is_whole, start}
-use Rattle.smv_language.proofs.OneTree.{same_text_equal}
+use Rattle.smv_expression_reader.specs.Recogniser.{role_of, Ended, by_number, by_name, by_other, State, wants, wants_not, wants_low, wants_dots, wants_high, wants_digits, wants_name, wants_open, wants_branch, had, stuck, begin, close, follow, step, run, is_whole, start}
+use Rattle.smv_expression_reader.specs.Words.{use_of}
+use Rattle.smv_expression_reader.proofs.WordLaws.{in_words}
 use Rattle.smv_language.proofs.PrintedSpells.{loosened}
 use Rattle.smv_expression_reader.proofs.Prepended.{IsSpelled, prepended, chosen, minus_before}
 use Rattle.smv_expression_reader.proofs.Accepted.{regrouped_twice as ending}
@@ -38,28 +39,12 @@ Meant role.OpensSet t = t ≡ sign k.OpenBrace
 Meant role.ClosesSet t = t ≡ sign k.CloseBrace
 Meant role.Nothing t = Unit {0}
 
-pub by_test : (b : Bool) (P : Role → Type 0) (x y : Role) → (b ≡ true → P x) → (b ≡ false → P y) → P (if b then x else y)
-by_test true P x y f g = f refl
-by_test false P x y f g = g refl
-
-pub same_word : (x w : List ℕ) → same_text x w ≡ true → word x ≡ word w
-same_word x w e = ap word (same_text_equal x w e)
-
-meant_word : (x : List ℕ) → Meant (role_of_word x) (word x)
+meant_word : (x : List ℕ) → Meant (use_of x).0 (word x)
 unfolding Meant
 meant_word x =
-    let P : Role → Type 0 = λ c. Meant c (word x) in
-    by_test (same_text x (codes "TRUE")) P _ _ (λ e. subst (λ z. SpellsAtom (z ∷ []) (truth true)) (sym (same_word x (codes "TRUE") e)) is_true) (λ n1.
-    by_test (same_text x (codes "FALSE")) P _ _ (λ e. subst (λ z. SpellsAtom (z ∷ []) (truth false)) (sym (same_word x (codes "FALSE") e)) is_false) (λ n2.
-    by_test (same_text x (codes "next")) P _ _ (λ e. same_word x (codes "next") e) (λ n3.
-    by_test (same_text x (codes "case")) P _ _ (λ e. same_word x (codes "case") e) (λ n4.
-    by_test (same_text x (codes "esac")) P _ _ (λ e. same_word x (codes "esac") e) (λ n5.
-    by_test (same_text x (codes "mod")) P _ _ (λ e. same_word x (codes "mod") e) (λ n6.
-    by_test (same_text x (codes "union")) P _ _ (λ e. same_word x (codes "union") e) (λ n7.
-    by_test (same_text x (codes "in")) P _ _ (λ e. same_word x (codes "in") e) (λ n8.
-    by_test (same_text x (codes "xor")) P _ _ (λ e. same_word x (codes "xor") e) (λ n9.
-    by_test (same_text x (codes "xnor")) P _ _ (λ e. same_word x (codes "xnor") e) (λ n10.
-    by_test (is_reserved x) P role.Nothing role.Name (λ e. tt) (λ e. (x, refl, e))))))))))))
+    in_words (λ w row. Meant row.0 (word w)) x
+    (tt, (tt, (tt, (tt, (tt, (tt, (tt, (tt, (tt, (tt, (tt, (tt, (tt, (tt, (tt, (tt, (tt, (tt, (tt, (refl, (refl, (refl, (refl, (tt, (refl, (refl, (refl, (refl, (is_true, (is_false, (tt, (tt, (tt, (tt, (tt, (tt, (tt, (tt, (tt, (tt, (tt, (tt, (tt, (tt, tt))))))))))))))))))))))))))))))))))))))))))))
+    (λ n. (x, refl, n))
 
 meant : (t : Lexeme) → Meant (role_of t) t
 unfolding Meant

@@ -1,11 +1,14 @@
 -- Texts of words and of numbers.
 use Rattle.std.proofs.Common.{◌≡◌, ℕ, ◌+◌, ◌-◌, ◌*◌, ◌<◌, ◌≤◌, List, [], ◌∷◌, length, drop, get_or, refl, ap, arith}
-use Rattle.std.specs.Prelude.{nat_eq, ◌&&◌, ◌||◌, map}
+use Rattle.std.specs.Prelude.{Bool, nat_eq, ◌&&◌, map}
 use Rattle.std.specs.Borrow.{Bor}
 use Rattle.std.specs.Cmp.Lexicographic.{pointwise}
 use Rattle.std.proofs.lemmas.List.{drop_more}
-use Rattle.smv_language.specs.Texts.{same_text, is_among}
+use Rattle.smv_language.specs.Texts.{same_text, first_with}
 use Rattle.smv_lexer.specs.Runs.{number_from}
+use Rattle.smv_expression_reader.specs.Words.{row_view}
+use Rattle.smv_expression_reader.specs.declared.machine.TokenRole.{TokenRole as Role}
+use Rattle.smv_expression_reader.specs.declared.mark.Mark.{Mark}
 
 -- the test of a text is that of its bytes
 pub same_bytes : (xs ys : List ℕ) → same_text xs ys ≡ pointwise nat_eq xs ys
@@ -29,7 +32,7 @@ number_small xs i d value bound h same small =
     let grows = number_grows (drop (i + 1) xs) (value * 10 + (get_or xs i d - 48)) in
     omega (arith, same, more, grows, small)
 
--- one word more of a list of words
-pub among_more : (words : List (Bor (List ℕ))) (text : List ℕ) (i : ℕ) (d : Bor (List ℕ)) → i < length words →
-    is_among (map (λ word. word.now) (drop i words)) text ≡ (same_text (get_or words i d).now text || is_among (map (λ word. word.now) (drop (i + 1) words)) text)
-among_more words text i d h = ap (λ rest. is_among (map (λ word. word.now) rest) text) (drop_more words i d h)
+-- one row more of a list of rows
+pub first_more : (rows : List (Bor (List ℕ) × Role × Mark × Bool)) (text : List ℕ) (i : ℕ) (d : Bor (List ℕ) × Role × Mark × Bool) → i < length rows →
+    first_with (map row_view (drop i rows)) text ≡ first_with (map row_view (get_or rows i d ∷ drop (i + 1) rows)) text
+first_more rows text i d h = ap (λ rest. first_with (map row_view rest) text) (drop_more rows i d h)

@@ -1,3 +1,4 @@
+pub mod Words
 pub mod Recogniser
 pub mod Complete
 pub mod TreeBuilder

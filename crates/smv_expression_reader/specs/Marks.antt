@@ -1,27 +1,14 @@
 -- What a lexeme is outside expressions, for all readers.
-use Rattle.std.specs.Prelude.{ℕ, Bool, false, nat_eq, List, codes, if◌then◌else◌}
+use Rattle.std.specs.Prelude.{ℕ, Bool, false, nat_eq}
 use Rattle.smv_lexer.specs.declared.token.TokenKind.TheVariants as k
-use Rattle.smv_language.specs.Language.{Lexeme, word, num, sign, is_reserved, section_words, same_text, is_among, skipped_words}
+use Rattle.smv_language.specs.Language.{Lexeme, word, num, sign, section_words, is_among}
 use Rattle.smv_expression_reader.specs.declared.mark.Mark.{Mark}
 use Rattle.smv_expression_reader.specs.declared.mark.Mark.TheVariants as mark
-
--- what a word is; a reserved one that begins nothing here has no mark
-abbrev pub mark_of_word : List ℕ → Mark
-mark_of_word x =
-    if same_text x (codes "MODULE") then mark.Module else
-    (if same_text x (codes "VAR") then mark.Var else (if same_text x (codes "IVAR") then mark.Ivar else
-    (if same_text x (codes "FROZENVAR") then mark.Frozen else
-    (if same_text x (codes "DEFINE") then mark.Define else (if same_text x (codes "CONSTANTS") then mark.Constants else
-    (if same_text x (codes "ASSIGN") then mark.Assign else
-    (if same_text x (codes "INIT") then mark.Init else (if same_text x (codes "INVAR") then mark.Invar else
-    (if same_text x (codes "TRANS") then mark.Trans else
-    (if is_among skipped_words x then mark.Skipped else (if same_text x (codes "boolean") then mark.Boolean else
-    (if same_text x (codes "init") then mark.First else
-    (if same_text x (codes "next") then mark.After else (if is_reserved x then mark.Nothing else mark.Name))))))))))))))
+use Rattle.smv_expression_reader.specs.Words.{use_of}
 
 -- what a lexeme is; a sign of expressions alone has no mark
 abbrev pub mark_of : Lexeme → Mark
-mark_of (word x) = mark_of_word x
+mark_of (word x) = (use_of x).1
 mark_of (num n d) = mark.Number
 mark_of (sign k.Becomes) = mark.Becomes
 mark_of (sign k.Dots) = mark.Dots

@@ -1,26 +1,17 @@
 -- A machine that takes one lexeme at a time, with a stack of what is still to be closed.
-use Rattle.std.specs.Prelude.{ℕ, Bool, true, false, List, [], ◌∷◌, codes, if◌then◌else◌}
+use Rattle.std.specs.Prelude.{Bool, true, false, List, [], ◌∷◌}
 use Rattle.smv_lexer.specs.declared.token.TokenKind.TheVariants as k
 use Rattle.smv_language.specs.declared.expr.Op.TheVariants as op
-use Rattle.smv_language.specs.Language.{Lexeme, word, num, sign, is_reserved, same_text}
+use Rattle.smv_language.specs.Language.{Lexeme, word, num, sign}
 use Rattle.smv_expression_reader.specs.declared.frames.OpenFrame.{OpenFrame as Frame}
 use Rattle.smv_expression_reader.specs.declared.machine.TokenRole.{TokenRole as Role}
 use Rattle.smv_expression_reader.specs.declared.frames.OpenFrame.TheVariants as frame
 use Rattle.smv_expression_reader.specs.declared.machine.TokenRole.TheVariants as role
-
--- what a word is in an expression; a reserved one that stands in none has no role
-abbrev pub role_of_word : List ℕ → Role
-role_of_word x =
-    if same_text x (codes "TRUE") then role.Truth true else (if same_text x (codes "FALSE") then role.Truth false else
-    (if same_text x (codes "next") then role.Next else (if same_text x (codes "case") then role.Case else
-    (if same_text x (codes "esac") then role.Esac else (if same_text x (codes "mod") then role.Joins op.Mod else
-    (if same_text x (codes "union") then role.Joins op.Union else (if same_text x (codes "in") then role.Joins op.Within else
-    (if same_text x (codes "xor") then role.Joins op.Xor else (if same_text x (codes "xnor") then role.Joins op.Xnor else
-    (if is_reserved x then role.Nothing else role.Name))))))))))
+use Rattle.smv_expression_reader.specs.Words.{use_of}
 
 -- what a lexeme is in an expression
 abbrev pub role_of : Lexeme → Role
-role_of (word x) = role_of_word x
+role_of (word x) = (use_of x).0
 role_of (num n d) = role.Number
 role_of (sign k.Minus) = role.Minus
 role_of (sign k.Bang) = role.Bang

@@ -1,12 +1,13 @@
 -- What each refusal says of the bytes.
-use Rattle.std.specs.Prelude.{◌≡◌, ℕ, ◌+◌, Bool, true, false, List, [], ◌∷◌, ◌++◌, Some, length, take, ◌||◌, codes, slice_get}
+use Rattle.std.specs.Prelude.{◌≡◌, ℕ, ◌+◌, Bool, true, false, List, ◌++◌, Some, length, take, slice_get}
 use Rattle.smv_lexer.specs.declared.token.Token.{Token}
 use Rattle.smv_lexer.specs.Tokens.{HasTokens}
 use Rattle.smv_lexer.specs.Faults.{HasNoSplit, IsFaultOf}
-use Rattle.smv_language.specs.Language.{Formula, Lexeme, word, num, sign, lexemes_of, left_out_words, is_among, SpellsExpr, BytesSpellExpr}
+use Rattle.smv_language.specs.Language.{Formula, Lexeme, word, num, sign, lexemes_of, SpellsExpr, BytesSpellExpr}
 use Rattle.smv_language.specs.Language.{HasDepths}
 use Rattle.smv_expression_reader.specs.declared.fault.ParseFault.{ParseFault}
 use Rattle.smv_expression_reader.specs.declared.fault.ParseFault.TheVariants as fault
+use Rattle.smv_expression_reader.specs.Words.{use_of, is_nothing}
 use Rattle.smv_expression_reader.specs.Places.{lexeme_at}
 
 -- the list spells some expression
@@ -17,17 +18,9 @@ IsExpression ts = (t : Formula) × SpellsExpr ts t
 abbrev pub IsFrontOf : (List Lexeme → Type 0) → List Lexeme → Type 0
 IsFrontOf IsSpelled ts = (us : List Lexeme) × IsSpelled (ts ++ us)
 
--- section words that begin a section which is left out
-abbrev pub left_out_sections : List (List ℕ)
-left_out_sections = codes "FAIRNESS" ∷ codes "JUSTICE" ∷ codes "COMPASSION" ∷ []
-
--- a word of what is left out of the language
-abbrev pub is_left_out_text : List ℕ → Bool
-is_left_out_text x = is_among left_out_words x || is_among left_out_sections x
-
--- a lexeme that is such a word
+-- a word that is left out of the language
 abbrev pub is_left_out : Lexeme → Bool
-is_left_out (word x) = is_left_out_text x
+is_left_out (word x) = is_nothing (use_of x).0 (use_of x).1
 is_left_out (num n d) = false
 is_left_out (sign s) = false
 

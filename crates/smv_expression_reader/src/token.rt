@@ -6,15 +6,15 @@ ghost use Rattle.std.specs.Prelude.{◌≡◌, ◌<◌, ◌≤◌, ◌-◌, ◌^
 ghost use Rattle.smv_language.specs.Lexemes.{lexemes_of};
 ghost use Rattle.smv_language.specs.Spells.{minus};
 ghost use Rattle.smv_lexer.specs.Tokens.{number_of, StandsIn};
-ghost use Rattle.smv_expression_reader.specs.Recogniser.{role_of, role_of_word};
-ghost use Rattle.smv_expression_reader.specs.Marks.{mark_of, mark_of_word, is_section};
+ghost use Rattle.smv_expression_reader.specs.Recogniser.{role_of};
+ghost use Rattle.smv_expression_reader.specs.Marks.{mark_of, is_section};
 ghost use Rattle.smv_expression_reader.specs.TreeBuilder.{name_in, number_in};
 ghost use Rattle.smv_expression_reader.specs.Places.{lexeme_at, is_word, text_in};
 ghost use Rattle.smv_expression_reader.specs.Stops.{is_left_out};
 
 use crate::machine::TokenRole;
 use crate::mark::Mark;
-use crate::words::{begins_section, is_left_out, is_reserved, is_same, is_skipped};
+use crate::words::{begins_section, is_left_out, is_same, word_mark, word_role};
 use base_values::{Name, OutOfMemory};
 use smv_language::Op;
 use smv_lexer::{Token, TokenKind, TokenList};
@@ -64,76 +64,6 @@ impl<'a> Model for TokenText<'a> {
 
     ghost invariant = { λ token. (token.kind ≡ Number → number_of token.text.now ≤ 2 ^ 63 - 1)
         × (text_in (lexeme_of token.kind token.text.now) ≡ token.text.now) };
-}
-
-/// What a word is in an expression.
-fn word_role(text: &[u8]) -> TokenRole
-    ensures { result ≡ role_of_word text.now }
-{
-    if is_same(text, b"TRUE") {
-        TokenRole::Truth(true)
-    } else if is_same(text, b"FALSE") {
-        TokenRole::Truth(false)
-    } else if is_same(text, b"next") {
-        TokenRole::Next
-    } else if is_same(text, b"case") {
-        TokenRole::Case
-    } else if is_same(text, b"esac") {
-        TokenRole::Esac
-    } else if is_same(text, b"mod") {
-        TokenRole::Joins(Op::Mod)
-    } else if is_same(text, b"union") {
-        TokenRole::Joins(Op::Union)
-    } else if is_same(text, b"in") {
-        TokenRole::Joins(Op::Within)
-    } else if is_same(text, b"xor") {
-        TokenRole::Joins(Op::Xor)
-    } else if is_same(text, b"xnor") {
-        TokenRole::Joins(Op::Xnor)
-    } else if is_reserved(text) {
-        TokenRole::Nothing
-    } else {
-        TokenRole::Name
-    }
-}
-
-/// What a word is outside expressions.
-fn word_mark(text: &[u8]) -> Mark
-    ensures { result ≡ mark_of_word text.now }
-{
-    if is_same(text, b"MODULE") {
-        Mark::Module
-    } else if is_same(text, b"VAR") {
-        Mark::Var
-    } else if is_same(text, b"IVAR") {
-        Mark::Ivar
-    } else if is_same(text, b"FROZENVAR") {
-        Mark::Frozen
-    } else if is_same(text, b"DEFINE") {
-        Mark::Define
-    } else if is_same(text, b"CONSTANTS") {
-        Mark::Constants
-    } else if is_same(text, b"ASSIGN") {
-        Mark::Assign
-    } else if is_same(text, b"INIT") {
-        Mark::Init
-    } else if is_same(text, b"INVAR") {
-        Mark::Invar
-    } else if is_same(text, b"TRANS") {
-        Mark::Trans
-    } else if is_skipped(text) {
-        Mark::Skipped
-    } else if is_same(text, b"boolean") {
-        Mark::Boolean
-    } else if is_same(text, b"init") {
-        Mark::First
-    } else if is_same(text, b"next") {
-        Mark::After
-    } else if is_reserved(text) {
-        Mark::Nothing
-    } else {
-        Mark::Name
-    }
 }
 
 /// The number of these digits.

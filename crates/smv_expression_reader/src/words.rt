@@ -1,54 +1,62 @@
-//! Words that are no names, and tests of a word's text: `is_reserved` is the main one.
+//! The words that are no names, a row each, and tests of a word's text.
+//!
+//! A row has the text, what the word is in an expression, what it is outside, and whether it begins a module or a
+//! section. A word that is nothing in either place is left out of the language.
 ghost use Rattle.std.specs.Prelude.{◌≡◌, map};
-ghost use Rattle.smv_language.specs.Texts.{same_text, is_among};
-ghost use Rattle.smv_language.specs.SpellsProgram.{skipped_words};
-ghost use Rattle.smv_expression_reader.specs.Stops.{is_left_out_text};
-ghost use Rattle.smv_language.specs.Lexemes.{is_reserved as is_reserved_text, section_words, left_out_words};
+ghost use Rattle.smv_language.specs.Texts.{same_text, is_among, first_with};
+ghost use Rattle.smv_language.specs.Lexemes.{section_words};
+ghost use Rattle.smv_expression_reader.specs.Words.{row_view, use_or_name, use_of, is_nothing};
 
-/// The words that begin a module or a section.
-static SECTION_WORDS: [&[u8]; 19] = [
-    b"MODULE",
-    b"VAR",
-    b"IVAR",
-    b"FROZENVAR",
-    b"DEFINE",
-    b"CONSTANTS",
-    b"ASSIGN",
-    b"INIT",
-    b"INVAR",
-    b"TRANS",
-    b"CTLSPEC",
-    b"SPEC",
-    b"LTLSPEC",
-    b"PSLSPEC",
-    b"INVARSPEC",
-    b"COMPUTE",
-    b"FAIRNESS",
-    b"JUSTICE",
-    b"COMPASSION",
-];
+use crate::machine::TokenRole;
+use crate::mark::Mark;
+use smv_language::Op;
 
-/// The words of expressions and types.
-static EXPRESSION_WORDS: [&[u8]; 12] = [
-    b"case", b"esac", b"mod", b"next", b"init", b"union", b"in", b"xor", b"xnor", b"TRUE",
-    b"FALSE", b"boolean",
-];
-
-/// The words of what is left out of the language.
-static LEFT_OUT_WORDS: [&[u8]; 13] = [
-    b"process",
-    b"self",
-    b"count",
-    b"toint",
-    b"bool",
-    b"word",
-    b"array",
-    b"of",
-    b"real",
-    b"integer",
-    b"signed",
-    b"unsigned",
-    b"ISA",
+/// The words that are no names.
+static WORDS: [(&[u8], TokenRole, Mark, bool); 44] = [
+    (b"MODULE", TokenRole::Nothing, Mark::Module, true),
+    (b"VAR", TokenRole::Nothing, Mark::Var, true),
+    (b"IVAR", TokenRole::Nothing, Mark::Ivar, true),
+    (b"FROZENVAR", TokenRole::Nothing, Mark::Frozen, true),
+    (b"DEFINE", TokenRole::Nothing, Mark::Define, true),
+    (b"CONSTANTS", TokenRole::Nothing, Mark::Constants, true),
+    (b"ASSIGN", TokenRole::Nothing, Mark::Assign, true),
+    (b"INIT", TokenRole::Nothing, Mark::Init, true),
+    (b"INVAR", TokenRole::Nothing, Mark::Invar, true),
+    (b"TRANS", TokenRole::Nothing, Mark::Trans, true),
+    (b"CTLSPEC", TokenRole::Nothing, Mark::Skipped, true),
+    (b"SPEC", TokenRole::Nothing, Mark::Skipped, true),
+    (b"LTLSPEC", TokenRole::Nothing, Mark::Skipped, true),
+    (b"PSLSPEC", TokenRole::Nothing, Mark::Skipped, true),
+    (b"INVARSPEC", TokenRole::Nothing, Mark::Skipped, true),
+    (b"COMPUTE", TokenRole::Nothing, Mark::Skipped, true),
+    (b"FAIRNESS", TokenRole::Nothing, Mark::Nothing, true),
+    (b"JUSTICE", TokenRole::Nothing, Mark::Nothing, true),
+    (b"COMPASSION", TokenRole::Nothing, Mark::Nothing, true),
+    (b"case", TokenRole::Case, Mark::Nothing, false),
+    (b"esac", TokenRole::Esac, Mark::Nothing, false),
+    (b"mod", TokenRole::Joins(Op::Mod), Mark::Nothing, false),
+    (b"next", TokenRole::Next, Mark::After, false),
+    (b"init", TokenRole::Nothing, Mark::First, false),
+    (b"union", TokenRole::Joins(Op::Union), Mark::Nothing, false),
+    (b"in", TokenRole::Joins(Op::Within), Mark::Nothing, false),
+    (b"xor", TokenRole::Joins(Op::Xor), Mark::Nothing, false),
+    (b"xnor", TokenRole::Joins(Op::Xnor), Mark::Nothing, false),
+    (b"TRUE", TokenRole::Truth(true), Mark::Nothing, false),
+    (b"FALSE", TokenRole::Truth(false), Mark::Nothing, false),
+    (b"boolean", TokenRole::Nothing, Mark::Boolean, false),
+    (b"process", TokenRole::Nothing, Mark::Nothing, false),
+    (b"self", TokenRole::Nothing, Mark::Nothing, false),
+    (b"count", TokenRole::Nothing, Mark::Nothing, false),
+    (b"toint", TokenRole::Nothing, Mark::Nothing, false),
+    (b"bool", TokenRole::Nothing, Mark::Nothing, false),
+    (b"word", TokenRole::Nothing, Mark::Nothing, false),
+    (b"array", TokenRole::Nothing, Mark::Nothing, false),
+    (b"of", TokenRole::Nothing, Mark::Nothing, false),
+    (b"real", TokenRole::Nothing, Mark::Nothing, false),
+    (b"integer", TokenRole::Nothing, Mark::Nothing, false),
+    (b"signed", TokenRole::Nothing, Mark::Nothing, false),
+    (b"unsigned", TokenRole::Nothing, Mark::Nothing, false),
+    (b"ISA", TokenRole::Nothing, Mark::Nothing, false),
 ];
 
 /// Whether both texts have the same bytes.
@@ -59,63 +67,52 @@ pub fn is_same(text: &[u8], word: &[u8]) -> bool
     text == word
 }
 
-/// Whether one of the words has this text.
-#[tactic(auto, using(crate::proofs::Texts::among_more))]
-fn has_word(words: &[&[u8]], text: &[u8]) -> bool
-    ensures { result ≡ is_among (map (λ word. word.now) words.now) text.now }
+/// The rest of the first row of a text; without one it is a name.
+#[tactic(auto, using(crate::proofs::Texts::first_more))]
+fn use_in(rows: &[(&[u8], TokenRole, Mark, bool)], text: &[u8]) -> (TokenRole, Mark, bool)
+    ensures { result ≡ use_or_name (first_with (map row_view rows.now) text.now) }
 {
-    for word in words {
+    for row in rows {
+        let (word, role, mark, begins) = *row;
         if is_same(word, text) {
-            return true;
+            return (role, mark, begins);
         }
     }
-    false
+    (TokenRole::Name, Mark::Name, false)
 }
 
-/// Whether a text begins a module or a section.
+/// The rest of a word's row.
+fn word_use(text: &[u8]) -> (TokenRole, Mark, bool)
+    ensures { result ≡ use_of text.now }
+{
+    use_in(&WORDS, text)
+}
+
+/// What a word is in an expression.
+pub fn word_role(text: &[u8]) -> TokenRole
+    ensures { result ≡ (use_of text.now).0 }
+{
+    word_use(text).0
+}
+
+/// What a word is outside expressions.
+pub fn word_mark(text: &[u8]) -> Mark
+    ensures { result ≡ (use_of text.now).1 }
+{
+    word_use(text).1
+}
+
+/// Whether a word begins a module or a section.
+#[tactic(auto, using(crate::proofs::WordLaws::section_row))]
 pub fn begins_section(text: &[u8]) -> bool
     ensures { result ≡ is_among section_words text.now }
 {
-    has_word(&SECTION_WORDS, text)
+    word_use(text).2
 }
 
-/// Whether a text is a word of the language that this project leaves out.
-fn is_left_out_word(text: &[u8]) -> bool
-    ensures { result ≡ is_among left_out_words text.now }
-{
-    has_word(&LEFT_OUT_WORDS, text)
-}
-
-/// Whether a text is no name.
-pub fn is_reserved(text: &[u8]) -> bool
-    ensures { result ≡ is_reserved_text text.now }
-{
-    begins_section(text) || has_word(&EXPRESSION_WORDS, text) || is_left_out_word(text)
-}
-
-/// Whether a text is a word of what is left out, three words that begin a section among them.
+/// Whether a word is left out of the language.
 pub fn is_left_out(text: &[u8]) -> bool
-    ensures { result ≡ is_left_out_text text.now }
+    ensures { result ≡ is_nothing (use_of text.now).0 (use_of text.now).1 }
 {
-    is_left_out_word(text) || has_word(&LEFT_OUT_SECTIONS, text)
-}
-
-/// Section words of what is left out.
-static LEFT_OUT_SECTIONS: [&[u8]; 3] = [b"FAIRNESS", b"JUSTICE", b"COMPASSION"];
-
-/// The words that begin a section that is passed over.
-static SKIPPED_WORDS: [&[u8]; 6] = [
-    b"CTLSPEC",
-    b"SPEC",
-    b"LTLSPEC",
-    b"PSLSPEC",
-    b"INVARSPEC",
-    b"COMPUTE",
-];
-
-/// Whether a text begins a section that is passed over.
-pub fn is_skipped(text: &[u8]) -> bool
-    ensures { result ≡ is_among skipped_words text.now }
-{
-    has_word(&SKIPPED_WORDS, text)
+    matches!(word_use(text), (TokenRole::Nothing, Mark::Nothing, _))
 }

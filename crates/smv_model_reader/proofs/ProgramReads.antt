@@ -9,7 +9,7 @@ use Rattle.smv_expression_reader.specs.Marks.{mark_of, is_section}
 use Rattle.smv_model_reader.specs.ProgramGrammar.{the_becomes, the_semicolon, the_close, Sym, is_single, empty, live, alone, passing, after_type, after_declared, after_section, after, after_actual, next, ends_formula, ends_dots, is_word_module, is_word_semicolon, follow, programs}
 use Rattle.smv_model_reader.specs.ProgramGrammar as s
 use Rattle.smv_expression_reader.proofs.Exact.{completes}
-use Rattle.smv_expression_reader.proofs.Marks.{among, Marked, marked, section_no_role, begins_section, section_mark}
+use Rattle.smv_expression_reader.proofs.Marks.{Marked, marked, section_no_role, begins_section, section_mark}
 use Rattle.smv_expression_reader.proofs.ReadLaws.{ends_role, whole_stops}
 use Rattle.smv_model_reader.proofs.ProgramSound.{sounds}
 use Rattle.smv_model_reader.proofs.ProgramComplete.{completed, empties, emptied, completing}
