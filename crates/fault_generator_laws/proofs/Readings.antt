@@ -15,7 +15,7 @@ use Rattle.fault_instructions.specs.InstructionText.{instructions_text}
 use Rattle.fault_instructions.specs.SpellsInstructions.{SpellsInstructions, BytesSpellInstructions}
 use Rattle.fault_instructions.proofs.InstructionSpells.{instructions_spell}
 use Rattle.fault_instructions.proofs.OneInstructions.{one_instructions}
-use Rattle.fault_reader.specs.InstructionPlaces.{IsInstructions}
+use Rattle.fault_reader.specs.Symbols.{IsInstructions}
 use Rattle.fault_reader.specs.InstructionDepths.{HaveInstructionDepths, AreInstructionsTooDeep}
 use Rattle.smv_expression_reader.specs.declared.fault.ParseFault.{ParseFault}
 use Rattle.smv_expression_reader.specs.declared.fault.ParseFault.TheVariants as parse

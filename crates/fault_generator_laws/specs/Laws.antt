@@ -4,7 +4,7 @@ use Rattle.base_values.specs.declared.limits.TheConstants.{MOST_INSTANCES, MOST_
 use Rattle.smv_language.specs.Language.{Tree, ProgramTree, program_text, Each, HasDepths, FlatLeaf, FlatModel}
 use Rattle.fault_instructions.specs.InstructionText.{instructions_text}
 use Rattle.fault_reader.specs.InstructionDepths.{HaveInstructionDepths, AreInstructionsTooDeep}
-use Rattle.fault_reader.specs.InstructionPlaces.{IsInstructions}
+use Rattle.fault_reader.specs.Symbols.{IsInstructions}
 use Rattle.smv_expression_reader.specs.declared.fault.ParseFault.{ParseFault}
 use Rattle.smv_expression_reader.specs.declared.fault.ParseFault.TheVariants.{OutOfMemory}
 use Rattle.smv_expression_reader.specs.Stops.{IsExpression, IsTooDeep, FaultMeans}

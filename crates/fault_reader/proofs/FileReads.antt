@@ -18,7 +18,7 @@ use Rattle.smv_expression_reader.specs.SecondPass.{got, deep, none, and_then, an
 use Rattle.smv_expression_reader.proofs.Marks.{Marked, marked, mark_of_name, word_there}
 use Rattle.smv_expression_reader.proofs.ReadLaws.{read_expr, are_within, within_are}
 use Rattle.smv_expression_reader.proofs.PartsRead.{too_append, then_read, mapped, closes_with, many_read, some_read, no_many, name_read, int_read, answer_got, answer_deep, answer_none}
-use Rattle.fault_reader.specs.InstructionPlaces.{IsInstructions}
+use Rattle.fault_reader.specs.Symbols.{IsInstructions}
 use Rattle.fault_reader.specs.InstructionDepths.{in_arguments, in_effect, in_guard, in_mode, in_slice, in_extension, in_instructions, HaveInstructionDepths, AreInstructionsTooDeep}
 use Rattle.fault_reader.specs.InstructionParts.{const_at, arguments_at, kind_from, effect_at, dynamics_at, guard_at, in_braces, texts_at, marked_at, HeadTree, head_tree, head_at, mode_with, mode_at, modes_at, start_at, slice_at, slices_at, extension_at, extensions_at, given_name_at, instructions_of, file_at}
 use Rattle.smv_lexer.proofs.SignLemmas.{not_true}

@@ -23,7 +23,7 @@ use Rattle.fault_reader.proofs.Through.{That, as_one, as_key, as_other, is_that,
 use Rattle.smv_expression_reader.proofs.Meanings.{as_last, Leads, some_leads}
 use Rattle.smv_expression_reader.specs.declared.mark.Mark.{Mark}
 use Rattle.smv_expression_reader.specs.declared.mark.Mark.TheVariants as marks
-use Rattle.fault_reader.specs.declared.place.Single.TheVariants as the
+use Rattle.fault_reader.specs.declared.symbols.Single.TheVariants as the
 
 complete_extensions : (us : List Lexeme) (xs : List ExtensionTree) (t : Lexeme) (ts : List Lexeme) → SpellsMany SpellsExtension us xs → us ≡ t ∷ ts → Through (after_extensions t) ts
 unfolding Leads That

@@ -29,7 +29,7 @@ use Rattle.smv_language.proofs.SpelledLaws.{some_int}
 use Rattle.smv_expression_reader.specs.declared.mark.Mark.{Mark}
 use Rattle.smv_expression_reader.specs.declared.machine.TokenRole.TheVariants as role
 use Rattle.smv_expression_reader.specs.declared.mark.Mark.TheVariants as marks
-use Rattle.fault_reader.specs.declared.place.Single.TheVariants as the
+use Rattle.fault_reader.specs.declared.symbols.Single.TheVariants as the
 
 -- what may be nothing
 empties : (x : Sym) → empty x ≡ true → spelled x []

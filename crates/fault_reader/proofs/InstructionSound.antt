@@ -22,7 +22,7 @@ use Rattle.fault_reader.proofs.Through.{That, one, key, Means_of, Through, where
 use Rattle.smv_expression_reader.proofs.Meanings.{last, Leads}
 use Rattle.smv_expression_reader.specs.declared.mark.Mark.{Mark}
 use Rattle.smv_expression_reader.specs.declared.mark.Mark.TheVariants as marks
-use Rattle.fault_reader.specs.declared.place.Single.TheVariants as the
+use Rattle.fault_reader.specs.declared.symbols.Single.TheVariants as the
 
 -- a lexeme that closes no mark is spelled by its text
 token_text : (t : Lexeme) → (mark_of t ≡ marks.CloseBrace → ⊥) → IsTokenText t (text_in t)

@@ -3,4 +3,3 @@ pub mod Through
 pub mod InstructionSound
 pub mod InstructionComplete
 pub mod InstructionReads
-pub mod PlaceLaws

@@ -1,6 +1,7 @@
 -- What a list of expected symbols stands for.
-use Rattle.std.proofs.Common.{◌≡◌, inl, inr, ◌⊎◌, ℕ, Bool, true, false, List, [], ◌∷◌, ◌++◌, Option, refl, sym, ◌∙◌, ap}
+use Rattle.std.proofs.Common.{◌≡◌, inl, inr, ◌⊎◌, ℕ, Bool, true, false, List, [], ◌∷◌, ◌++◌, Option, Some, None, refl, sym, ◌∙◌, ap}
 use Rattle.std.specs.Prelude.{if◌then◌else◌}
+use Rattle.std.specs.Option.{option_map}
 use Rattle.smv_lexer.specs.declared.token.TokenKind.TheVariants as k
 use Rattle.smv_language.specs.Lexemes.{Lexeme, word, num, sign, is_reserved}
 use Rattle.smv_expression_reader.specs.Recogniser.{State, stuck, is_whole}
@@ -11,13 +12,14 @@ use Rattle.smv_expression_reader.specs.Marks.{mark_of}
 use Rattle.smv_expression_reader.proofs.Meanings.{Leads}
 use Rattle.smv_expression_reader.proofs.Accepted.{run_stuck}
 use Rattle.smv_expression_reader.proofs.Marks.{Marked, marked, mark_of_name, word_there}
-use Rattle.fault_reader.specs.InstructionGrammar.{Sym, is_single, spelled, live, where_so, instructions}
+use Rattle.fault_reader.specs.InstructionGrammar.{Sym, is_single, spelled, live, where_so, effect_in, arguments, next, instructions}
 use Rattle.fault_reader.specs.InstructionGrammar as s
 use Rattle.smv_language.proofs.ValueLaws.{same_text_refl as same_as_it}
+use Rattle.fault_instructions.specs.declared.effects.EffectKind.{EffectKind}
 use Rattle.smv_expression_reader.specs.declared.mark.Mark.{Mark}
 use Rattle.smv_expression_reader.specs.declared.mark.Mark.TheVariants as marks
-use Rattle.fault_reader.specs.declared.place.Single.{Single}
-use Rattle.fault_reader.specs.declared.place.Single.TheVariants as the
+use Rattle.fault_reader.specs.declared.symbols.Single.{Single}
+use Rattle.fault_reader.specs.declared.symbols.Single.TheVariants as the
 
 -- single lexemes
 unfoldable pub That : Single → Lexeme → Type 0
@@ -122,3 +124,12 @@ pub live_complete : (st : State) (rest : List Sym) (xs ys : List Lexeme) → is_
 unfolding Leads
 live_complete stuck rest xs ys e m = let clash : false ≡ true = ap is_whole (sym (run_stuck xs)) ∙ e in cc
 live_complete st rest xs ys e m = (xs, ys, refl, e, m)
+
+-- an effect by its word
+pub effect_found : (t : Lexeme) (k : EffectKind) → effect_in t ≡ Some k → next s.effect t ≡ Some (arguments k)
+effect_found t k h = ap (option_map arguments) h
+
+pub no_effect : (t : Lexeme) → effect_in t ≡ None → next s.effect t ≡ None
+no_effect t h = ap (option_map arguments) h
+
+pub ruleset effect_comes = (effect_found, no_effect)

@@ -11,16 +11,17 @@ use Rattle.fault_instructions.specs.Effects.{effect_kinds, first_kind}
 use Rattle.fault_instructions.specs.Instructions.{EffectTree, ModeTree, SliceTree, ExtensionTree, InstructionTree}
 use Rattle.fault_instructions.specs.SpellsInstructions.{SpellsConst, SpellsEffect, SpellsDynamics, SpellsGuard, SpellsMark, SpellsMode}
 use Rattle.fault_instructions.specs.SpellsInstructions.{SpellsStart, SpellsSlice, SpellsExtension, SpellsInstructions}
-use Rattle.smv_expression_reader.specs.Recogniser.{State, stuck, role_of, is_whole, is_stuck, start}
+use Rattle.smv_expression_reader.specs.Recogniser.{State, role_of, is_whole, is_stuck, start}
 use Rattle.smv_expression_reader.specs.Recogniser as machine
 use Rattle.smv_expression_reader.specs.Complete.{completion}
 use Rattle.smv_expression_reader.specs.Places.{is_word}
 use Rattle.smv_expression_reader.specs.PredictiveReader.{Grammar}
+use Rattle.smv_expression_reader.specs.Expected as expected
 use Rattle.smv_expression_reader.specs.Marks.{mark_of}
 use Rattle.smv_expression_reader.specs.declared.mark.Mark.{Mark}
 use Rattle.smv_expression_reader.specs.declared.mark.Mark.TheVariants as marks
-use Rattle.fault_reader.specs.declared.place.Single.{Single}
-use Rattle.fault_reader.specs.declared.place.Single.TheVariants as the
+use Rattle.fault_reader.specs.declared.symbols.Single.{Single}
+use Rattle.fault_reader.specs.declared.symbols.Single.TheVariants as the
 
 -- the mark is that of the lexeme
 abbrev pub is_single : Single → Mark → Bool
@@ -108,8 +109,7 @@ expr = formula start refl
 
 -- an expression in this state before other parts, where it goes on
 abbrev pub live : State → List Sym → Option (List Sym)
-live stuck s = None
-live st s = Some (formula st refl ∷ s)
+live = expected.live formula
 
 -- these, where the test holds
 abbrev pub where_so : Bool → List Sym → Option (List Sym)

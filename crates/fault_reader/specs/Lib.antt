@@ -1,4 +1,4 @@
 pub mod InstructionParts
 pub mod InstructionDepths
 pub mod InstructionGrammar
-pub mod InstructionPlaces
+pub mod Symbols

@@ -4,18 +4,16 @@
 //! lexemes spells instructions by a relation with one case for each line of the grammar (`SpellsInstructions` of
 //! `fault_instructions`). The call answers the instructions that the bytes spell, or a `ParseFault` with the first place that no
 //! text goes on from; what a refusal says of the bytes is `FaultMeans` of `smv_expression_reader`, over
-//! `IsInstructions` of `specs/InstructionPlaces.antt`.
+//! `IsInstructions` of `specs/Symbols.antt`.
 //!
 //! The words of the grammar, such as `MODE` and `Permanent`, are known by their place and are names elsewhere.
 //!
-//! `specs/InstructionGrammar.antt` has the grammar as one in which a token decides what is still expected, and
-//! `specs/InstructionPlaces.antt` what is expected at each place of the first pass; `specs/InstructionParts.antt` says what the
-//! second pass reads of the tokens, part by part, and `specs/InstructionDepths.antt` which expressions instructions have, as they
-//! are spelled: the guards and the values that `Follows` names.
+//! `specs/InstructionGrammar.antt` has the grammar as one in which a token decides what is still expected;
+//! `specs/InstructionParts.antt` says what the second pass reads of the tokens, part by part, and `specs/InstructionDepths.antt`
+//! which expressions instructions have, as they are spelled: the guards and the values that `Follows` names.
 //!
-//! A text is read twice, as programs are. The first pass (`extent`, over `place`) makes nothing: outside expressions one token decides
-//! what comes next, so a place in the grammar is all that it keeps, and in an expression the state of the recogniser
-//! of expressions. Only where the whole text spells instructions the second pass (`build`) makes them, and gives
+//! A text is read twice, as programs are. The first pass makes nothing: it is that of
+//! `smv_expression_reader` (`expected`), over the symbols of this grammar (`symbols`). Only where the whole text spells instructions the second pass (`build`) makes them, and gives
 //! up at the first expression that is higher than `MOST_HEIGHT` or nested deeper. What is spelled is read back as it is
 //! spelled, or found too deep (`read_file` of `proofs/FileReads.antt`). So `TooDeep` never hides another refusal, and
 //! both passes take time in proportion to the tokens.
@@ -27,8 +25,7 @@
 #![tactic(auto)]
 
 mod build;
-mod extent;
-mod place;
 mod reader;
+mod symbols;
 
 pub use reader::instructions;

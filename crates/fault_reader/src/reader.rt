@@ -4,16 +4,17 @@ ghost use Rattle.smv_lexer.specs.declared.token.Token.{Token};
 ghost use Rattle.smv_lexer.specs.Tokens.{HasTokens};
 ghost use Rattle.smv_language.specs.Lexemes.{lexemes_of};
 ghost use Rattle.smv_expression_reader.specs.Stops.{FaultMeans};
-ghost use Rattle.fault_reader.specs.InstructionPlaces.{IsInstructions};
+ghost use Rattle.fault_reader.specs.Symbols.{IsInstructions};
 ghost use Rattle.fault_reader.specs.InstructionDepths.{HaveInstructionDepths, AreInstructionsTooDeep};
 ghost use Rattle.fault_instructions.specs.Instructions.{InstructionTree, instruction_tree};
 ghost use Rattle.fault_instructions.specs.SpellsInstructions.{BytesSpellInstructions};
 
 use crate::build::file;
-use crate::extent::read_through;
+use crate::symbols::Symbol;
 use fault_instructions::Instructions;
 use smv_expression_reader::ParseFault;
 use smv_expression_reader::cursor::Cursor;
+use smv_expression_reader::expected::read_through;
 use smv_expression_reader::fault::BuildFault;
 use smv_expression_reader::reader::{split, stop_at};
 use smv_expression_reader::reading::ReadExtent;
@@ -34,7 +35,7 @@ fn check(
     ensures spelled { IfOk result (λ _. IsInstructions texts.now) }
     ensures fault { IfErr result (λ fault. FaultMeans IsInstructions (AreInstructionsTooDeep bytes.now) bytes.now fault) }
 {
-    match read_through(alloc, texts)? {
+    match read_through(alloc, Symbol::File, texts)? {
         ReadExtent::Whole => Ok(()),
         ReadExtent::Unfinished => Err(ParseFault::End(bytes.len() as u32)),
         ReadExtent::Stopped(i) => Err(stop_at(tokens, texts, i)),

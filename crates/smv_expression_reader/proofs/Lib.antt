@@ -23,3 +23,4 @@ pub mod ReadLaws
 pub mod PartsRead
 pub mod ListReads
 pub mod StopLaws
+pub mod ExpectedLaws

@@ -18,3 +18,4 @@ pub mod Lists
 pub mod SecondPass
 pub mod ExpressionDepths
 pub mod Readings
+pub mod Expected

@@ -13,14 +13,15 @@
 //!
 //! The layers above use the two calls and `ParseFault`. The readers of programs, of instructions and of causes
 //! use more: the split and the place where reading stops (`reader`), tokens with their texts (`token`) and their
-//! marks (`mark`), the machine and what is open in it (`machine`, `frames`), what a first pass answers (`reading`),
-//! and for the second what is left of the tokens (`cursor`) and why no tree was made (`fault`).
+//! marks (`mark`), the machine and what is open in it (`machine`, `frames`), the first pass over the symbols of a grammar
+//! (`expected`) and what it answers (`reading`), and for the second what is left of the tokens (`cursor`) and why no
+//! tree was made (`fault`).
 //!
 //! `specs/Recogniser.antt` has the first pass as a function on lexemes, `specs/TreeBuilder.antt` the second,
 //! `specs/Complete.antt` a text that completes what stands before it, `specs/PredictiveReader.antt` any grammar in which one
-//! token decides what is still expected, `specs/Words.antt` the words that are no names, `specs/Marks.antt` what a lexeme is
-//! outside expressions, `specs/SecondPass.antt` what a second pass reads, and `proofs/` the laws by which the calls answer
-//! what the grammar says.
+//! token decides what is still expected, `specs/Expected.antt` what is expected where such a first pass stands, `specs/Words.antt`
+//! the words that are no names, `specs/Marks.antt` what a lexeme is outside expressions, `specs/SecondPass.antt` what a second pass
+//! reads, and `proofs/` the laws by which the calls answer what the grammar says.
 //!
 //! ```text
 //! expression(alloc, b"a -> b -> c")    the tree of (a -> (b -> c))
@@ -30,6 +31,7 @@
 #![tactic(auto)]
 
 pub mod cursor;
+pub mod expected;
 mod extent;
 pub mod fault;
 pub mod frames;

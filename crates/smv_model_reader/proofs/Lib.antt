@@ -2,7 +2,5 @@ pub mod SymbolMeanings
 pub mod ProgramSound
 pub mod ProgramComplete
 pub mod ProgramReads
-pub mod SymbolStacks
-pub mod ProgramStops
 pub mod PartLaws
 pub mod PartReads

@@ -6,9 +6,10 @@ use Rattle.smv_language.specs.Language.{Lexeme, word, num, sign, SpellsInt, Spel
 use Rattle.smv_language.specs.Language.{SpellsExpr, SpellsMember, SpellsType, SpellsDeclared, SpellsDecl, SpellsDefine, SpellsAssignment}
 use Rattle.smv_language.specs.Language.{SpellsFormals, SpellsSections, SpellsModule, HasNoSection}
 use Rattle.smv_language.specs.declared.program.Member.{Member}
-use Rattle.smv_expression_reader.specs.Recogniser.{role_of, State, stuck, is_whole, is_stuck, start}
+use Rattle.smv_expression_reader.specs.Recogniser.{role_of, State, is_whole, is_stuck, start}
 use Rattle.smv_expression_reader.specs.Recogniser as machine
 use Rattle.smv_expression_reader.specs.Complete.{completion}
+use Rattle.smv_expression_reader.specs.Expected as expected
 use Rattle.smv_expression_reader.specs.PredictiveReader.{Grammar}
 use Rattle.smv_expression_reader.specs.Marks.{mark_of, is_section, is_mark}
 use Rattle.smv_expression_reader.specs.Stops.{IsExpression}
@@ -136,8 +137,7 @@ expr = formula start refl
 
 -- an expression in this state before other parts, where it goes on
 abbrev pub live : State → List Sym → Option (List Sym)
-live stuck s = None
-live st s = Some (formula st refl ∷ s)
+live = expected.live formula
 
 -- nothing more, where the lexeme fits
 abbrev pub alone : Bool → Option (List Sym)

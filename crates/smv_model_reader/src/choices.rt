@@ -1,228 +1,229 @@
-//! What comes of a part of a program with a token, which the token's mark alone decides.
+//! What comes of each symbol of the grammar of programs with a token.
 //!
-//! Each function answers whether the part goes on with the mark, and then puts what is still expected of it before
-//! the other parts. One function stands for one part, as one case of `after` in `specs/ProgramGrammar.antt`.
-ghost use Rattle.std.specs.Prelude.{◌≡◌, IfOk};
+//! One function stands for one symbol, as one case of `next` in `specs/ProgramGrammar.antt`.
+ghost use Rattle.std.specs.Prelude.{◌≡◌};
+ghost use Rattle.smv_expression_reader.specs.Marks.{mark_of, is_mark};
 ghost use Rattle.smv_model_reader.specs.ProgramGrammar as read;
-ghost use Rattle.smv_model_reader.specs.Symbols.{symbol_view, choice, Chosen};
+ghost use Rattle.smv_model_reader.specs.Symbols.{comes};
 
-use crate::symbols::{ExpectedSymbols, Symbol};
-use base_values::OutOfMemory;
+use crate::symbols::Symbol;
+use smv_expression_reader::expected::{GrammarSymbol, Taking};
 use smv_expression_reader::mark::{Mark, is_same};
+use smv_expression_reader::token::TokenText;
 
 /// Modules: one with its name, formals and sections, and more modules.
-fn after_modules(symbols: &mut ExpectedSymbols, mark: Mark) -> Result<bool, OutOfMemory>
-    ensures { IfOk result (λ on. Chosen on (read.after read.modules mark) symbols.old symbols.new) }
+fn after_modules(token: &TokenText) -> Taking<'static, Symbol>
+    ensures { comes result token.now ≡ read.next read.modules token.now }
 {
-    match mark {
-        Mark::Module => symbols.expect(&[
+    match token.mark() {
+        Mark::Module => Taking::Then(&[
             Symbol::Name,
             Symbol::Formals,
             Symbol::Sections,
             Symbol::Modules,
         ]),
-        _ => Ok(false),
+        _ => Taking::Nothing,
     }
 }
 
 /// The formals of a module, where a parenthesis opens them.
-fn after_formals(symbols: &mut ExpectedSymbols, mark: Mark) -> Result<bool, OutOfMemory>
-    ensures { IfOk result (λ on. Chosen on (read.after read.formals mark) symbols.old symbols.new) }
+fn after_formals(token: &TokenText) -> Taking<'static, Symbol>
+    ensures { comes result token.now ≡ read.next read.formals token.now }
 {
-    match mark {
-        Mark::Open => symbols.expect(&[Symbol::FirstFormal]),
-        _ => Ok(false),
+    match token.mark() {
+        Mark::Open => Taking::Then(&[Symbol::FirstFormal]),
+        _ => Taking::Nothing,
     }
 }
 
 /// The first formal, or the parenthesis that closes none.
-fn after_first_formal(symbols: &mut ExpectedSymbols, mark: Mark) -> Result<bool, OutOfMemory>
-    ensures { IfOk result (λ on. Chosen on (read.after read.first_formal mark) symbols.old symbols.new) }
+fn after_first_formal(token: &TokenText) -> Taking<'static, Symbol>
+    ensures { comes result token.now ≡ read.next read.first_formal token.now }
 {
-    match mark {
-        Mark::Close => Ok(true),
-        Mark::Name => symbols.expect(&[Symbol::MoreFormals]),
-        _ => Ok(false),
+    match token.mark() {
+        Mark::Close => Taking::Then(&[]),
+        Mark::Name => Taking::Then(&[Symbol::MoreFormals]),
+        _ => Taking::Nothing,
     }
 }
 
 /// Behind a formal: a comma and one more, or the parenthesis that closes them.
-fn after_more_formals(symbols: &mut ExpectedSymbols, mark: Mark) -> Result<bool, OutOfMemory>
-    ensures { IfOk result (λ on. Chosen on (read.after read.more_formals mark) symbols.old symbols.new) }
+fn after_more_formals(token: &TokenText) -> Taking<'static, Symbol>
+    ensures { comes result token.now ≡ read.next read.more_formals token.now }
 {
-    match mark {
-        Mark::Close => Ok(true),
-        Mark::Comma => symbols.expect(&[Symbol::Name, Symbol::MoreFormals]),
-        _ => Ok(false),
+    match token.mark() {
+        Mark::Close => Taking::Then(&[]),
+        Mark::Comma => Taking::Then(&[Symbol::Name, Symbol::MoreFormals]),
+        _ => Taking::Nothing,
     }
 }
 
 /// A section by its word, and more sections.
-fn after_section(symbols: &mut ExpectedSymbols, mark: Mark) -> Result<bool, OutOfMemory>
-    ensures { IfOk result (λ on. Chosen on (read.after_section mark) symbols.old symbols.new) }
+fn after_section(token: &TokenText) -> Taking<'static, Symbol>
+    ensures { comes result token.now ≡ read.next read.sections token.now }
 {
-    match mark {
-        Mark::Var => symbols.expect(&[Symbol::Decls, Symbol::Sections]),
-        Mark::Ivar => symbols.expect(&[Symbol::TypeDecls, Symbol::Sections]),
-        Mark::Frozen => symbols.expect(&[Symbol::TypeDecls, Symbol::Sections]),
-        Mark::Define => symbols.expect(&[Symbol::Defines, Symbol::Sections]),
-        Mark::Constants => symbols.expect(&[Symbol::Name, Symbol::MoreConstants, Symbol::Sections]),
-        Mark::Assign => symbols.expect(&[Symbol::Assigns, Symbol::Sections]),
-        Mark::Init => symbols.expect(&[Symbol::Formula, Symbol::LastSemicolon, Symbol::Sections]),
-        Mark::Invar => symbols.expect(&[Symbol::Formula, Symbol::LastSemicolon, Symbol::Sections]),
-        Mark::Trans => symbols.expect(&[Symbol::Formula, Symbol::LastSemicolon, Symbol::Sections]),
-        Mark::Skipped => symbols.expect(&[Symbol::Skip, Symbol::Sections]),
-        _ => Ok(false),
+    match token.mark() {
+        Mark::Var => Taking::Then(&[Symbol::Decls, Symbol::Sections]),
+        Mark::Ivar => Taking::Then(&[Symbol::TypeDecls, Symbol::Sections]),
+        Mark::Frozen => Taking::Then(&[Symbol::TypeDecls, Symbol::Sections]),
+        Mark::Define => Taking::Then(&[Symbol::Defines, Symbol::Sections]),
+        Mark::Constants => Taking::Then(&[Symbol::Name, Symbol::MoreConstants, Symbol::Sections]),
+        Mark::Assign => Taking::Then(&[Symbol::Assigns, Symbol::Sections]),
+        Mark::Init => Taking::Then(&[Symbol::Formula, Symbol::LastSemicolon, Symbol::Sections]),
+        Mark::Invar => Taking::Then(&[Symbol::Formula, Symbol::LastSemicolon, Symbol::Sections]),
+        Mark::Trans => Taking::Then(&[Symbol::Formula, Symbol::LastSemicolon, Symbol::Sections]),
+        Mark::Skipped => Taking::Then(&[Symbol::Skip, Symbol::Sections]),
+        _ => Taking::Nothing,
     }
 }
 
 /// A declaration of a variable or an instance, and more of them.
-fn after_decls(symbols: &mut ExpectedSymbols, mark: Mark) -> Result<bool, OutOfMemory>
-    ensures { IfOk result (λ on. Chosen on (read.after read.decls mark) symbols.old symbols.new) }
+fn after_decls(token: &TokenText) -> Taking<'static, Symbol>
+    ensures { comes result token.now ≡ read.next read.decls token.now }
 {
-    match mark {
-        Mark::Name => symbols.expect(&[
+    match token.mark() {
+        Mark::Name => Taking::Then(&[
             Symbol::Colon,
             Symbol::Declared,
             Symbol::Semicolon,
             Symbol::Decls,
         ]),
-        _ => Ok(false),
+        _ => Taking::Nothing,
     }
 }
 
 /// A declaration of a variable, and more of them.
-fn after_type_decls(symbols: &mut ExpectedSymbols, mark: Mark) -> Result<bool, OutOfMemory>
-    ensures { IfOk result (λ on. Chosen on (read.after read.type_decls mark) symbols.old symbols.new) }
+fn after_type_decls(token: &TokenText) -> Taking<'static, Symbol>
+    ensures { comes result token.now ≡ read.next read.type_decls token.now }
 {
-    match mark {
-        Mark::Name => symbols.expect(&[
+    match token.mark() {
+        Mark::Name => Taking::Then(&[
             Symbol::Colon,
             Symbol::Type,
             Symbol::Semicolon,
             Symbol::TypeDecls,
         ]),
-        _ => Ok(false),
+        _ => Taking::Nothing,
     }
 }
 
 /// A type: `boolean`, a range, or members in braces.
-fn after_type(symbols: &mut ExpectedSymbols, mark: Mark) -> Result<bool, OutOfMemory>
-    ensures { IfOk result (λ on. Chosen on (read.after_type mark) symbols.old symbols.new) }
+fn after_type(token: &TokenText) -> Taking<'static, Symbol>
+    ensures { comes result token.now ≡ read.after_type (mark_of token.now) }
 {
-    match mark {
-        Mark::Boolean => Ok(true),
-        Mark::Number => symbols.expect(&[Symbol::Dots, Symbol::Int]),
-        Mark::Minus => symbols.expect(&[Symbol::Number, Symbol::Dots, Symbol::Int]),
-        Mark::OpenBrace => symbols.expect(&[Symbol::Member, Symbol::MoreMembers]),
-        _ => Ok(false),
+    match token.mark() {
+        Mark::Boolean => Taking::Then(&[]),
+        Mark::Number => Taking::Then(&[Symbol::Dots, Symbol::Int]),
+        Mark::Minus => Taking::Then(&[Symbol::Number, Symbol::Dots, Symbol::Int]),
+        Mark::OpenBrace => Taking::Then(&[Symbol::Member, Symbol::MoreMembers]),
+        _ => Taking::Nothing,
     }
 }
 
 /// A module with its actuals, or a type.
-fn after_declared(symbols: &mut ExpectedSymbols, mark: Mark) -> Result<bool, OutOfMemory>
-    ensures { IfOk result (λ on. Chosen on (read.after_declared mark) symbols.old symbols.new) }
+fn after_declared(token: &TokenText) -> Taking<'static, Symbol>
+    ensures { comes result token.now ≡ read.next read.declared token.now }
 {
-    match mark {
-        Mark::Name => symbols.expect(&[Symbol::Actuals]),
-        _ => after_type(symbols, mark),
+    match token.mark() {
+        Mark::Name => Taking::Then(&[Symbol::Actuals]),
+        _ => after_type(token),
     }
 }
 
 /// The actuals of an instance, where a parenthesis opens them.
-fn after_actuals(symbols: &mut ExpectedSymbols, mark: Mark) -> Result<bool, OutOfMemory>
-    ensures { IfOk result (λ on. Chosen on (read.after read.actuals mark) symbols.old symbols.new) }
+fn after_actuals(token: &TokenText) -> Taking<'static, Symbol>
+    ensures { comes result token.now ≡ read.next read.actuals token.now }
 {
-    match mark {
-        Mark::Open => symbols.expect(&[Symbol::FirstActual]),
-        _ => Ok(false),
+    match token.mark() {
+        Mark::Open => Taking::Then(&[Symbol::FirstActual]),
+        _ => Taking::Nothing,
     }
 }
 
 /// Behind an actual: a comma and one more, or the parenthesis that closes them.
-fn after_more_actuals(symbols: &mut ExpectedSymbols, mark: Mark) -> Result<bool, OutOfMemory>
-    ensures { IfOk result (λ on. Chosen on (read.after read.more_actuals mark) symbols.old symbols.new) }
+fn after_more_actuals(token: &TokenText) -> Taking<'static, Symbol>
+    ensures { comes result token.now ≡ read.next read.more_actuals token.now }
 {
-    match mark {
-        Mark::Close => Ok(true),
-        Mark::Comma => symbols.expect(&[Symbol::Formula, Symbol::MoreActuals]),
-        _ => Ok(false),
+    match token.mark() {
+        Mark::Close => Taking::Then(&[]),
+        Mark::Comma => Taking::Then(&[Symbol::Formula, Symbol::MoreActuals]),
+        _ => Taking::Nothing,
     }
 }
 
 /// A number, with a minus or without.
-fn after_int(symbols: &mut ExpectedSymbols, mark: Mark) -> Result<bool, OutOfMemory>
-    ensures { IfOk result (λ on. Chosen on (read.after read.int mark) symbols.old symbols.new) }
+fn after_int(token: &TokenText) -> Taking<'static, Symbol>
+    ensures { comes result token.now ≡ read.next read.int token.now }
 {
-    match mark {
-        Mark::Number => Ok(true),
-        Mark::Minus => symbols.expect(&[Symbol::Number]),
-        _ => Ok(false),
+    match token.mark() {
+        Mark::Number => Taking::Then(&[]),
+        Mark::Minus => Taking::Then(&[Symbol::Number]),
+        _ => Taking::Nothing,
     }
 }
 
 /// A member of a type: a symbol or a number.
-fn after_member(symbols: &mut ExpectedSymbols, mark: Mark) -> Result<bool, OutOfMemory>
-    ensures { IfOk result (λ on. Chosen on (read.after read.member mark) symbols.old symbols.new) }
+fn after_member(token: &TokenText) -> Taking<'static, Symbol>
+    ensures { comes result token.now ≡ read.next read.member token.now }
 {
-    match mark {
-        Mark::Name => Ok(true),
-        Mark::Number => Ok(true),
-        Mark::Minus => symbols.expect(&[Symbol::Number]),
-        _ => Ok(false),
+    match token.mark() {
+        Mark::Name => Taking::Then(&[]),
+        Mark::Number => Taking::Then(&[]),
+        Mark::Minus => Taking::Then(&[Symbol::Number]),
+        _ => Taking::Nothing,
     }
 }
 
 /// Behind a member: a comma and one more, or the brace that closes them.
-fn after_more_members(symbols: &mut ExpectedSymbols, mark: Mark) -> Result<bool, OutOfMemory>
-    ensures { IfOk result (λ on. Chosen on (read.after read.more_members mark) symbols.old symbols.new) }
+fn after_more_members(token: &TokenText) -> Taking<'static, Symbol>
+    ensures { comes result token.now ≡ read.next read.more_members token.now }
 {
-    match mark {
-        Mark::CloseBrace => Ok(true),
-        Mark::Comma => symbols.expect(&[Symbol::Member, Symbol::MoreMembers]),
-        _ => Ok(false),
+    match token.mark() {
+        Mark::CloseBrace => Taking::Then(&[]),
+        Mark::Comma => Taking::Then(&[Symbol::Member, Symbol::MoreMembers]),
+        _ => Taking::Nothing,
     }
 }
 
 /// A define, and more of them.
-fn after_defines(symbols: &mut ExpectedSymbols, mark: Mark) -> Result<bool, OutOfMemory>
-    ensures { IfOk result (λ on. Chosen on (read.after read.defines mark) symbols.old symbols.new) }
+fn after_defines(token: &TokenText) -> Taking<'static, Symbol>
+    ensures { comes result token.now ≡ read.next read.defines token.now }
 {
-    match mark {
-        Mark::Name => symbols.expect(&[
+    match token.mark() {
+        Mark::Name => Taking::Then(&[
             Symbol::Becomes,
             Symbol::Formula,
             Symbol::Semicolon,
             Symbol::Defines,
         ]),
-        _ => Ok(false),
+        _ => Taking::Nothing,
     }
 }
 
 /// Behind a constant: a comma and one more, or the semicolon that ends them.
-fn after_more_constants(symbols: &mut ExpectedSymbols, mark: Mark) -> Result<bool, OutOfMemory>
-    ensures { IfOk result (λ on. Chosen on (read.after read.more_constants mark) symbols.old symbols.new) }
+fn after_more_constants(token: &TokenText) -> Taking<'static, Symbol>
+    ensures { comes result token.now ≡ read.next read.more_constants token.now }
 {
-    match mark {
-        Mark::Semicolon => Ok(true),
-        Mark::Comma => symbols.expect(&[Symbol::Name, Symbol::MoreConstants]),
-        _ => Ok(false),
+    match token.mark() {
+        Mark::Semicolon => Taking::Then(&[]),
+        Mark::Comma => Taking::Then(&[Symbol::Name, Symbol::MoreConstants]),
+        _ => Taking::Nothing,
     }
 }
 
 /// An assignment, for all moments, the first or the next ones, and more of them.
-fn after_assigns(symbols: &mut ExpectedSymbols, mark: Mark) -> Result<bool, OutOfMemory>
-    ensures { IfOk result (λ on. Chosen on (read.after read.assigns mark) symbols.old symbols.new) }
+fn after_assigns(token: &TokenText) -> Taking<'static, Symbol>
+    ensures { comes result token.now ≡ read.next read.assigns token.now }
 {
-    match mark {
-        Mark::Name => symbols.expect(&[
+    match token.mark() {
+        Mark::Name => Taking::Then(&[
             Symbol::MoreDots,
             Symbol::Becomes,
             Symbol::Formula,
             Symbol::Semicolon,
             Symbol::Assigns,
         ]),
-        Mark::First => symbols.expect(&[
+        Mark::First => Taking::Then(&[
             Symbol::Open,
             Symbol::Name,
             Symbol::MoreDots,
@@ -232,7 +233,7 @@ fn after_assigns(symbols: &mut ExpectedSymbols, mark: Mark) -> Result<bool, OutO
             Symbol::Semicolon,
             Symbol::Assigns,
         ]),
-        Mark::After => symbols.expect(&[
+        Mark::After => Taking::Then(&[
             Symbol::Open,
             Symbol::Name,
             Symbol::MoreDots,
@@ -242,64 +243,118 @@ fn after_assigns(symbols: &mut ExpectedSymbols, mark: Mark) -> Result<bool, OutO
             Symbol::Semicolon,
             Symbol::Assigns,
         ]),
-        _ => Ok(false),
+        _ => Taking::Nothing,
     }
 }
 
 /// Behind a name: a dot and one more.
-fn after_more_dots(symbols: &mut ExpectedSymbols, mark: Mark) -> Result<bool, OutOfMemory>
-    ensures { IfOk result (λ on. Chosen on (read.after read.more_dots mark) symbols.old symbols.new) }
+fn after_more_dots(token: &TokenText) -> Taking<'static, Symbol>
+    ensures { comes result token.now ≡ read.next read.more_dots token.now }
 {
-    match mark {
-        Mark::Dot => symbols.expect(&[Symbol::Name, Symbol::MoreDots]),
-        _ => Ok(false),
+    match token.mark() {
+        Mark::Dot => Taking::Then(&[Symbol::Name, Symbol::MoreDots]),
+        _ => Taking::Nothing,
     }
 }
 
 /// The semicolon of a formula, which may be left out.
-fn after_last_semicolon(symbols: &mut ExpectedSymbols, mark: Mark) -> Result<bool, OutOfMemory>
-    ensures { IfOk result (λ on. Chosen on (read.after read.last_semicolon mark) symbols.old symbols.new) }
+fn after_last_semicolon(token: &TokenText) -> Taking<'static, Symbol>
+    ensures { comes result token.now ≡ read.next read.last_semicolon token.now }
 {
-    match mark {
-        Mark::Semicolon => Ok(true),
-        _ => Ok(false),
+    match token.mark() {
+        Mark::Semicolon => Taking::Then(&[]),
+        _ => Taking::Nothing,
     }
 }
 
-/// Whether a part goes on with a token of this mark, and then what is still expected of it. An expression, the first
-/// actual and what is passed over hang on more than the mark.
-#[tactic(auto, using(crate::proofs::ProgramStops::alone_chosen))]
-pub fn after(symbols: &mut ExpectedSymbols, symbol: Symbol, mark: Mark) -> Result<bool, OutOfMemory>
-    ensures { IfOk result (λ on. Chosen on (choice (symbol_view symbol) mark) symbols.old symbols.new) }
+/// A token of what is passed over.
+fn after_skip(token: &TokenText) -> Taking<'static, Symbol>
+    ensures { comes result token.now ≡ read.next read.skip token.now }
 {
-    match symbol {
-        Symbol::Name => Ok(is_same(mark, Mark::Name)),
-        Symbol::Number => Ok(is_same(mark, Mark::Number)),
-        Symbol::Colon => Ok(is_same(mark, Mark::Colon)),
-        Symbol::Becomes => Ok(is_same(mark, Mark::Becomes)),
-        Symbol::Semicolon => Ok(is_same(mark, Mark::Semicolon)),
-        Symbol::Open => Ok(is_same(mark, Mark::Open)),
-        Symbol::Close => Ok(is_same(mark, Mark::Close)),
-        Symbol::Dots => Ok(is_same(mark, Mark::Dots)),
-        Symbol::Modules => after_modules(symbols, mark),
-        Symbol::Formals => after_formals(symbols, mark),
-        Symbol::FirstFormal => after_first_formal(symbols, mark),
-        Symbol::MoreFormals => after_more_formals(symbols, mark),
-        Symbol::Sections => after_section(symbols, mark),
-        Symbol::Decls => after_decls(symbols, mark),
-        Symbol::TypeDecls => after_type_decls(symbols, mark),
-        Symbol::Declared => after_declared(symbols, mark),
-        Symbol::Type => after_type(symbols, mark),
-        Symbol::Actuals => after_actuals(symbols, mark),
-        Symbol::MoreActuals => after_more_actuals(symbols, mark),
-        Symbol::Int => after_int(symbols, mark),
-        Symbol::Member => after_member(symbols, mark),
-        Symbol::MoreMembers => after_more_members(symbols, mark),
-        Symbol::Defines => after_defines(symbols, mark),
-        Symbol::MoreConstants => after_more_constants(symbols, mark),
-        Symbol::Assigns => after_assigns(symbols, mark),
-        Symbol::MoreDots => after_more_dots(symbols, mark),
-        Symbol::LastSemicolon => after_last_semicolon(symbols, mark),
-        Symbol::Formula | Symbol::FirstActual | Symbol::Skip => Ok(false),
+    if token.is_section() {
+        Taking::Nothing
+    } else {
+        Taking::Then(&[Symbol::Skip])
     }
+}
+
+/// The first actual, or the parenthesis that closes none.
+fn after_first_actual(token: &TokenText) -> Taking<'static, Symbol>
+    ensures { comes result token.now ≡ read.next read.first_actual token.now }
+{
+    match token.mark() {
+        Mark::Close => Taking::Then(&[]),
+        _ => Taking::Begins(&[Symbol::MoreActuals]),
+    }
+}
+
+/// Nothing more, where the token has this mark.
+fn alone(token: &TokenText, mark: Mark) -> Taking<'static, Symbol>
+    ensures { comes result token.now ≡ read.alone (is_mark (mark_of token.now) mark) }
+{
+    if is_same(token.mark(), mark) {
+        Taking::Then(&[])
+    } else {
+        Taking::Nothing
+    }
+}
+
+impl GrammarSymbol for Symbol {
+    ghost use Rattle.std.specs.Prelude.{refl};
+    ghost use Rattle.smv_model_reader.specs.ProgramGrammar as read;
+    ghost use Rattle.smv_model_reader.specs.Symbols.{symbol_view};
+
+    ghost Sym = { read.Sym };
+
+    ghost grammar = { read.programs };
+
+    ghost formula = { read.formula };
+
+    ghost view = { symbol_view };
+
+    fn may_be_empty(self) -> bool {
+        match self {
+            Symbol::Modules | Symbol::Formals | Symbol::Sections | Symbol::Decls => true,
+            Symbol::TypeDecls | Symbol::Actuals | Symbol::Defines | Symbol::Assigns => true,
+            Symbol::MoreDots | Symbol::Skip | Symbol::LastSemicolon => true,
+            _ => false,
+        }
+    }
+
+    fn after(self, token: &TokenText) -> Taking<'static, Symbol> {
+        match self {
+            Symbol::Name => alone(token, Mark::Name),
+            Symbol::Number => alone(token, Mark::Number),
+            Symbol::Colon => alone(token, Mark::Colon),
+            Symbol::Becomes => alone(token, Mark::Becomes),
+            Symbol::Semicolon => alone(token, Mark::Semicolon),
+            Symbol::Open => alone(token, Mark::Open),
+            Symbol::Close => alone(token, Mark::Close),
+            Symbol::Dots => alone(token, Mark::Dots),
+            Symbol::Formula => Taking::Begins(&[]),
+            Symbol::Modules => after_modules(token),
+            Symbol::Formals => after_formals(token),
+            Symbol::FirstFormal => after_first_formal(token),
+            Symbol::MoreFormals => after_more_formals(token),
+            Symbol::Sections => after_section(token),
+            Symbol::Decls => after_decls(token),
+            Symbol::TypeDecls => after_type_decls(token),
+            Symbol::Declared => after_declared(token),
+            Symbol::Type => after_type(token),
+            Symbol::Actuals => after_actuals(token),
+            Symbol::FirstActual => after_first_actual(token),
+            Symbol::MoreActuals => after_more_actuals(token),
+            Symbol::Int => after_int(token),
+            Symbol::Member => after_member(token),
+            Symbol::MoreMembers => after_more_members(token),
+            Symbol::Defines => after_defines(token),
+            Symbol::MoreConstants => after_more_constants(token),
+            Symbol::Assigns => after_assigns(token),
+            Symbol::MoreDots => after_more_dots(token),
+            Symbol::Skip => after_skip(token),
+            Symbol::LastSemicolon => after_last_semicolon(token),
+        }
+    }
+
+    ghost formulas = { record { whole = λ st h. refl; next = λ st h t. refl } };
 }

@@ -5,8 +5,8 @@
 //! that the bytes spell, or a `ParseFault` with the first place that no text goes on from; what a refusal says of the
 //! bytes is `FaultMeans` of `smv_expression_reader`, over `IsProgram` of `specs/Symbols.antt`.
 //!
-//! A text is read twice, as expressions are. The first pass makes no tree: it takes one token after another with a
-//! stack of what is still expected (`expected`, `choices`, `symbols`), beside the recogniser of expressions. Only
+//! A text is read twice, as expressions are. The first pass makes no tree: it is that of `smv_expression_reader`
+//! (`expected`), over the symbols of this grammar (`symbols`, `choices`). Only
 //! where the whole text spells a program the second pass makes it (`sections`), and gives up at the first expression
 //! that is higher than `MOST_HEIGHT` or nested deeper. So `TooDeep` never hides another refusal, and both passes take time in
 //! proportion to the tokens.
@@ -23,7 +23,6 @@
 #![tactic(auto)]
 
 mod choices;
-mod expected;
 mod reader;
 mod sections;
 mod symbols;

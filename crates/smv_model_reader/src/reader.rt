@@ -9,10 +9,11 @@ ghost use Rattle.smv_model_reader.specs.ProgramDepths.{HasProgramDepths, IsProgr
 ghost use Rattle.smv_model_reader.specs.Symbols.{IsProgram};
 ghost use Rattle.smv_expression_reader.specs.Stops.{FaultMeans};
 
-use crate::expected::read_program;
 use crate::sections::program_tree;
+use crate::symbols::Symbol;
 use smv_expression_reader::ParseFault;
 use smv_expression_reader::cursor::Cursor;
+use smv_expression_reader::expected::read_through;
 use smv_expression_reader::fault::BuildFault;
 use smv_expression_reader::reader::{split, stop_at};
 use smv_expression_reader::reading::ReadExtent;
@@ -34,7 +35,7 @@ fn check_program(
     ensures spelled { IfOk result (λ _. IsProgram texts.now) }
     ensures fault { IfErr result (λ fault. FaultMeans IsProgram (IsProgramTooDeep bytes.now) bytes.now fault) }
 {
-    match read_program(alloc, texts)? {
+    match read_through(alloc, Symbol::Modules, texts)? {
         ReadExtent::Whole => Ok(()),
         ReadExtent::Unfinished => Err(ParseFault::End(bytes.len() as u32)),
         ReadExtent::Stopped(i) => Err(stop_at(tokens, texts, i)),

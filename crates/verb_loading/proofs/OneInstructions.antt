@@ -5,7 +5,7 @@ use Rattle.smv_lexer.specs.Tokens.{HasTokens}
 use Rattle.smv_language.specs.Lexemes.{lexemes_of}
 use Rattle.smv_expression_reader.specs.declared.fault.ParseFault.{ParseFault}
 use Rattle.fault_instructions.specs.Instructions.{InstructionTree}
-use Rattle.fault_reader.specs.InstructionPlaces.{IsInstructions}
+use Rattle.fault_reader.specs.Symbols.{IsInstructions}
 use Rattle.fault_reader.specs.InstructionDepths.{HaveInstructionDepths, AreInstructionsTooDeep}
 use Rattle.verb_loading.specs.declared.status.InputFault.{InputFault}
 use Rattle.verb_loading.specs.declared.wrong.Wrong.TheVariants as wrong

@@ -13,7 +13,7 @@ use Rattle.smv_flat_laws.specs.Model.{IsFlatOf}
 use Rattle.fault_extend_laws.specs.Expressions.{AllUsesKept}
 use Rattle.fault_instructions.specs.Instructions.{InstructionTree}
 use Rattle.fault_instructions.specs.SpellsInstructions.{BytesSpellInstructions}
-use Rattle.fault_reader.specs.InstructionPlaces.{IsInstructions}
+use Rattle.fault_reader.specs.Symbols.{IsInstructions}
 use Rattle.fault_reader.specs.InstructionDepths.{HaveInstructionDepths, AreInstructionsTooDeep}
 use Rattle.fault_weave.specs.Faults.{Fault, HasFaults}
 use Rattle.fault_weave.specs.WovenProgram.{woven}

@@ -1,7 +1,7 @@
 use Rattle.std.proofs.Common.{sym, ap, ◌∙◌, subst}
 use Rattle.std.specs.Prelude.{Err}
 use Rattle.fault_instructions.specs.Instructions.{instruction_tree}
-use Rattle.fault_reader.specs.InstructionPlaces.{IsInstructions}
+use Rattle.fault_reader.specs.Symbols.{IsInstructions}
 use Rattle.fault_reader.specs.InstructionParts.{file_at}
 use Rattle.fault_reader.proofs.FileReads.{file_spelled, file_only, file_depths, file_deep, file_made}
 use Rattle.fault_reader.proofs.reader.make.Goals as goal

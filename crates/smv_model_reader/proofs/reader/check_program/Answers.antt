@@ -8,15 +8,15 @@ use Rattle.smv_model_reader.proofs.reader.check_program.Goals as goal
 
 pub returns-in-Whole-clause-spelled : goal.returns-in-Whole-clause-spelled
 returns-in-Whole-clause-spelled c =
-    is_spelled Sym programs programs_predictable modules c.args.texts.now (subst (ReadsTo Sym programs modules c.args.texts.now) c.in-Whole.is c.in_ok-read_program.ensures)
+    is_spelled Sym programs programs_predictable modules c.args.texts.now (subst (ReadsTo Sym programs modules c.args.texts.now) c.in-Whole.is c.in_ok-read_through.ensures)
 
 pub returns-in-Unfinished-clause-fault : goal.returns-in-Unfinished-clause-fault
 returns-in-Unfinished-clause-fault c =
     check_ends Sym programs programs_predictable modules c.args.bytes.now c.args.tokens.now c.args.texts.now (length c.args.bytes.now) c.requires.split c.requires.same refl
-    (subst (ReadsTo Sym programs modules c.args.texts.now) c.in-Unfinished.is c.in_ok-read_program.ensures)
+    (subst (ReadsTo Sym programs modules c.args.texts.now) c.in-Unfinished.is c.in_ok-read_through.ensures)
 
 pub returns-in-Stopped-clause-fault : goal.returns-in-Stopped-clause-fault
 returns-in-Stopped-clause-fault c =
-    let reads = subst (ReadsTo Sym programs modules c.args.texts.now) c.in-Stopped.is c.in_ok-read_program.ensures in
+    let reads = subst (ReadsTo Sym programs modules c.args.texts.now) c.in-Stopped.is c.in_ok-read_through.ensures in
     check_stops Sym programs programs_predictable modules (IsProgramTooDeep c.args.bytes.now) c.args.bytes.now c.args.tokens.now c.args.texts.now c.in-Stopped.i c.stop_at.result
     c.requires.split c.requires.same reads.0 reads.1 reads.2 c.stop_at.ensures
