@@ -1,5 +1,5 @@
 -- What is still expected at a position of a text, for any grammar in which one lexeme decides.
-use Rattle.std.specs.Prelude.{◌≡◌, refl, true, false, List, [], ◌∷◌, Option, Some, None, map}
+use Rattle.std.specs.Prelude.{◌≡◌, refl, false, List, [], ◌∷◌, Option, Some, None, map}
 use Rattle.smv_language.specs.Lexemes.{Lexeme}
 use Rattle.smv_expression_reader.specs.declared.frames.OpenFrame.{OpenFrame as Frame}
 use Rattle.smv_expression_reader.specs.declared.expected.Position.{Position}

@@ -1,4 +1,4 @@
-use Rattle.std.proofs.Common.{◌≡◌, false, sym, ap, ◌∙◌, map}
+use Rattle.std.proofs.Common.{sym, ap, ◌∙◌, map}
 use Rattle.std.specs.Prelude.{◌&&◌}
 use Rattle.smv_expression_reader.specs.PredictiveReader.{all_empty}
 use Rattle.smv_expression_reader.proofs.expected.may_all_be_empty.Goals as goal

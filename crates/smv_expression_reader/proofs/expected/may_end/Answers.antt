@@ -1,4 +1,4 @@
-use Rattle.std.proofs.Common.{◌≡◌, Some, sym, ap, ◌∙◌, map}
+use Rattle.std.proofs.Common.{sym, ap, ◌∙◌, map}
 use Rattle.std.specs.Prelude.{◌&&◌}
 use Rattle.smv_expression_reader.specs.PredictiveReader.{all_empty}
 use Rattle.smv_expression_reader.specs.Views.{state_with}
@@ -16,5 +16,5 @@ returns-then-is_whole g c = λ s e.
 
 pub returns-else-is_whole : goal.returns-else-is_whole
 returns-else-is_whole g c = λ s e.
-    ap (λ b. b && all_empty g.S.GrammarSymbol.Sym g.S.GrammarSymbol.grammar (map g.S.GrammarSymbol.view c.args.symbols.now)) (sym (sym c.is_whole.ensures ∙ c.if-is_whole.false))
+    c.if-is_whole.false ∙ ap (λ b. b && all_empty g.S.GrammarSymbol.Sym g.S.GrammarSymbol.grammar (map g.S.GrammarSymbol.view c.args.symbols.now)) (sym (sym c.is_whole.ensures ∙ c.if-is_whole.false))
     ∙ inside_ends g.S.GrammarSymbol.grammar g.S.GrammarSymbol.formula g.met.S.GrammarSymbol.formulas (state_with c.in-Inside.mode c.args.frames.now) (map g.S.GrammarSymbol.view c.args.symbols.now) s (sym (ap (λ z. position_view g.S.GrammarSymbol.formula g.S.GrammarSymbol.view z c.args.frames.now c.args.symbols.now) c.in-Inside.is) ∙ e)
