@@ -12,11 +12,11 @@
 //! `specs/InstructionParts.antt` says what the second pass reads of the tokens, part by part, and `specs/InstructionDepths.antt`
 //! which expressions instructions have, as they are spelled: the guards and the values that `Follows` names.
 //!
-//! A text is read twice, as programs are. The first pass makes nothing: it is that of
-//! `smv_expression_reader` (`expected`), over the symbols of this grammar (`symbols`). Only where the whole text spells instructions the second pass (`build`) makes them, and gives
-//! up at the first expression that is higher than `MOST_HEIGHT` or nested deeper. What is spelled is read back as it is
-//! spelled, or found too deep (`read_file` of `proofs/FileReads.antt`). So `TooDeep` never hides another refusal, and
-//! both passes take time in proportion to the tokens.
+//! A text is read twice, as programs are. The first pass makes nothing: it is that of `smv_expression_reader`
+//! (`expected`), over the symbols of this grammar (`symbols`). Only where the whole text spells instructions the second
+//! pass (`build`) makes them, and gives up at the first expression that is higher than `MOST_HEIGHT` or nested deeper.
+//! What is spelled is read back as it is spelled, or found too deep (`read_file` of `proofs/FileReads.antt`). So
+//! `TooDeep` never hides another refusal, and both passes take time in proportion to the tokens.
 //!
 //! ```text
 //! instructions(alloc, b"EXTENSION OF MODULE Lamp")      no slice for the module Lamp

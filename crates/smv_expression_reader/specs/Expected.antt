@@ -44,7 +44,8 @@ module _ {S Sym : Type 0} (formula : (st : State) → is_stuck st ≡ false → 
   after_view (Some position) frames syms = position_view position frames syms
 
 -- a symbol goes on with what comes of it before what was expected, or nothing comes of it and all is as before
-abbrev pub Taken : {S Sym : Type 0} → Grammar Sym → ((st : State) → is_stuck st ≡ false → Sym) → (S → Sym) → Option Position → Option (List Sym) → List S → List Frame →
-    List S → Type 0
+abbrev pub Taken : {S Sym : Type 0} → Grammar Sym → ((st : State) → is_stuck st ≡ false → Sym) → (S → Sym) →
+    Option Position → Option (List Sym) → List S → List Frame → List S → Type 0
 Taken g formula view None o old frames new = (o ≡ None) × (new ≡ old) × (frames ≡ [])
-Taken {Sym = Sym} g formula view (Some position) o old frames new = position_view formula view position frames new ≡ taken Sym g o (map view old) None
+Taken {Sym = Sym} g formula view (Some position) o old frames new =
+    position_view formula view position frames new ≡ taken Sym g o (map view old) None

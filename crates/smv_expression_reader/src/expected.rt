@@ -256,7 +256,8 @@ fn may_end<S: GrammarSymbol>(
     frames: &OpenFrames,
     symbols: &mut ExpectedSymbols<S>,
 ) -> bool
-    ensures { (s : List S.Sym) → position_view S.formula S.view position frames.now symbols.old ≡ Some s → result ≡ all_empty S.Sym S.grammar s }
+    ensures { (s : List S.Sym) → position_view S.formula S.view position frames.now symbols.old ≡ Some s →
+        result ≡ all_empty S.Sym S.grammar s }
 {
     match position {
         Position::Between => may_all_be_empty(symbols),

@@ -19,9 +19,10 @@
 //!
 //! `specs/Recogniser.antt` has the first pass as a function on lexemes, `specs/TreeBuilder.antt` the second,
 //! `specs/Complete.antt` a text that completes what stands before it, `specs/PredictiveReader.antt` any grammar in which one
-//! token decides what is still expected, `specs/Expected.antt` what is expected where such a first pass stands, `specs/Words.antt`
-//! the words that are no names, `specs/Marks.antt` what a lexeme is outside expressions, `specs/SecondPass.antt` what a second pass
-//! reads, and `proofs/` the laws by which the calls answer what the grammar says.
+//! token decides what is still expected, `specs/Expected.antt` what is expected where a first pass over such a grammar
+//! stands, `specs/Words.antt` the words that are no names, `specs/Marks.antt` what a lexeme is outside expressions,
+//! `specs/SecondPass.antt` what a second pass reads part by part, and `proofs/` the laws by which the calls answer what the
+//! grammar says.
 //!
 //! ```text
 //! expression(alloc, b"a -> b -> c")    the tree of (a -> (b -> c))

@@ -6,10 +6,9 @@
 //! bytes is `FaultMeans` of `smv_expression_reader`, over `IsProgram` of `specs/Symbols.antt`.
 //!
 //! A text is read twice, as expressions are. The first pass makes no tree: it is that of `smv_expression_reader`
-//! (`expected`), over the symbols of this grammar (`symbols`, `choices`). Only
-//! where the whole text spells a program the second pass makes it (`sections`), and gives up at the first expression
-//! that is higher than `MOST_HEIGHT` or nested deeper. So `TooDeep` never hides another refusal, and both passes take time in
-//! proportion to the tokens.
+//! (`expected`), over the symbols of this grammar (`symbols`, `choices`). Only where the whole text spells a program the
+//! second pass makes it (`sections`), and gives up at the first expression that is higher than `MOST_HEIGHT` or nested
+//! deeper. So `TooDeep` never hides another refusal, and both passes take time in proportion to the tokens.
 //!
 //! The layers above use the call alone. `specs/ProgramGrammar.antt` has the grammar as one in which a token decides what
 //! is still expected, `specs/ProgramParts.antt` what the second pass reads part by part, `specs/ProgramDepths.antt` which
