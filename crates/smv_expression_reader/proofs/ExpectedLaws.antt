@@ -1,7 +1,7 @@
 -- What the step of a first pass says of what is expected, for any grammar in which one lexeme decides.
 use Rattle.std.proofs.Common.{◌≡◌, Bool, true, false, List, [], ◌∷◌, ◌++◌, Option, Some, None, map, refl, sym, ap, ◌∙◌}
 use Rattle.std.specs.Prelude.{◌&&◌, if◌then◌else◌}
-use Rattle.std.proofs.lemmas.List.{reverse-append}
+use Rattle.std.proofs.lemmas.List.{reverse-append, map-append}
 use mathlib.Core.List.{reverse}
 use Rattle.smv_language.specs.Lexemes.{Lexeme}
 use Rattle.smv_expression_reader.specs.declared.expected.Position.{Position}
@@ -18,13 +18,6 @@ use Rattle.smv_expression_reader.specs.Expected.{live, HasFormulas, position_vie
 -- a vector as a stack, whose top is the vector's last
 pub pushed : {A : Type 0} (xs : List A) (x : A) → reverse (xs ++ x ∷ []) ≡ x ∷ reverse xs
 pushed xs x = reverse-append xs (x ∷ [])
-
-map_joined : {A B : Type 0} (f : A → B) (xs ys : List A) → map f (xs ++ ys) ≡ map f xs ++ map f ys
-map_joined f [] ys = refl
-map_joined f (x ∷ xs) ys = ap (λ z. f x ∷ z) (map_joined f xs ys)
-
-pub some_same : {A : Type 0} {x y : A} → Some x ≡ Some y → x ≡ y
-some_same e = cc
 
 -- the state after the first lexeme of an expression
 pub begun : (st : State) (frames : List Frame) (r : Role) (t : Lexeme) → frames ≡ [] → r ≡ role_of t → st ≡ machine.step (machine.wants frames) r → st ≡ machine.step start (role_of t)
@@ -78,13 +71,13 @@ module _ {Sym : Type 0} (g : Grammar Sym) (formula : (st : State) → is_stuck s
 module _ {S Sym : Type 0} (g : Grammar Sym) (formula : (st : State) → is_stuck st ≡ false → Sym) (view : S → Sym) where
   -- what comes of a symbol stands before what was expected
   pub before_others : (behind old new : List S) → new ≡ behind ++ old → Some (map view new) ≡ taken Sym g (Some (map view behind)) (map view old) None
-  before_others behind old new e = ap (λ z. Some (map view z)) e ∙ ap Some (map_joined view behind old)
+  before_others behind old new e = ap (λ z. Some (map view z)) e ∙ ap Some (map-append view behind old)
 
   -- the same behind an expression
   pub behind_formula : (st here : State) (behind old new : List S) → here ≡ st → new ≡ behind ++ old →
       live formula here (map view new) ≡ taken Sym g (live formula st (map view behind)) (map view old) None
   behind_formula st here behind old new at e =
-      ap (λ z. live formula z (map view new)) at ∙ ap (λ z. live formula st (map view z)) e ∙ ap (live formula st) (map_joined view behind old)
+      ap (λ z. live formula z (map view new)) at ∙ ap (λ z. live formula st (map view z)) e ∙ ap (live formula st) (map-append view behind old)
       ∙ sym (live_taken g formula st (map view behind) (map view old))
 
   -- something is expected at each position

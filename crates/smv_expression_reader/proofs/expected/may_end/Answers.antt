@@ -1,13 +1,14 @@
 use Rattle.std.proofs.Common.{sym, ap, ◌∙◌, map}
 use Rattle.std.specs.Prelude.{◌&&◌}
+use Rattle.std.proofs.lemmas.Option.{same_Some}
 use Rattle.smv_expression_reader.specs.PredictiveReader.{all_empty}
 use Rattle.smv_expression_reader.specs.Views.{state_with}
 use Rattle.smv_expression_reader.specs.Expected.{position_view}
-use Rattle.smv_expression_reader.proofs.ExpectedLaws.{some_same, inside_ends}
+use Rattle.smv_expression_reader.proofs.ExpectedLaws.{inside_ends}
 use Rattle.smv_expression_reader.proofs.expected.may_end.Goals as goal
 
 pub returns-in-Between : goal.returns-in-Between
-returns-in-Between g c = λ s e. c.may_all_be_empty.ensures ∙ ap (all_empty g.S.GrammarSymbol.Sym g.S.GrammarSymbol.grammar) (some_same (sym (ap (λ z. position_view g.S.GrammarSymbol.formula g.S.GrammarSymbol.view z c.args.frames.now c.args.symbols.now) c.in-Between.is) ∙ e))
+returns-in-Between g c = λ s e. c.may_all_be_empty.ensures ∙ ap (all_empty g.S.GrammarSymbol.Sym g.S.GrammarSymbol.grammar) (same_Some _ _ (sym (ap (λ z. position_view g.S.GrammarSymbol.formula g.S.GrammarSymbol.view z c.args.frames.now c.args.symbols.now) c.in-Between.is) ∙ e))
 
 pub returns-then-is_whole : goal.returns-then-is_whole
 returns-then-is_whole g c = λ s e.
