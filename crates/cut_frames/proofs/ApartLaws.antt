@@ -1,19 +1,19 @@
 -- A list whose variables are numbered apart says what the list says.
 use Rattle.std.proofs.Common.{◌≡◌, ◌≤◌, ◌<◌, ◌⊎◌, inl, inr, ℕ, zero, suc, ◌+◌, ◌-◌, ◌^◌, Bool, true, false, List, [], ◌∷◌, refl, sym, ◌∙◌, ap, subst, arith, ◌++◌}
-use Rattle.std.specs.Prelude.{nat_le, if◌then◌else◌, All}
+use Rattle.std.specs.Prelude.{nat_le, if◌then◌else◌, All, IsTrue}
 use Rattle.std.proofs.lemmas.Bool.{cases_lt}
 use Rattle.std.proofs.lemmas.List.Elements.{All-nil, All-cons, All-head, All-tail, All-weaker}
 use Rattle.sat_clauses.specs.Literal.{Literal}
 use Rattle.sat_clauses.specs.Derivation.{IsUpTo}
-use Rattle.sat_clauses.specs.Models.{TotalAssignment, clause_value, all_true}
+use Rattle.sat_clauses.specs.Models.{TotalAssignment, literal_value, clause_value, all_true, values_of}
 use Rattle.sat_clauses.specs.declared.system.System.{System}
 use Rattle.sat_solver.specs.declared.solve.Verdict.{Verdict}
 use Rattle.sat_solver.specs.declared.solve.Verdict.TheVariants.{Sat, Unsat}
 use Rattle.sat_clauses.specs.Assignment.{Assignment}
 use Rattle.sat_simplify.specs.SamePlaces.{IsMet, AreMetAlike, HasNoHigherVariable}
-use Rattle.cut_frames.specs.OwnVariables.{apart, apart_literal, apart_clause, apart_list, apart_system, IsMetFrame, IsMetBeside, IsFound, IsExcluded, IsPlace, IsKept}
+use Rattle.cut_frames.specs.OwnVariables.{apart, apart_literal, apart_clause, apart_list, apart_system, IsMetFrame, IsMetBeside, IsFound, IsFoundAlone, IsExcluded, IsPlace, IsKept}
 use Rattle.cut_frames.specs.Condition.{IsLow, IsNear}
-use Rattle.cut_frames.specs.GuardedSearch.{Meets, MeetAlike, MeetsFrame, MeetsBeside, IsModelOf, IsCoreOf, IsToldBy, places_of, IsHolding, AddsBad}
+use Rattle.cut_frames.specs.GuardedSearch.{Meets, MeetAlike, MeetsFrame, MeetsBeside, IsModelOf, IsLoneModelOf, IsCoreOf, IsToldBy, places_of, IsHolding, AddsBad}
 use Rattle.cut_frames.specs.declared.guarded.Guarded.{Guarded}
 use Rattle.cut_frames.specs.declared.guarded.Beside.{Beside}
 use Rattle.cut_frames.specs.declared.guarded.Beside.TheVariants.{Nothing, Step, Bad}
@@ -131,6 +131,10 @@ module _ (system : System) (list : List (List Literal)) (fs : List (List (List L
 
   found : (b : Beside) (i : ℕ) (as' : List Literal) (a : Assignment) → IsModelOf (apart_system system) (apart_list (places_of system) list) fs b i as' a → IsFound system list fs b i as' a
   found b i as' a m = record { frame = frame_from i _ m.frame; beside = beside_from b _ m.beside; assumed = m.assumed }
+
+  -- values that were found in no frame
+  pub found_alone : (b : Beside) (one other : List Literal) (a : Assignment) → one ≡ other → IsLoneModelOf (apart_system system) (apart_list (places_of system) list) b one a → IsFoundAlone system list b other a
+  found_alone b one other a e m = record { beside = beside_from b _ m.beside; assumed = subst (All (λ l. IsTrue (literal_value (values_of a) l))) e m.assumed }
 
   excluded : (b : Beside) (i : ℕ) (as' core : List Literal) → IsCoreOf (apart_system system) (apart_list (places_of system) list) fs b i as' core → IsExcluded system list fs b i as' core
   excluded b i as' core k = record { negated = k.negated; follows = λ v m n. k.follows v (frame_to i v m) (beside_to b v n) }

@@ -18,7 +18,7 @@ use Rattle.cut_frames.specs.FrameLists.{frame_at}
 use Rattle.cut_frames.specs.Roles.{Listed, first, step, bad, list_guard}
 use Rattle.cut_frames.specs.Roles as roles
 use Rattle.cut_frames.specs.Guards.{Layout, IsCovered, IsCoveredUpTo, unguarded}
-use Rattle.cut_frames.specs.GuardedSearch.{Meets, places_of, MeetsFrame, MeetsBeside, added_in, IsGuardIn, IsWell, asked_guards, guard_at, guard_of, Tells}
+use Rattle.cut_frames.specs.GuardedSearch.{Meets, places_of, MeetsFrame, MeetsBeside, added_in, IsGuardIn, IsWell, asked_guards, lone_guards, guard_at, guard_of, Tells, Finds}
 use Rattle.cut_frames.specs.declared.guarded.Beside.{Beside}
 use Rattle.cut_frames.specs.declared.guarded.Beside.TheVariants.{Nothing, Step, Bad}
 use Rattle.cut_frames.specs.declared.guarded.Guarded.{Guarded}
@@ -52,23 +52,23 @@ are_guards : (g : Guarded) (b : Beside) (i : ℕ) → IsWell g → i < length g.
 are_guards g b i w lt l m = all_guards (IsGuardIn g.places g.search.kept.vars) g b i (w.frames i g.step lt) (λ e. w.step) (λ e. w.bad) l m
 
 -- the literals of a question are those of the search
-pub asked_up_to : (g : Guarded) (b : Beside) (i : ℕ) (assumptions : List Literal) → IsWell g → i < length g.frames.items → All (IsUpTo g.places) assumptions → All (IsUpTo g.search.kept.vars) (asked_guards g b i ++ assumptions)
-asked_up_to g b i assumptions w lt low = all_from (IsUpTo g.search.kept.vars) (asked_guards g b i ++ assumptions) (λ l m. by_part l (Contains-append_cases (asked_guards g b i) assumptions l m))
+guards_up_to : (g : Guarded) (guards assumptions : List Literal) → ((l : Literal) → Contains guards l → IsGuardIn g.places g.search.kept.vars l) → IsWell g → All (IsUpTo g.places) assumptions → All (IsUpTo g.search.kept.vars) (guards ++ assumptions)
+guards_up_to g guards assumptions are w low = all_from (IsUpTo g.search.kept.vars) (guards ++ assumptions) (λ l m. by_part l (Contains-append_cases guards assumptions l m))
   where
     up : (x v n : ℕ) → x ≤ v → v ≤ n → x ≤ n
     up x v n a b = omega (arith, a, b)
 
-    by_part : (l : Literal) → Contains (asked_guards g b i) l ⊎ Contains assumptions l → l.var ≤ g.search.kept.vars
-    by_part l (inl m) = (are_guards g b i w lt l m).in_range
+    by_part : (l : Literal) → Contains guards l ⊎ Contains assumptions l → l.var ≤ g.search.kept.vars
+    by_part l (inl m) = (are l m).in_range
     by_part l (inr m) = up l.var g.places g.search.kept.vars (All-contains (IsUpTo g.places) assumptions l low m) w.room
 
--- and no two of them are opposite
-pub asked_apart : (g : Guarded) (b : Beside) (i : ℕ) (assumptions : List Literal) → IsWell g → i < length g.frames.items → All (IsUpTo g.places) assumptions → HasNoOpposites assumptions → HasNoOpposites (asked_guards g b i ++ assumptions)
-asked_apart g b i assumptions w lt low apart = all_from (LacksOpposite all) all (λ l m. record { absent = λ o. absent l (Contains-append_cases guards assumptions l m) (Contains-append_cases guards assumptions (opposite l) o) })
-  where
-    guards : List Literal
-    guards = asked_guards g b i
+pub asked_up_to : (g : Guarded) (b : Beside) (i : ℕ) (assumptions : List Literal) → IsWell g → i < length g.frames.items → All (IsUpTo g.places) assumptions → All (IsUpTo g.search.kept.vars) (asked_guards g b i ++ assumptions)
+asked_up_to g b i assumptions w lt low = guards_up_to g (asked_guards g b i) assumptions (are_guards g b i w lt) w low
 
+-- and no two of them are opposite
+guards_apart : (g : Guarded) (guards assumptions : List Literal) → ((l : Literal) → Contains guards l → IsGuardIn g.places g.search.kept.vars l) → All (IsUpTo g.places) assumptions → HasNoOpposites assumptions → HasNoOpposites (guards ++ assumptions)
+guards_apart g guards assumptions are low apart = all_from (LacksOpposite all) all (λ l m. record { absent = λ o. absent l (Contains-append_cases guards assumptions l m) (Contains-append_cases guards assumptions (opposite l) o) })
+  where
     all : List Literal
     all = guards ++ assumptions
 
@@ -80,10 +80,13 @@ asked_apart g b i assumptions w lt low apart = all_from (LacksOpposite all) all 
     signs false e f = cc
 
     absent : (l : Literal) → Contains guards l ⊎ Contains assumptions l → Contains guards (opposite l) ⊎ Contains assumptions (opposite l) → ⊥
-    absent l (inl m) (inl o) = signs l.negated (are_guards g b i w lt l m).positive (are_guards g b i w lt (opposite l) o).positive
-    absent l (inl m) (inr o) = high l.var (are_guards g b i w lt l m).above (All-contains (IsUpTo g.places) assumptions (opposite l) low o)
-    absent l (inr m) (inl o) = high l.var (are_guards g b i w lt (opposite l) o).above (All-contains (IsUpTo g.places) assumptions l low m)
+    absent l (inl m) (inl o) = signs l.negated (are l m).positive (are (opposite l) o).positive
+    absent l (inl m) (inr o) = high l.var (are l m).above (All-contains (IsUpTo g.places) assumptions (opposite l) low o)
+    absent l (inr m) (inl o) = high l.var (are (opposite l) o).above (All-contains (IsUpTo g.places) assumptions l low m)
     absent l (inr m) (inr o) = (All-contains (LacksOpposite assumptions) assumptions l apart m).absent o
+
+pub asked_apart : (g : Guarded) (b : Beside) (i : ℕ) (assumptions : List Literal) → IsWell g → i < length g.frames.items → All (IsUpTo g.places) assumptions → HasNoOpposites assumptions → HasNoOpposites (asked_guards g b i ++ assumptions)
+asked_apart g b i assumptions w lt low apart = guards_apart g (asked_guards g b i) assumptions (are_guards g b i w lt) low apart
 
 -- a solution under the guards
 pub tells_sat : (g : Guarded) (b : Beside) (i vars : ℕ) (assumptions : List Literal) (a : Assignment) → IsWell g → i < length g.frames.items → IsSolution vars (added_in g) (asked_guards g b i ++ assumptions) a → Tells g b i assumptions (Sat a)
@@ -128,6 +131,48 @@ tells_sat g b i vars assumptions a w lt s system list frames h = record {
       where
         second : (l : Literal) → Contains (slice_index_or g.frames.items i g.step ∷ l ∷ []) l
         second l = later_in (slice_index_or g.frames.items i g.step) l (l ∷ []) (first_in l [])
+
+-- the guards of a question about no frame
+lone_are : (P : Literal → Type 0) (g : Guarded) (b : Beside) → (b ≡ Step → P g.step) → (b ≡ Bad → P g.bad) → (l : Literal) → Contains (lone_guards g b) l → P l
+lone_are P g Nothing s t l m = absurd (omega (arith, m.1))
+lone_are P g Step s t l m = one_in P g.step l (s refl) m
+lone_are P g Bad s t l m = one_in P g.bad l (t refl) m
+
+are_lone : (g : Guarded) (b : Beside) → IsWell g → (l : Literal) → Contains (lone_guards g b) l → IsGuardIn g.places g.search.kept.vars l
+are_lone g b w l m = lone_are (IsGuardIn g.places g.search.kept.vars) g b (λ e. w.step) (λ e. w.bad) l m
+
+pub lone_up_to : (g : Guarded) (b : Beside) (assumptions : List Literal) → IsWell g → All (IsUpTo g.places) assumptions → All (IsUpTo g.search.kept.vars) (lone_guards g b ++ assumptions)
+lone_up_to g b assumptions w low = guards_up_to g (lone_guards g b) assumptions (are_lone g b w) w low
+
+pub lone_apart : (g : Guarded) (b : Beside) (assumptions : List Literal) → IsWell g → All (IsUpTo g.places) assumptions → HasNoOpposites assumptions → HasNoOpposites (lone_guards g b ++ assumptions)
+lone_apart g b assumptions w low apart = guards_apart g (lone_guards g b) assumptions (are_lone g b w) low apart
+
+-- a solution under the guards of a question about no frame
+pub finds_sat : (g : Guarded) (b : Beside) (vars : ℕ) (assumptions : List Literal) (a : Assignment) → IsWell g → IsSolution vars (added_in g) (lone_guards g b ++ assumptions) a → Finds g b assumptions a
+finds_sat g b vars assumptions a w s system list frames h = record {
+  beside = beside b (λ l m. is_true l m);
+  assumed = all_from (λ l. IsTrue (literal_value (values_of a) l)) assumptions (λ l m. true_value a l (All-contains (λ k. value_of a k ≡ Some true) (lone_guards g b ++ assumptions) l s.assumptions_true
+      (Contains-append_right (lone_guards g b) assumptions l m)));
+}
+  where
+    v : TotalAssignment
+    v = values_of a
+
+    layout : Layout
+    layout = layout_of g.places h.lists frames (guard_of g) h.top h.base (guard_at g) h.role
+
+    t : Satisfies v (added_in g)
+    t = Satisfies-from_All v (added_in g) (λ k d lt. true_clause a (slice_index_or (added_in g) k d) (s.clauses_true k d lt))
+
+    is_true : (l : Literal) → Contains (lone_guards g b) l → literal_value v l ≡ true
+    is_true l m = true_value a l (All-contains (λ k. value_of a k ≡ Some true) (lone_guards g b ++ assumptions) l s.assumptions_true (Contains-append_left (lone_guards g b) assumptions l m))
+
+    beside : (b : Beside) → ((l : Literal) → Contains (lone_guards g b) l → literal_value v l ≡ true) → MeetsBeside system list b v
+    beside Nothing on = tt
+    beside Step on = (h.alike step).back v (subst (λ (p : ℕ). Meets p (h.lists step) v) h.places
+        (list_met layout g.search.kept.vars (added_in g) h.held step v t (ap (literal_value v) (sym (plain_guard g.step w.step.positive)) ∙ on g.step (first_in g.step []))))
+    beside Bad on = (h.alike bad).back v (subst (λ (p : ℕ). Meets p (h.lists bad) v) h.places
+        (list_met layout g.search.kept.vars (added_in g) h.held bad v t (ap (literal_value v) (sym (plain_guard g.bad w.bad.positive)) ∙ on g.bad (first_in g.bad []))))
 
 -- which guards of frames are true where the frame of a number is asked about, and which lists are
 abbrev asked_frame : ℕ → ℕ → Bool

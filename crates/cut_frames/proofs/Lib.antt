@@ -10,6 +10,7 @@ pub mod PutLaws
 pub mod BitLemmas
 pub mod LookLemmas
 pub mod PushLemmas
+pub mod WalkLaws
 pub mod OwedLemmas
 pub mod RaiseLaws
 pub mod PartLemmas

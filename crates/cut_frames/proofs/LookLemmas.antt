@@ -164,7 +164,7 @@ module _ (system : System) where
   pub next_met : (list : List (List Literal)) (v : TotalAssignment) (s : State) → IsState system s → Agrees v (system.state_bits + 2) s → (m : IsMet (places_of system) list v) → Agrees m.values (system.state_bits + 2) s
   next_met list v s e g m = agrees_on v m.values (system.state_bits + 2) s (λ x low lt. m.agree x (from_two system.state_bits x low) (in_next (length s) x system.state_bits system.input_bits e lt)) g
 
-  inputs_met : (list : List (List Literal)) (v : TotalAssignment) (u : List Bool) → length u ≡ system.input_bits → Agrees v (2 * system.state_bits + 2) u → (m : IsMet (places_of system) list v) → Agrees m.values (2 * system.state_bits + 2) u
+  pub inputs_met : (list : List (List Literal)) (v : TotalAssignment) (u : List Bool) → length u ≡ system.input_bits → Agrees v (2 * system.state_bits + 2) u → (m : IsMet (places_of system) list v) → Agrees m.values (2 * system.state_bits + 2) u
   inputs_met list v u e g m = agrees_on v m.values (2 * system.state_bits + 2) u (λ x low lt. m.agree x (from_inputs system.state_bits x low) (in_inputs (length u) x system.state_bits system.input_bits e lt)) g
 
   pub met_itself : (list : List (List Literal)) (v : TotalAssignment) → IsTrue (all_true v list) → IsMet (places_of system) list v

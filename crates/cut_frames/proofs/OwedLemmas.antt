@@ -22,34 +22,13 @@ use Rattle.cut_frames.proofs.Framing.{in_list, gained_true, framed_new, number_a
 use Rattle.cut_frames.proofs.PutLaws.{gained_put}
 use Rattle.cut_frames.proofs.RaiseLaws.{tightened_raised}
 use Rattle.cut_frames.proofs.StatesLeft.{left_less}
+use Rattle.cut_frames.proofs.WalkLaws.{newest, some_or_none, length_push, linked_path}
 use Rattle.base_values.proofs.ListLaws.{push_get}
 
 get_left : {A : Type 0} (xs : List A) (x : A) (p : ℕ) (s : A) → slice_get xs p ≡ Some s → slice_get (xs ++ x ∷ []) p ≡ Some s
 get_left [] x p s e = cc
 get_left (y ∷ ys) x zero s e = e
 get_left (y ∷ ys) x (suc p) s e = get_left ys x p s e
-
-length_push : {A : Type 0} (xs : List A) (x : A) → length (xs ++ x ∷ []) ≡ length xs + 1
-length_push [] x = omega arith
-length_push (y ∷ ys) x = let rest = length_push ys x in one (length (ys ++ x ∷ [])) (length ys) rest
-  where
-    one : (m n : ℕ) → m ≡ n + 1 → suc m ≡ suc n + 1
-    one m n e = omega (arith, e)
-
-pub newest : {A : Type 0} (xs : List A) (d : A) → 0 < length xs → slice_get xs (length xs - 1) ≡ Some (slice_index_or xs (length xs - 1) d)
-newest {A = A} [] d lt = absurd (omega (arith, lt))
-newest {A = A} (x ∷ xs) d lt = subst (λ n. slice_get (x ∷ xs) n ≡ Some (slice_index_or (x ∷ xs) n d)) (less (length xs)) (go x xs)
-  where
-    less : (n : ℕ) → n ≡ suc n - 1
-    less n = omega arith
-
-    go : (x : A) (xs : List A) → slice_get (x ∷ xs) (length xs) ≡ Some (slice_index_or (x ∷ xs) (length xs) d)
-    go x [] = refl
-    go x (y ∷ ys) = go y ys
-
-some_or_none : {A : Type 0} (xs : List A) → (xs ≡ []) ⊎ (0 < length xs)
-some_or_none [] = inl refl
-some_or_none (x ∷ xs) = inr (grind arith)
 
 module _ (system : System) (bad : List (List Literal)) where
   pub look_newest : (frames : List (List (List Literal))) (owed : List Assignment) (look : Look) (t : State) → 0 < length owed → t ≡ state_in system (slice_index_or owed (length owed - 1) []) →
@@ -85,52 +64,10 @@ module _ (system : System) (bad : List (List Literal)) where
   -- the obligations turned round are a path, where the newest is first
   pub owed_path : (frames : List (List (List Literal))) (owed : List Assignment) → AreOwed system bad frames owed → 0 < length owed →
       IsFirstState system (state_in system (slice_index_or owed (length owed - 1) [])) → IsPath system bad (length frames - 1) (reverse owed)
-  owed_path frames owed o lt first = record {
-    some = subst (λ n. 0 < n) (sym (length-reverse owed)) lt;
-    short = subst (λ n. n ≤ length frames - 1 + 1) (sym (length-reverse owed)) (fit (length owed) (length frames) o.fits);
-    given = All-from_get_or (Gives 2 system.state_bits) (reverse owed) [] (λ i l. given i (subst (λ n. i < n) (length-reverse owed) l));
-    starts_first = subst (λ a. IsFirstState system (state_in system a)) (sym (get_or-reverse owed 0 [] lt ∙ ap (λ n. slice_index_or owed n []) (none_less (length owed)))) first;
-    steps = λ i l. steps i (subst (λ n. i + 1 < n) (length-reverse owed) l);
-    ends_bad = subst (λ n. IsBad system bad (state_in system (slice_index_or (reverse owed) (n - 1) []))) (sym (length-reverse owed))
-        (subst (λ a. IsBad system bad (state_in system a)) (sym (get_or-reverse owed (length owed - 1) [] (last (length owed) lt) ∙ ap (λ n. slice_index_or owed n []) (all_less (length owed))))
-        (o.ends_bad (slice_index_or owed 0 []) (slice_get-get_or owed 0 [] lt)));
-  }
+  owed_path frames owed o lt first = linked_path system bad (length frames - 1) owed (record { given = o.given; ends_bad = o.ends_bad; steps = o.steps }) lt (fit (length owed) (length frames) o.fits) first
     where
       fit : (n k : ℕ) → n ≤ k → n ≤ k - 1 + 1
       fit n k le = omega arith
-
-      none_less : (n : ℕ) → n - 1 - 0 ≡ n - 1
-      none_less n = omega arith
-
-      all_less : (n : ℕ) → n - 1 - (n - 1) ≡ 0
-      all_less n = omega arith
-
-      last : (n : ℕ) → 0 < n → n - 1 < n
-      last n lt = omega arith
-
-      back : (n i : ℕ) → i < n → n - 1 - i < n
-      back n i lt = omega arith
-
-      sooner : (n i : ℕ) → i + 1 < n → i < n
-      sooner n i lt = omega arith
-
-      one_back : (n i : ℕ) → i + 1 < n → n - 1 - i ≡ suc (n - 1 - (i + 1))
-      one_back n i lt = omega arith
-
-      given : (i : ℕ) → i < length owed → Gives 2 system.state_bits (slice_index_or (reverse owed) i [])
-      given i l = subst (Gives 2 system.state_bits) (sym (get_or-reverse owed i [] l))
-          (o.given (length owed - 1 - i) (slice_index_or owed (length owed - 1 - i) []) (slice_get-get_or owed (length owed - 1 - i) [] (back (length owed) i l)))
-
-      steps : (i : ℕ) → i + 1 < length owed → Leads system (slice_index_or (reverse owed) i []) (state_in system (slice_index_or (reverse owed) (i + 1) []))
-      steps i l =
-          let p : ℕ = length owed - 1 - (i + 1) in
-          let here : slice_index_or (reverse owed) i [] ≡ slice_index_or owed (suc p) [] =
-          get_or-reverse owed i [] (sooner (length owed) i l) ∙ ap (λ n. slice_index_or owed n []) (one_back (length owed) i l) in
-          let next : slice_index_or (reverse owed) (i + 1) [] ≡ slice_index_or owed p [] = get_or-reverse owed (i + 1) [] l in
-          let inside : suc p < length owed = subst (λ n. n < length owed) (one_back (length owed) i l) (back (length owed) i (sooner (length owed) i l)) in
-          subst (λ a. Leads system a (state_in system (slice_index_or (reverse owed) (i + 1) []))) (sym here)
-          (subst (λ b. Leads system (slice_index_or owed (suc p) []) (state_in system b)) (sym next)
-          (o.steps p (slice_index_or owed (suc p) []) (slice_index_or owed p []) (slice_get-get_or owed p [] (back (length owed) (i + 1) l)) (slice_get-get_or owed (suc p) [] inside)))
 
   pub look_first : (frames : List (List (List Literal))) (owed : List Assignment) → AreOwed system bad frames owed → IsLook system bad frames owed IsFirst → IsPath system bad (length frames - 1) (reverse owed)
   look_first frames owed o look = by_case (some_or_none owed)

@@ -1,5 +1,5 @@
 -- What one look of `clear` says.
-use Rattle.std.specs.Prelude.{◌≡◌, ℕ, suc, ◌-◌, ◌<◌, false, List, [], Some, slice_get, length}
+use Rattle.std.specs.Prelude.{◌≡◌, ◌⊎◌, ℕ, suc, ◌-◌, ◌<◌, false, List, [], Some, slice_get, length}
 use Rattle.sat_clauses.specs.Literal.{Literal}
 use Rattle.sat_clauses.specs.Assignment.{Assignment}
 use Rattle.sat_clauses.specs.Models.{clause_value}
@@ -38,10 +38,11 @@ module _ (system : System) where
   IsStepLook frames level s (Deeper a) = (0 < level) × InNumber system frames (level - 1) (state_in system a) × Leads system a s
   IsStepLook frames level s (Blocked c) = Blocks frames level s c
 
-  -- either answer of `clear`: no state of the last frame is bad, or a path into a bad state
-  abbrev pub IsCleared : List (List Literal) → List (List (List Literal)) → Cleared → Type 0
-  IsCleared bad frames Clear = IsClear system bad frames
-  IsCleared bad frames (Path path) = IsPath system bad (length frames - 1) path
+  -- either answer of `clear`: no state of the last frame is bad, or a path into a bad state, of at most the last frame's number of steps or
+  -- of at most so many
+  abbrev pub IsCleared : List (List Literal) → List (List (List Literal)) → ℕ → Cleared → Type 0
+  IsCleared bad frames most Clear = IsClear system bad frames
+  IsCleared bad frames most (Path path) = IsPath system bad (length frames - 1) path ⊎ IsPath system bad most path
 
   -- a look at the newest obligation, or where there is none for a bad state
   pub record IsLook (bad : List (List Literal)) (frames : List (List (List Literal))) (owed : List Assignment) (look : Look) : Type 0 where

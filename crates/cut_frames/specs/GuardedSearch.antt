@@ -72,6 +72,11 @@ abbrev pub IsToldBy : System → List (List Literal) → List (List (List Litera
 IsToldBy system list frames beside i assumptions (Sat a) = IsModelOf system list frames beside i assumptions a
 IsToldBy system list frames beside i assumptions (Unsat core) = IsCoreOf system list frames beside i assumptions core
 
+-- the values make what is asked about and the assumptions true, in no frame
+pub record IsLoneModelOf (system : System) (list : List (List Literal)) (asked : Beside) (assumptions : List Literal) (a : Assignment) : Type 0 where
+  pub beside : MeetsBeside system list asked (values_of a)
+  pub assumed : All (λ l. IsTrue (literal_value (values_of a) l)) assumptions
+
 -- the clauses that were added to the search
 abbrev pub added_in : Guarded → List (List Literal)
 added_in g = added_of g.search.kept.clauses g.search.kept.marks
@@ -158,6 +163,12 @@ asked_guards g Nothing i = slice_index_or g.frames.items i g.step ∷ []
 asked_guards g Step i = slice_index_or g.frames.items i g.step ∷ g.step ∷ []
 asked_guards g Bad i = slice_index_or g.frames.items i g.step ∷ g.bad ∷ []
 
+-- the guards under which a question about no frame is asked
+abbrev pub lone_guards : Guarded → Beside → List Literal
+lone_guards g Nothing = []
+lone_guards g Step = g.step ∷ []
+lone_guards g Bad = g.bad ∷ []
+
 -- the guard of the frame of a number
 abbrev pub guard_at : Guarded → ℕ → ℕ
 guard_at g i = (slice_index_or g.frames.items i g.step).var
@@ -202,6 +213,12 @@ abbrev pub Tells : Guarded → Beside → ℕ → List Literal → Verdict → T
 Tells old beside i assumptions v = (system : System) (list : List (List Literal)) (frames : List (List (List Literal))) →
     IsHolding system list frames old →
     IsToldBy system list frames beside i assumptions v
+
+-- the values are a model of what the search holds, whatever that is
+abbrev pub Finds : Guarded → Beside → List Literal → Assignment → Type 0
+Finds old beside assumptions a = (system : System) (list : List (List Literal)) (frames : List (List (List Literal))) →
+    IsHolding system list frames old →
+    IsLoneModelOf system list beside assumptions a
 
 -- a question changes nothing that the search holds
 abbrev pub HasAsked : Guarded → Guarded → Type 0

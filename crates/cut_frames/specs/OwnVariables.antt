@@ -55,6 +55,11 @@ pub record IsFound (system : System) (list : List (List Literal)) (frames : List
   pub beside : IsMetBeside system list asked (values_of a)
   pub assumed : All (λ l. IsTrue (literal_value (values_of a) l)) assumptions
 
+-- the values make what is asked about and the assumptions true, in no frame
+pub record IsFoundAlone (system : System) (list : List (List Literal)) (asked : Beside) (assumptions : List Literal) (a : Assignment) : Type 0 where
+  pub beside : IsMetBeside system list asked (values_of a)
+  pub assumed : All (λ l. IsTrue (literal_value (values_of a) l)) assumptions
+
 -- a clause of negated assumptions that holds where the frame does and what is asked beside it
 pub record IsExcluded (system : System) (list : List (List Literal)) (frames : List (List (List Literal))) (asked : Beside) (i : ℕ)
     (assumptions core : List Literal) : Type 0 where

@@ -51,6 +51,16 @@ module _ (system : System) where
     pub steps : (i : ℕ) → i + 1 < length path → Leads (slice_index_or path i []) (state_in (slice_index_or path (i + 1) []))
     pub ends_bad : IsBad system bad (state_in (slice_index_or path (length path - 1) []))
 
+  -- the moment gives a bad state
+  abbrev pub EndsBad : List (List Literal) → Assignment → Type 0
+  EndsBad bad a = IsBad system bad (state_in a) × Gives 2 system.state_bits a
+
+  -- moments, the last of a path first: that of a bad state, then each of a state with a step to the one before it in the list
+  pub record AreLinked (bad : List (List Literal)) (owed : List Assignment) : Type 0 where
+    pub given : (p : ℕ) (a : Assignment) → slice_get owed p ≡ Some a → Gives 2 system.state_bits a
+    pub ends_bad : (a : Assignment) → slice_get owed 0 ≡ Some a → IsBad system bad (state_in a)
+    pub steps : (p : ℕ) (a b : Assignment) → slice_get owed p ≡ Some b → slice_get owed (suc p) ≡ Some a → Leads a (state_in b)
+
   -- obligations, the oldest first: a bad state of the last frame, then each a state of the frame before, with a step to the one before it
   -- in the list
   pub record AreOwed (bad : List (List Literal)) (frames : List (List (List Literal))) (owed : List Assignment) : Type 0 where

@@ -3,7 +3,7 @@
 //! state leads to an obligation, a clause blocks it in the frames up to its own: of the literals of two cores, one of
 //! the first states and one of the steps, as few as are needed. A bad state is shrunk before it is an obligation. Once it is blocked,
 //! what was blocked on the way is tried in higher frames ([`crate::raise`]). `clear_noting` is the main function.
-ghost use Rattle.std.specs.Prelude.{◌≡◌, ◌≤◌, ◌<◌, ◌+◌, ◌-◌, map, IfOk, OnOk, OnErr};
+ghost use Rattle.std.specs.Prelude.{◌≡◌, ◌≤◌, ◌<◌, ◌+◌, ◌-◌, map, IfOk, IfSome, OnOk, OnErr};
 ghost use Rattle.sat_clauses.specs.Literal.{opposite};
 ghost use Rattle.cut_frames.specs.Bits.{literals_from};
 ghost use Rattle.cut_frames.specs.GuardedSearch.{HasAsked};
@@ -14,7 +14,7 @@ ghost use Rattle.cut_frames.specs.Levels.{frames_of, with_clause, IsLevelled, Is
 ghost use Rattle.cut_frames.specs.Problem.{IsWellPosed, IsFrameAt};
 ghost use Rattle.cut_frames.specs.ClearLooks.{Blocks, IsBadLook, IsStepLook, IsLook, IsCleared};
 ghost use Rattle.cut_frames.specs.Chain.{IsState, IsOverBits};
-ghost use Rattle.cut_frames.specs.Path.{AreOwed};
+ghost use Rattle.cut_frames.specs.Path.{AreOwed, IsPath};
 ghost use Rattle.cut_frames.specs.OwnVariables.{IsKept};
 
 use crate::bits::{State, broken_by, join, literals, read, state_moment, step_moment};
@@ -27,6 +27,7 @@ use crate::raise::raise_all;
 use crate::shrink::shrink;
 use crate::smaller::{Cores, chosen, smaller};
 use crate::steps::StepList;
+use crate::walk::walk;
 use base_values::OutOfMemory;
 use sat_adviser::Panel;
 use sat_clauses::assign::Assign;
@@ -51,7 +52,7 @@ pub enum Look {
 pub enum Cleared {
     /// No state of the frontier's frame is bad.
     Clear,
-    /// A path from a first state into a bad one, with at most as many steps as the frontier's number.
+    /// A path from a first state into a bad one.
     Path(StepList),
 }
 
@@ -259,11 +260,36 @@ pub fn block(
     Ok(())
 }
 
-/// Returns a path from a first state into bad, or that no state of the last frame is bad.
+/// Raises what was blocked on the way to a bad state, and returns a path of at most so many steps where one is met.
+fn raise(
+    outline: &mut Outline,
+    problem: Problem<'_>,
+    frames: &mut Levels,
+    most: usize,
+    kept: &mut Guarded,
+    panel: &mut Panel,
+) -> Result<Option<StepList>, OutOfMemory>
+    requires problem { IsWellPosed problem }
+    requires framed { IsLevelled problem.system.now frames.old }
+    requires agreed { AreAgreed problem.system.now outline.old.agreed.items }
+    requires kept { IsKept problem.system.now problem.bad.now (frames_of frames.old) kept.old }
+    ensures tightened { IsTightened problem.entry.system.now frames.old frames.new }
+    ensures same { outline.new.agreed.items ≡ outline.old.agreed.items }
+    ensures path { IfOk result (λ r. IfSome r (IsPath problem.entry.system.now problem.entry.bad.now most)) }
+    ensures kept { IfOk result (λ _. IsKept problem.entry.system.now problem.entry.bad.now (frames_of frames.new) kept.new) }
+{
+    raise_all(outline, problem, frames, kept, panel)?;
+    let path = walk(outline, problem, frames, most, kept, panel)?;
+    Ok(path)
+}
+
+/// Returns a path from a first state into bad, of at most the frontier's number of steps or of at most so many, or that no state of the last
+/// frame is bad.
 fn clear_frames(
     outline: &mut Outline,
     problem: Problem<'_>,
     frames: &mut Levels,
+    most: usize,
     kept: &mut Guarded,
     panel: &mut Panel,
 ) -> Result<Cleared, OutOfMemory>
@@ -273,7 +299,7 @@ fn clear_frames(
     requires kept { IsKept problem.system.now problem.bad.now (frames_of frames.old) kept.old }
     ensures tightened { IsTightened problem.entry.system.now frames.old frames.new }
     ensures same { outline.new.agreed.items ≡ outline.old.agreed.items }
-    ensures cleared { IfOk result (λ answer. IsCleared problem.entry.system.now problem.entry.bad.now (frames_of frames.new) answer) }
+    ensures cleared { IfOk result (λ answer. IsCleared problem.entry.system.now problem.entry.bad.now (frames_of frames.new) most answer) }
     ensures kept { IfOk result (λ _. IsKept problem.entry.system.now problem.entry.bad.now (frames_of frames.new) kept.new) }
 {
     let mut owed = StepList::new(*frames.held.allocator());
@@ -289,19 +315,21 @@ fn clear_frames(
                 block(problem, frames, level, clause, kept)?;
                 owed.pop();
                 if owed.is_empty() {
-                    raise_all(outline, problem, frames, kept, panel)?;
+                    if let Some(path) = raise(outline, problem, frames, most, kept, panel)? {
+                        return Ok(Cleared::Path(path));
+                    }
                 }
             }
         }
     }
 }
 
-/// Returns a path from a first state into bad, the states of which are known to be reached from then on, or that no state of the last
-/// frame is bad.
+/// Returns the same, where the states of a path are known to be reached from then on.
 pub fn clear_noting(
     outline: &mut Outline,
     problem: Problem<'_>,
     frames: &mut Levels,
+    most: usize,
     kept: &mut Guarded,
     panel: &mut Panel,
 ) -> Result<Cleared, OutOfMemory>
@@ -311,10 +339,10 @@ pub fn clear_noting(
     requires kept { IsKept problem.system.now problem.bad.now (frames_of frames.old) kept.old }
     ensures tightened { IsTightened problem.entry.system.now frames.old frames.new }
     ensures same { outline.new.agreed.items ≡ outline.old.agreed.items }
-    ensures cleared { IfOk result (λ answer. IsCleared problem.entry.system.now problem.entry.bad.now (frames_of frames.new) answer) }
+    ensures cleared { IfOk result (λ answer. IsCleared problem.entry.system.now problem.entry.bad.now (frames_of frames.new) most answer) }
     ensures kept { IfOk result (λ _. IsKept problem.entry.system.now problem.entry.bad.now (frames_of frames.new) kept.new) }
 {
-    let answer = clear_frames(outline, problem, frames, kept, panel)?;
+    let answer = clear_frames(outline, problem, frames, most, kept, panel)?;
     if let Cleared::Path(path) = &answer {
         outline.reached.note(problem.system, path)?;
     }

@@ -170,16 +170,22 @@ impl Frames {
         answer
     }
 
-    /// Returns a path from a first state into a bad one, or that no state of the frontier's frame is bad. A bad state is taken that makes
-    /// as few of these literals true as any bad state of that frame that makes no other of them true.
-    pub fn clear(&mut self, history: &[Lit], panel: &mut Panel) -> Result<Cleared, OutOfMemory>
+    /// Returns a path from a first state into a bad one, of at most the frontier's number of steps or of at most so many, or that no state of
+    /// the frontier's frame is bad. A bad state is taken that makes as few of these literals true as any bad state of that frame that makes
+    /// no other of them true. A path of more steps than the frontier's number is met by the way, and may be there where none is answered.
+    pub fn clear(
+        &mut self,
+        history: &[Lit],
+        most: usize,
+        panel: &mut Panel,
+    ) -> Result<Cleared, OutOfMemory>
         requires history { IsHistory self.old.system history.now }
         ensures system { self.new.system ≡ self.old.system }
         ensures frontier { frontier self.new ≡ frontier self.old }
         ensures numbered { AreNumbered self.new.system self.new.frames }
         ensures stronger { AreStronger self.old.system self.old.frames self.new.frames }
         ensures bad { self.new.bad ≡ self.old.bad }
-        ensures cleared { IfOk result (λ answer. IsCleared self.old.system self.old.bad self.new.frames answer) }
+        ensures cleared { IfOk result (λ answer. IsCleared self.old.system self.old.bad self.new.frames most answer) }
         ensures spent { StaysSpent self.old.spent self.new.spent result }
     {
         if self.spent {
@@ -199,6 +205,7 @@ impl Frames {
             &mut self.outline,
             problem,
             &mut self.levels,
+            most,
             &mut self.kept,
             panel,
         );

@@ -16,7 +16,7 @@ ghost use Rattle.cut_frames.specs.Condition.{IsLow, IsNear, IsFit};
 ghost use Rattle.cut_frames.specs.Roles.{renamed_literal, renamed_clause, under_list};
 ghost use Rattle.cut_frames.specs.Guards.{unguarded};
 ghost use Rattle.cut_frames.specs.GuardedSearch.{IsWell, IsHolding, IsGuardIn, HasRoomFor, IsEmpty, HasPut, HasWidened, HasNewBad};
-ghost use Rattle.cut_frames.specs.GuardedSearch.{HasNewFrame, HasAsked, Tells, TakesBad, AddsBad, Puts, Grows, BeginsAgain, asked_guards};
+ghost use Rattle.cut_frames.specs.GuardedSearch.{HasNewFrame, HasAsked, Tells, TakesBad, AddsBad, Puts, Grows, BeginsAgain, asked_guards, lone_guards, Finds};
 ghost use Rattle.cut_frames.specs.GuardedSearch.{HoldsSimple, TakesSimple};
 ghost use Rattle.sat_solver.specs.declared.solve.Verdict.TheVariants.{Unsat};
 
@@ -26,6 +26,7 @@ use crate::simple::SimpleLists;
 use base_values::OutOfMemory;
 use sat_adviser::Panel;
 use sat_clauses::System;
+use sat_clauses::assign::Assign;
 use sat_clauses::clause::{Clause, ClauseList};
 use sat_clauses::lit::Lit;
 use sat_clauses::recorder::KeepNone;
@@ -473,6 +474,44 @@ impl Guarded {
         match self.search.ask(under.as_slice(), panel)? {
             Verdict::Sat(values) => Ok(Verdict::Sat(values)),
             Verdict::Unsat(core) => Ok(Verdict::Unsat(without_guards(alloc, self.places, &core)?)),
+        }
+    }
+
+    /// The guards under which a question about no frame is asked, and its assumptions.
+    fn lone_guards(&self, beside: Beside, assumptions: &[Lit]) -> Result<Vec<Lit>, OutOfMemory>
+        ensures { IfOk result (λ all. all.items ≡ lone_guards self.now beside ++ assumptions.now) }
+    {
+        let mut all = Vec::new(*self.frames.allocator());
+        let guard = match beside {
+            Beside::Nothing => None,
+            Beside::Step => Some(self.step),
+            Beside::Bad => Some(self.bad),
+        };
+        if let Some(guard) = guard {
+            all.push(guard)?;
+        }
+        all.extend_from_slice(assumptions)?;
+        Ok(all)
+    }
+
+    /// Looks for an assignment that makes what is asked about and the assumptions true, in no frame.
+    pub fn find(
+        &mut self,
+        beside: Beside,
+        assumptions: &[Lit],
+        panel: &mut Panel,
+    ) -> Result<Option<Assign>, OutOfMemory>
+        requires well { IsWell self.old }
+        requires up_to { All (IsUpTo self.old.places) assumptions.now }
+        requires apart { HasNoOpposites assumptions.now }
+        ensures asked { IfOk result (λ _. HasAsked self.old self.new) }
+        ensures found { IfOk result (λ r. IfSome r (Finds self.old beside assumptions.now)) }
+    {
+        let under = self.lone_guards(beside, assumptions)?;
+        panel.ready(self.vars)?;
+        match self.search.ask(under.as_slice(), panel)? {
+            Verdict::Sat(values) => Ok(Some(values)),
+            Verdict::Unsat(_core) => Ok(None),
         }
     }
 

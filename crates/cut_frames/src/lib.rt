@@ -24,7 +24,7 @@
 //! ```text
 //! let mut frames = Frames::new(alloc, system)?;    // one bit that is false first and stays
 //! frames.ask_about(bad, &mut panel)?;
-//! frames.clear(&[], &mut panel)?                    // Clear: the bit is not true in a first state
+//! frames.clear(&[], 0, &mut panel)?                 // Clear: the bit is not true in a first state
 //! frames.advance(&mut panel)?                      // Fixed or Further
 //! ```
 #![tactic(auto)]
@@ -53,6 +53,7 @@ mod simple;
 mod smaller;
 mod steps;
 mod waiting;
+mod walk;
 mod weights;
 
 pub use advance::Advanced;

@@ -85,21 +85,8 @@ impl Outline {
         requires { IsFit system.now }
         ensures { self.new.agreed.items ≡ self.old.agreed.items }
     {
-        if level >= last {
-            return Ok(());
-        }
-        match owed.last() {
-            Some(values) => {
-                let state = read(
-                    *self.starts.allocator(),
-                    2,
-                    u64::from(system.state_bits),
-                    values,
-                )?;
-                self.raised.put(level + 1, state, last)
-            }
-            None => Ok(()),
-        }
+        let bits = u64::from(system.state_bits);
+        self.raised.put_blocked(bits, level, owed, last)
     }
 
     /// The value that the known first states give a bit, where they agree.

@@ -1,7 +1,7 @@
 //! Raising states: one that a clause blocks below the last frame is looked at in the frames above that one too, and so is each state from
 //! which a step leads to it, the lowest frames first. A clause is then found once for many frontiers in place of anew at each, and it says
-//! more; counters and timers gain most. No path comes of it, as a path to a raised state may have more steps than the frontier's number:
-//! where a first state is met, nothing more is raised at this frontier. `raise_all` is the main function.
+//! more; counters and timers gain most. Where a first state is met, the way from it into a bad state is noted: it may have more steps than the
+//! frontier's number. `raise_all` is the main function.
 ghost use Rattle.std.specs.Prelude.{◌≡◌, ◌≤◌, IfOk, OnOk};
 ghost use Rattle.cut_frames.specs.Levels.{frames_of, IsLevelled, IsTightened};
 ghost use Rattle.cut_frames.specs.OwnVariables.{IsKept};
@@ -56,11 +56,12 @@ fn raise_one(
         level,
     };
     match look_against(outline, at, &next.state, kept, panel)? {
-        Look::Nothing | Look::IsFirst => outline.raised.stop(last),
+        Look::Nothing | Look::IsFirst => outline.raised.meet(next.place),
         Look::Deeper(moment) => {
             let before = read(*frames.held.allocator(), 2, bits, &moment)?;
+            let place = next.place;
             outline.raised.put_back(next, last)?;
-            outline.raised.put_before(level, before, last)?;
+            outline.raised.put_before(level, before, place, last)?;
         }
         Look::Blocked(clause) => {
             block(problem, frames, level, clause, kept)?;
@@ -70,7 +71,7 @@ fn raise_one(
     Ok(())
 }
 
-/// Looks at the states that wait, as often as the limit allows, and drops those that are left.
+/// Looks at the states that wait, as often as the limit allows or until a first state is met, and drops those that are left.
 pub fn raise_all(
     outline: &mut Outline,
     problem: Problem<'_>,
@@ -94,6 +95,6 @@ pub fn raise_all(
         freshen(problem, frames, kept, panel)?;
         raise_one(outline, problem, frames, next, kept, panel)?;
     }
-    outline.raised.clear();
+    outline.raised.drop_waiting();
     Ok(())
 }

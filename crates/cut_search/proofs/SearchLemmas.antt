@@ -1,5 +1,5 @@
 -- What looks bring, over the sets as the code has them.
-use Rattle.std.proofs.Common.{◌≡◌, ℕ, ◌+◌, ◌-◌, ◌^◌, ◌<◌, ◌≤◌, Bool, true, false, not, List, [], ◌∷◌, ◌++◌, length, Option, Some, refl, sym, ap, ◌∙◌, subst, arith, inl, inr}
+use Rattle.std.proofs.Common.{◌≡◌, ℕ, ◌+◌, ◌-◌, ◌^◌, ◌<◌, ◌≤◌, Bool, true, false, not, List, [], ◌∷◌, ◌++◌, length, Option, Some, refl, sym, ap, ◌∙◌, subst, arith, ◌⊎◌, inl, inr}
 use Rattle.std.specs.Prelude.{◌↔◌, cond, if◌then◌else◌}
 use Rattle.smv_language.specs.Language.{Text, Each, AtSome}
 use Rattle.smv_flat_laws.specs.FlatTrace.{IsFlatTrace}
@@ -75,25 +75,31 @@ module _ (problem : Problem) where
       (each_kept (IsFound FlatTrace (IsFlatTrace m) (ReachesTop m top) (HasFailedNumber m fs) (length fs) size) (λ f. IsNumbered (length fs) f.set) (λ f h. h.numbered) (all_found m.symbols found)
       (each_found FlatTrace (IsFlatTrace m) (ReachesTop m top) (HasFailedNumber m fs) (length fs) size (all_found m.symbols found) are)))
 
-  -- the answer is a path
-  is_path : (sys : System) (bad : List (List Literal)) (frames : List (List (List Literal))) (answer : Cleared) (path : List Assignment) → sys ≡ system → answer ≡ Path path → IsCleared sys bad frames answer →
-      IsPath system bad (length frames - 1) path
-  is_path sys bad frames answer path s e cleared = subst (λ y. IsPath y bad (length frames - 1) path) s (subst (IsCleared sys bad frames) e cleared)
+  -- the answer is a path, of at most some number of steps
+  is_path : (sys : System) (bad : List (List Literal)) (frames : List (List (List Literal))) (most : ℕ) (answer : Cleared) (path : List Assignment) → sys ≡ system → answer ≡ Path path → IsCleared sys bad frames most answer →
+      (k : ℕ) × IsPath system bad k path
+  is_path sys bad frames most answer path s e cleared = by_case (subst (IsCleared sys bad frames most) e cleared)
+    where
+      by_case : IsPath sys bad (length frames - 1) path ⊎ IsPath sys bad most path → (k : ℕ) × IsPath system bad k path
+      by_case (inl p) = (length frames - 1, subst (λ y. IsPath y bad (length frames - 1) path) s p)
+      by_case (inr p) = (most, subst (λ y. IsPath y bad most path) s p)
 
-  pub lawful_path : (size : ℕ) (sets : List (List ℕ)) (sys : System) (bad : List (List Literal)) (frames : List (List (List Literal))) (answer : Cleared) (path : List Assignment) →
-      IsSearched problem → IsBadFor problem size sets bad → sys ≡ system → answer ≡ Path path → IsCleared sys bad frames answer →
+  pub lawful_path : (size : ℕ) (sets : List (List ℕ)) (sys : System) (bad : List (List Literal)) (frames : List (List (List Literal))) (most : ℕ) (answer : Cleared) (path : List Assignment) →
+      IsSearched problem → IsBadFor problem size sets bad → sys ≡ system → answer ≡ Path path → IsCleared sys bad frames most answer →
       (i : ℕ) → i < length path → IsLawfulMoment problem path i
-  lawful_path size sets sys bad frames answer path searched lists s e cleared i l =
-      path_is_lawful problem size sets bad (length frames - 1) path searched lists (is_path sys bad frames answer path s e cleared) i l
+  lawful_path size sets sys bad frames most answer path searched lists s e cleared i l =
+      let p = is_path sys bad frames most answer path s e cleared in
+      path_is_lawful problem size sets bad p.0 path searched lists p.1 i l
 
   -- and it shows a new set
-  pub found_path : (size : ℕ) (found : List CodeFound) (sys : System) (bad : List (List Literal)) (frames : List (List (List Literal))) (answer : Cleared) (path : List Assignment) (new : CodeFound) →
+  pub found_path : (size : ℕ) (found : List CodeFound) (sys : System) (bad : List (List Literal)) (frames : List (List (List Literal))) (most : ℕ) (answer : Cleared) (path : List Assignment) (new : CodeFound) →
       IsSearched problem → AreListed problem size found → IsBadFor problem size (sets_of found) bad →
-      sys ≡ system → answer ≡ Path path → IsCleared sys bad frames answer → Shown problem path new → IsFoundFlat problem size (found_of m.symbols new) × IsNew new.set (all_found m.symbols found)
-  found_path size found sys bad frames answer path new searched are lists s e cleared shown =
+      sys ≡ system → answer ≡ Path path → IsCleared sys bad frames most answer → Shown problem path new → IsFoundFlat problem size (found_of m.symbols new) × IsNew new.set (all_found m.symbols found)
+  found_path size found sys bad frames most answer path new searched are lists s e cleared shown =
+      let p = is_path sys bad frames most answer path s e cleared in
       let both =
-      path_is_found problem size (all_found m.symbols found) bad (length frames - 1) path shown.long searched are
-      (subst (λ sets. IsBadFor problem size sets bad) (sym (sets_same m.symbols found)) lists) (is_path sys bad frames answer path s e cleared) shown.read in (
+      path_is_found problem size (all_found m.symbols found) bad p.0 path shown.long searched are
+      (subst (λ sets. IsBadFor problem size sets bad) (sym (sets_same m.symbols found)) lists) p.1 shown.read in (
         subst (IsFoundFlat problem size) (sym shown.is) both.0,
         subst (λ (f : Found FlatTrace). IsNew f.set (all_found m.symbols found)) (sym shown.is) both.1,
       )
@@ -105,11 +111,11 @@ module _ (problem : Problem) where
       subst (λ list. IsBadFor problem size (sets_of list) later) (sym e) (subst (IsBadFor problem size (sets_of (with_found new found))) (sym more) (with_clause problem size new found bad clause lists is))
 
   -- a look that finds a path
-  pub looks_along : (size : ℕ) (found now : List CodeFound) (sys : System) (bad : List (List Literal)) (frames : List (List (List Literal))) (answer : Cleared) (path : List Assignment) (new : CodeFound) (clause : List Literal) (last : FramesValue) →
-      IsSearched problem → AreListed problem size found → IsBadFor problem size (sets_of found) bad → sys ≡ system → answer ≡ Path path → IsCleared sys bad frames answer → Shown problem path new →
+  pub looks_along : (size : ℕ) (found now : List CodeFound) (sys : System) (bad : List (List Literal)) (frames : List (List (List Literal))) (most : ℕ) (answer : Cleared) (path : List Assignment) (new : CodeFound) (clause : List Literal) (last : FramesValue) →
+      IsSearched problem → AreListed problem size found → IsBadFor problem size (sets_of found) bad → sys ≡ system → answer ≡ Path path → IsCleared sys bad frames most answer → Shown problem path new →
       IsClauseOf problem new.set clause → now ≡ with_found new found → last.bad ≡ bad ++ clause ∷ [] → IsLooked problem size found now last false
-  looks_along size found now sys bad frames answer path new clause last searched are lists s e cleared shown is listed more =
-      let both = found_path size found sys bad frames answer path new searched are lists s e cleared shown in (
+  looks_along size found now sys bad frames most answer path new clause last searched are lists s e cleared shown is listed more =
+      let both = found_path size found sys bad frames most answer path new searched are lists s e cleared shown in (
         record { new = new; is_found = both.0; is_new = both.1; listed = listed },
         bad_more size found now new bad last.bad clause lists is listed more,
       )

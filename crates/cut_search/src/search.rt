@@ -18,6 +18,13 @@ use sat_adviser::{News, Panel};
 use sat_clauses::clause::ClauseList;
 use std::alloc::Global;
 
+/// How far a search goes: to traces of at most so many steps, and sets of at most so many faults.
+#[derive(Clone, Copy)]
+struct Bounds {
+    depth: u32,
+    size: u32,
+}
+
 /// Tells the panel of a frontier.
 fn tell_frontier(steps: usize, panel: &mut Panel)
     requires { steps < 2 ^ 64 }
@@ -49,21 +56,21 @@ fn tell_end(count: usize, panel: &mut Panel)
 fn look<E: Encoded>(
     alloc: Global,
     model: &E,
-    size: u32,
+    bounds: Bounds,
     frames: &mut Frames,
     found: Vec<WitnessedSet>,
     panel: &mut Panel,
 ) -> Result<(Vec<WitnessedSet>, bool), OutOfMemory>
     requires system { frames.old.system ≡ (E.problem model.now).system }
     requires numbered { AreNumbered (E.problem model.now).system frames.old.frames }
-    requires listed { AreListed (E.problem model.now) size found.items }
-    requires bad { IsBadFor (E.problem model.now) size (sets_of found.items) frames.old.bad }
+    requires listed { AreListed (E.problem model.now) bounds.size found.items }
+    requires bad { IsBadFor (E.problem model.now) bounds.size (sets_of found.items) frames.old.bad }
     ensures system { frames.new.system ≡ frames.old.system }
     ensures kept { AreKept (E.problem model.now) frames.old.frames frames.new.frames }
-    ensures looked { IfOk result (λ r. IsLooked (E.problem model.now) size found.items r.0.items frames.new r.1) }
+    ensures looked { IfOk result (λ r. IsLooked (E.problem model.now) bounds.size found.items r.0.items frames.new r.1) }
 {
     model.is_searched();
-    match frames.clear(model.history(), panel)? {
+    match frames.clear(model.history(), bounds.depth as usize, panel)? {
         Cleared::Clear => Ok((found, true)),
         Cleared::Path(path) => {
             let new = show(alloc, model, &path)?;
@@ -81,23 +88,23 @@ fn look<E: Encoded>(
 fn clear_all<E: Encoded>(
     alloc: Global,
     model: &E,
-    size: u32,
+    bounds: Bounds,
     frames: &mut Frames,
     found: Vec<WitnessedSet>,
     panel: &mut Panel,
 ) -> Result<Vec<WitnessedSet>, OutOfMemory>
     requires system { frames.old.system ≡ (E.problem model.now).system }
     requires numbered { AreNumbered (E.problem model.now).system frames.old.frames }
-    requires listed { AreListed (E.problem model.now) size found.items }
-    requires bad { IsBadFor (E.problem model.now) size (sets_of found.items) frames.old.bad }
+    requires listed { AreListed (E.problem model.now) bounds.size found.items }
+    requires bad { IsBadFor (E.problem model.now) bounds.size (sets_of found.items) frames.old.bad }
     ensures system { frames.new.system ≡ frames.old.system }
     ensures looking { IfOk result
-        (λ list. AreLooking (E.problem model.now) size found.items list.items frames.old.frames frames.new.frames) }
-    ensures clear { IfOk result (λ list. AreClear (E.problem model.now) size list.items frames.new) }
+        (λ list. AreLooking (E.problem model.now) bounds.size found.items list.items frames.old.frames frames.new.frames) }
+    ensures clear { IfOk result (λ list. AreClear (E.problem model.now) bounds.size list.items frames.new) }
 {
     let mut list = found;
     'looks: loop {
-        let (next, clear) = look(alloc, model, size, frames, list, panel)?;
+        let (next, clear) = look(alloc, model, bounds, frames, list, panel)?;
         list = next;
         if clear {
             return Ok(list);
@@ -109,22 +116,22 @@ fn clear_all<E: Encoded>(
 fn further<E: Encoded>(
     alloc: Global,
     model: &E,
-    size: u32,
+    bounds: Bounds,
     frames: &mut Frames,
     found: Vec<WitnessedSet>,
     panel: &mut Panel,
 ) -> Result<(Vec<WitnessedSet>, Option<ClauseList>), OutOfMemory>
     requires system { frames.old.system ≡ (E.problem model.now).system }
-    requires between { IsBetween (E.problem model.now) size found.items frames.old }
+    requires between { IsBetween (E.problem model.now) bounds.size found.items frames.old }
     ensures system { frames.new.system ≡ frames.old.system }
-    ensures gone { IfOk result (λ r. HasGone (E.problem model.now) size found.items r.0.items frames.old.frames frames.new r.1) }
+    ensures gone { IfOk result (λ r. HasGone (E.problem model.now) bounds.size found.items r.0.items frames.old.frames frames.new r.1) }
 {
     model.is_searched();
     match frames.advance(panel)? {
         Advanced::Fixed(clauses) => Ok((found, Some(clauses))),
         Advanced::Further => {
             tell_frontier(frames.frontier(), panel);
-            let list = clear_all(alloc, model, size, frames, found, panel)?;
+            let list = clear_all(alloc, model, bounds, frames, found, panel)?;
             Ok((list, None))
         }
     }
@@ -140,7 +147,7 @@ fn has_first(alloc: Global, frames: &mut Frames, panel: &mut Panel) -> Result<bo
     ensures first { IfOk result (λ b. (b ≡ true) ↔ ((s : State) × IsFirstState frames.old.system s)) }
 {
     frames.ask_about(ClauseList::new(alloc), panel)?;
-    match frames.clear(&[], panel)? {
+    match frames.clear(&[], 0, panel)? {
         Cleared::Clear => Ok(false),
         Cleared::Path(_path) => Ok(true),
     }
@@ -150,7 +157,7 @@ fn has_first(alloc: Global, frames: &mut Frames, panel: &mut Panel) -> Result<bo
 fn begin<E: Encoded>(
     alloc: Global,
     model: &E,
-    size: u32,
+    bounds: Bounds,
     frames: &mut Frames,
     panel: &mut Panel,
 ) -> Result<Vec<WitnessedSet>, OutOfMemory>
@@ -158,15 +165,15 @@ fn begin<E: Encoded>(
     requires frontier { frontier frames.old ≡ 0 }
     requires numbered { AreNumbered (E.problem model.now).system frames.old.frames }
     ensures system { frames.new.system ≡ frames.old.system }
-    ensures between { IfOk result (λ list. IsBetween (E.problem model.now) size list.items frames.new) }
+    ensures between { IfOk result (λ list. IsBetween (E.problem model.now) bounds.size list.items frames.new) }
     ensures frontier { IfOk result (λ _. frontier frames.new ≡ 0) }
 {
     let none = SetList::new(alloc);
-    let bad = model.bad_clauses(alloc, &none, size)?;
+    let bad = model.bad_clauses(alloc, &none, bounds.size)?;
     frames.ask_about(bad, panel)?;
     tell_frontier(0, panel);
     let found = Vec::new(alloc);
-    let begun = clear_all(alloc, model, size, frames, found, panel)?;
+    let begun = clear_all(alloc, model, bounds, frames, found, panel)?;
     Ok(begun)
 }
 
@@ -174,8 +181,7 @@ fn begin<E: Encoded>(
 fn search<E: Encoded>(
     alloc: Global,
     model: &E,
-    depth: u32,
-    size: u32,
+    bounds: Bounds,
     frames: &mut Frames,
     panel: &mut Panel,
 ) -> Result<(Vec<WitnessedSet>, End), OutOfMemory>
@@ -183,16 +189,16 @@ fn search<E: Encoded>(
     requires frontier { frontier frames.old ≡ 0 }
     requires numbered { AreNumbered (E.problem model.now).system frames.old.frames }
     ensures system { frames.new.system ≡ frames.old.system }
-    ensures listed { IfOk result (λ r. AreListed (E.problem model.now) size r.0.items) }
-    ensures ends { IfOk result (λ r. IsEnd (E.problem model.now) depth size r.0.items r.1) }
+    ensures listed { IfOk result (λ r. AreListed (E.problem model.now) bounds.size r.0.items) }
+    ensures ends { IfOk result (λ r. IsEnd (E.problem model.now) bounds.depth bounds.size r.0.items r.1) }
 {
     model.is_searched();
-    let mut list = begin(alloc, model, size, frames, panel)?;
+    let mut list = begin(alloc, model, bounds, frames, panel)?;
     'frontiers: loop {
-        if frames.frontier() >= depth as usize {
-            return Ok((list, End::Bounded(depth)));
+        if frames.frontier() >= bounds.depth as usize {
+            return Ok((list, End::Bounded(bounds.depth)));
         }
-        let (next, proof) = further(alloc, model, size, frames, list, panel)?;
+        let (next, proof) = further(alloc, model, bounds, frames, list, panel)?;
         list = next;
         if let Some(clauses) = proof {
             tell_end(list.len(), panel);
@@ -232,7 +238,8 @@ pub fn analyse<E: Encoded>(
     model.is_searched();
     frames.begin_again()?;
     let first = has_first(alloc, frames, panel)?;
-    let (found, end) = search(alloc, model, depth, size, frames, panel)?;
+    let bounds = Bounds { depth, size };
+    let (found, end) = search(alloc, model, bounds, frames, panel)?;
     let made = answer(alloc, found, first, end, size)?;
     Ok(made)
 }

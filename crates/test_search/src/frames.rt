@@ -153,7 +153,7 @@ fn has_numbers(path: &StepList, bits: u32, inputs: u32, numbers: &[u64]) -> bool
 
 // A path, where the frontier's frame has a bad state, or nothing more.
 fn clear(frames: &mut Frames, panel: &mut Panel) -> Result<Option<FramesEnding>, OutOfMemory> {
-    match frames.clear(&[], panel)? {
+    match frames.clear(&[], 0, panel)? {
         Cleared::Path(path) => Ok(Some(FramesEnding::Reached(path))),
         Cleared::Clear => Ok(None),
     }

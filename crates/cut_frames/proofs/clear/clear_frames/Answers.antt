@@ -1,6 +1,9 @@
-use Rattle.std.proofs.Common.{◌≡◌, ◌++◌, ◌∷◌, [], sym, ◌∙◌, subst, arith, length, ◌<◌, ◌≤◌, ◌-◌, ◌+◌, List, ℕ}
+use Rattle.std.proofs.Common.{◌≡◌, ◌++◌, ◌∷◌, [], sym, ◌∙◌, subst, arith, length, ◌<◌, ◌≤◌, ◌-◌, ◌+◌, List, ℕ, inl, inr}
 use Rattle.std.proofs.lemmas.Grind.{common_steps}
+use Rattle.std.specs.Prelude.{Option, Some, IfSome}
 use Rattle.sat_clauses.specs.Assignment.{Assignment}
+use Rattle.sat_clauses.specs.Literal.{Literal}
+use Rattle.sat_clauses.specs.declared.system.System.{System}
 use Rattle.cut_frames.specs.Levels.{frames_of}
 use Rattle.cut_frames.specs.Parts.{AreAgreed}
 use Rattle.cut_frames.specs.Path.{AreOwed, IsPath}
@@ -15,9 +18,9 @@ pub returns-in-Nothing-clause-cleared : goal.returns-in-Nothing-clause-cleared
 returns-in-Nothing-clause-cleared g c = look_nothing c.args.problem.system.now c.args.problem.bad.now (frames_of c.looks.frames) c.looks.owed (look_is c.args.problem.system.now c.args.problem.bad.now (frames_of c.looks.frames) c.looks.owed c.as_slice.result.now c.in_ok-look_once.field-0 Nothing c.as_slice.ensures c.in-Nothing.is c.in_ok-look_once.ensures.look)
 
 pub returns-in-IsFirst-clause-cleared : goal.returns-in-IsFirst-clause-cleared
-returns-in-IsFirst-clause-cleared g c =
+returns-in-IsFirst-clause-cleared g c = inl (
     subst (IsPath c.args.problem.system.now c.args.problem.bad.now (length (frames_of c.looks.frames) - 1)) (sym c.reversed.ensures)
-    (look_first c.args.problem.system.now c.args.problem.bad.now (frames_of c.looks.frames) c.looks.owed c.looks.invariant.owed (look_is c.args.problem.system.now c.args.problem.bad.now (frames_of c.looks.frames) c.looks.owed c.as_slice.result.now c.in_ok-look_once.field-0 IsFirst c.as_slice.ensures c.in-IsFirst.is c.in_ok-look_once.ensures.look))
+    (look_first c.args.problem.system.now c.args.problem.bad.now (frames_of c.looks.frames) c.looks.owed c.looks.invariant.owed (look_is c.args.problem.system.now c.args.problem.bad.now (frames_of c.looks.frames) c.looks.owed c.as_slice.result.now c.in_ok-look_once.field-0 IsFirst c.as_slice.ensures c.in-IsFirst.is c.in_ok-look_once.ensures.look)))
 
 pub looks-smaller-in-Continue-branch-4 : goal.looks-smaller-in-Continue-branch-4
 looks-smaller-in-Continue-branch-4 g c =
@@ -89,31 +92,43 @@ looks-preserved g c =
 pub look_once-requires-clause-agreed : goal.look_once-requires-clause-agreed
 look_once-requires-clause-agreed g c = subst (AreAgreed c.args.problem.system.now) (sym c.looks.invariant.same) c.requires.agreed
 
-pub raise_all-requires-clause-framed : goal.raise_all-requires-clause-framed
-raise_all-requires-clause-framed g c =
+pub raise-requires-clause-framed : goal.raise-requires-clause-framed
+raise-requires-clause-framed g c =
     let level : c.level_of-level.result ≡ c.looks.frames.last + 1 - length c.looks.owed = grind (arith, common_steps) in
     (newest_blocked c.args.problem.system.now c.args.problem.bad.now c.looks.frames c.block.new.frames c.looks.owed c.pop.new.self c.pop.ensures.0 c.level_of-level.result c.in-Blocked.clause c.looks.invariant.tightened.framed c.looks.invariant.owed (look_is c.args.problem.system.now c.args.problem.bad.now (frames_of c.looks.frames) c.looks.owed c.as_slice.result.now c.in_ok-look_once.field-0 (Blocked c.in-Blocked.clause) c.as_slice.ensures c.in-Blocked.is c.in_ok-look_once.ensures.look) c.pop.ensures.1 level c.block.ensures.last c.in_ok-block-in-Blocked.ensures.ok).tightened.framed
 
-pub looks-smaller-in-Continue-branch-7 : goal.looks-smaller-in-Continue-branch-7
-looks-smaller-in-Continue-branch-7 g c =
+pub looks-smaller-in_default : goal.looks-smaller-in_default
+looks-smaller-in_default g c =
     let level : c.level_of-level.result ≡ c.looks.frames.last + 1 - length c.looks.owed = grind (arith, common_steps) in
-    work_raised c.args.problem.system.now (frames_of c.block.new.frames) (frames_of c.raise_all.new.frames) c.pop.new.self (work_left c.args.problem.system.now.state_bits (frames_of c.looks.frames) c.looks.owed)
-    (same_length c.block.new.frames c.raise_all.new.frames c.raise_all.ensures.tightened.last) c.raise_all.ensures.tightened.stronger (newest_blocked c.args.problem.system.now c.args.problem.bad.now c.looks.frames c.block.new.frames c.looks.owed c.pop.new.self c.pop.ensures.0 c.level_of-level.result c.in-Blocked.clause c.looks.invariant.tightened.framed c.looks.invariant.owed (look_is c.args.problem.system.now c.args.problem.bad.now (frames_of c.looks.frames) c.looks.owed c.as_slice.result.now c.in_ok-look_once.field-0 (Blocked c.in-Blocked.clause) c.as_slice.ensures c.in-Blocked.is c.in_ok-look_once.ensures.look) c.pop.ensures.1 level c.block.ensures.last c.in_ok-block-in-Blocked.ensures.ok).falls
+    work_raised c.args.problem.system.now (frames_of c.block.new.frames) (frames_of c.raise.new.frames) c.pop.new.self (work_left c.args.problem.system.now.state_bits (frames_of c.looks.frames) c.looks.owed)
+    (same_length c.block.new.frames c.raise.new.frames c.raise.ensures.tightened.last) c.raise.ensures.tightened.stronger (newest_blocked c.args.problem.system.now c.args.problem.bad.now c.looks.frames c.block.new.frames c.looks.owed c.pop.new.self c.pop.ensures.0 c.level_of-level.result c.in-Blocked.clause c.looks.invariant.tightened.framed c.looks.invariant.owed (look_is c.args.problem.system.now c.args.problem.bad.now (frames_of c.looks.frames) c.looks.owed c.as_slice.result.now c.in_ok-look_once.field-0 (Blocked c.in-Blocked.clause) c.as_slice.ensures c.in-Blocked.is c.in_ok-look_once.ensures.look) c.pop.ensures.1 level c.block.ensures.last c.in_ok-block-in-Blocked.ensures.ok).falls
 
-pub looks-preserved-in-Continue-branch-7 : goal.looks-preserved-in-Continue-branch-7
-looks-preserved-in-Continue-branch-7 g c =
+pub looks-preserved-in_default : goal.looks-preserved-in_default
+looks-preserved-in_default g c =
     let level : c.level_of-level.result ≡ c.looks.frames.last + 1 - length c.looks.owed = grind (arith, common_steps) in
     let blocked = newest_blocked c.args.problem.system.now c.args.problem.bad.now c.looks.frames c.block.new.frames c.looks.owed c.pop.new.self c.pop.ensures.0 c.level_of-level.result c.in-Blocked.clause c.looks.invariant.tightened.framed c.looks.invariant.owed (look_is c.args.problem.system.now c.args.problem.bad.now (frames_of c.looks.frames) c.looks.owed c.as_slice.result.now c.in_ok-look_once.field-0 (Blocked c.in-Blocked.clause) c.as_slice.ensures c.in-Blocked.is c.in_ok-look_once.ensures.look) c.pop.ensures.1 level c.block.ensures.last c.in_ok-block-in-Blocked.ensures.ok in
     let none : length c.pop.new.self ≡ 0 = grind (arith, c.is_empty.ensures, c.if-is_empty.true) in
     record {
-      tightened = tightened_twice c.args.problem.system.now c.args.frames.now c.block.new.frames c.raise_all.new.frames (tightened_twice c.args.problem.system.now c.args.frames.now c.looks.frames c.block.new.frames c.looks.invariant.tightened blocked.tightened) c.raise_all.ensures.tightened;
-      owed = owed_none c.args.problem.system.now c.args.problem.bad.now (frames_of c.raise_all.new.frames) c.pop.new.self none;
-      same = c.raise_all.ensures.same ∙ c.note_blocked.ensures ∙ c.look_once.ensures.same ∙ c.looks.invariant.same;
-      kept = c.in_ok-raise_all-in-Blocked.ensures.kept;
+      tightened = tightened_twice c.args.problem.system.now c.args.frames.now c.block.new.frames c.raise.new.frames (tightened_twice c.args.problem.system.now c.args.frames.now c.looks.frames c.block.new.frames c.looks.invariant.tightened blocked.tightened) c.raise.ensures.tightened;
+      owed = owed_none c.args.problem.system.now c.args.problem.bad.now (frames_of c.raise.new.frames) c.pop.new.self none;
+      same = c.raise.ensures.same ∙ c.note_blocked.ensures ∙ c.look_once.ensures.same ∙ c.looks.invariant.same;
+      kept = c.in_ok-path-in-Blocked.ensures.kept;
     }
 
-pub returns-in_err-raise_all-in-Blocked-clause-tightened : goal.returns-in_err-raise_all-in-Blocked-clause-tightened
-returns-in_err-raise_all-in-Blocked-clause-tightened g c =
+pub returns-in_err-path-in-Blocked-clause-tightened : goal.returns-in_err-path-in-Blocked-clause-tightened
+returns-in_err-path-in-Blocked-clause-tightened g c =
     let level : c.level_of-level.result ≡ c.looks.frames.last + 1 - length c.looks.owed = grind (arith, common_steps) in
     let blocked = newest_blocked c.args.problem.system.now c.args.problem.bad.now c.looks.frames c.block.new.frames c.looks.owed c.pop.new.self c.pop.ensures.0 c.level_of-level.result c.in-Blocked.clause c.looks.invariant.tightened.framed c.looks.invariant.owed (look_is c.args.problem.system.now c.args.problem.bad.now (frames_of c.looks.frames) c.looks.owed c.as_slice.result.now c.in_ok-look_once.field-0 (Blocked c.in-Blocked.clause) c.as_slice.ensures c.in-Blocked.is c.in_ok-look_once.ensures.look) c.pop.ensures.1 level c.block.ensures.last c.in_ok-block-in-Blocked.ensures.ok in
-    tightened_twice c.args.problem.system.now c.args.frames.now c.block.new.frames c.raise_all.new.frames (tightened_twice c.args.problem.system.now c.args.frames.now c.looks.frames c.block.new.frames c.looks.invariant.tightened blocked.tightened) c.raise_all.ensures.tightened
+    tightened_twice c.args.problem.system.now c.args.frames.now c.block.new.frames c.raise.new.frames (tightened_twice c.args.problem.system.now c.args.frames.now c.looks.frames c.block.new.frames c.looks.invariant.tightened blocked.tightened) c.raise.ensures.tightened
+
+pub returns-in-Some-clause-tightened : goal.returns-in-Some-clause-tightened
+returns-in-Some-clause-tightened g c =
+    let level : c.level_of-level.result ≡ c.looks.frames.last + 1 - length c.looks.owed = grind (arith, common_steps) in
+    let blocked = newest_blocked c.args.problem.system.now c.args.problem.bad.now c.looks.frames c.block.new.frames c.looks.owed c.pop.new.self c.pop.ensures.0 c.level_of-level.result c.in-Blocked.clause c.looks.invariant.tightened.framed c.looks.invariant.owed (look_is c.args.problem.system.now c.args.problem.bad.now (frames_of c.looks.frames) c.looks.owed c.as_slice.result.now c.in_ok-look_once.field-0 (Blocked c.in-Blocked.clause) c.as_slice.ensures c.in-Blocked.is c.in_ok-look_once.ensures.look) c.pop.ensures.1 level c.block.ensures.last c.in_ok-block-in-Blocked.ensures.ok in
+    tightened_twice c.args.problem.system.now c.args.frames.now c.block.new.frames c.raise.new.frames (tightened_twice c.args.problem.system.now c.args.frames.now c.looks.frames c.block.new.frames c.looks.invariant.tightened blocked.tightened) c.raise.ensures.tightened
+
+some_path : (system : System) (bad : List (List Literal)) (most : ℕ) (r : Option (List Assignment)) (path : List Assignment) → r ≡ Some path → IfSome r (IsPath system bad most) → IsPath system bad most path
+some_path system bad most r path e h = subst (λ o. IfSome o (IsPath system bad most)) e h
+
+pub returns-in-Some-clause-cleared : goal.returns-in-Some-clause-cleared
+returns-in-Some-clause-cleared g c = inr (some_path c.args.problem.system.now c.args.problem.bad.now c.args.most c.in_ok-path-in-Blocked.field-0 c.in-Some.path c.in-Some.is c.in_ok-path-in-Blocked.ensures.path)

@@ -9,8 +9,8 @@ use Rattle.cut_search.proofs.search.clear_all.Given as goal
 abbrev pub invariant-looks : goal.invariant-looks
 invariant-looks g l = record {
   system : l.frames.system ≡ l.initial.frames.system;
-  looking : AreLooking (g.E.Encoded.problem l.model) l.size l.initial.list.items l.list.items l.initial.frames.frames l.frames.frames;
-  bad : IsBadFor (g.E.Encoded.problem l.model) l.size (sets_of l.list.items) l.frames.bad;
+  looking : AreLooking (g.E.Encoded.problem l.model) l.bounds.size l.initial.list.items l.list.items l.initial.frames.frames l.frames.frames;
+  bad : IsBadFor (g.E.Encoded.problem l.model) l.bounds.size (sets_of l.list.items) l.frames.bad;
 }
 
 abbrev pub decreases-looks : goal.decreases-looks

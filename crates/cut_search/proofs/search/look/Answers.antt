@@ -16,18 +16,18 @@ clear-requires g c = record {
 
 pub show-requires-clause-lawful : goal.show-requires-clause-lawful
 show-requires-clause-lawful g c =
-    lawful_path (g.E.Encoded.problem c.args.model.now) c.args.size (sets_of c.args.found.items) c.args.frames.now.system c.args.frames.now.bad c.clear.new.self.frames c.in_ok-clear.field-0 c.in-Path.path
+    lawful_path (g.E.Encoded.problem c.args.model.now) c.args.bounds.size (sets_of c.args.found.items) c.args.frames.now.system c.args.frames.now.bad c.clear.new.self.frames c.args.bounds.depth c.in_ok-clear.field-0 c.in-Path.path
     c.is_searched.ensures c.requires.bad c.requires.system c.in-Path.is c.in_ok-clear.ensures.cleared
 
 pub set_clause-requires : goal.set_clause-requires
 set_clause-requires g c =
     subst (IsNumbered (length (g.E.Encoded.problem c.args.model.now).modes)) (sym c.set.ensures)
-    (found_path (g.E.Encoded.problem c.args.model.now) c.args.size c.args.found.items c.args.frames.now.system c.args.frames.now.bad c.clear.new.self.frames c.in_ok-clear.field-0 c.in-Path.path c.in_ok-new-in-Path.new
+    (found_path (g.E.Encoded.problem c.args.model.now) c.args.bounds.size c.args.found.items c.args.frames.now.system c.args.frames.now.bad c.clear.new.self.frames c.args.bounds.depth c.in_ok-clear.field-0 c.in-Path.path c.in_ok-new-in-Path.new
     c.is_searched.ensures c.requires.listed c.requires.bad c.requires.system c.in-Path.is c.in_ok-clear.ensures.cleared c.in_ok-new-in-Path.ensures).0.numbered
 
 pub returns-in_ok-list_found-in-Path-clause-looked : goal.returns-in_ok-list_found-in-Path-clause-looked
 returns-in_ok-list_found-in-Path-clause-looked g c =
-    looks_along (g.E.Encoded.problem c.args.model.now) c.args.size c.args.found.items c.list_found.new.found.items c.args.frames.now.system c.args.frames.now.bad c.clear.new.self.frames c.in_ok-clear.field-0 c.in-Path.path
+    looks_along (g.E.Encoded.problem c.args.model.now) c.args.bounds.size c.args.found.items c.list_found.new.found.items c.args.frames.now.system c.args.frames.now.bad c.clear.new.self.frames c.args.bounds.depth c.in_ok-clear.field-0 c.in-Path.path
     c.in_ok-new-in-Path.new c.in_ok-clause-in-Path.clause c.add_bad.new.self
     c.is_searched.ensures c.requires.listed c.requires.bad c.requires.system c.in-Path.is c.in_ok-clear.ensures.cleared c.in_ok-new-in-Path.ensures
     (subst (λ set. IsClauseOf (g.E.Encoded.problem c.args.model.now) set c.in_ok-clause-in-Path.clause) c.set.ensures c.in_ok-clause-in-Path.ensures)

@@ -7,9 +7,9 @@ use Rattle.cut_search.proofs.search.search.Given as goal
 abbrev pub invariant-frontiers : goal.invariant-frontiers
 invariant-frontiers g l = record {
   system : l.frames.system ≡ (g.E.Encoded.problem l.model).system;
-  between : IsBetween (g.E.Encoded.problem l.model) l.size l.list.items l.frames;
-  within : frontier l.frames ≤ l.depth;
+  between : IsBetween (g.E.Encoded.problem l.model) l.bounds.size l.list.items l.frames;
+  within : frontier l.frames ≤ l.bounds.depth;
 }
 
 abbrev pub decreases-frontiers : goal.decreases-frontiers
-decreases-frontiers g l = l.depth - frontier l.frames
+decreases-frontiers g l = l.bounds.depth - frontier l.frames
