@@ -62,8 +62,6 @@ pub struct Raised {
     met: Option<usize>,
     /// How many came so far.
     count: u64,
-    /// The frontier at which nothing more is raised.
-    stopped: Option<usize>,
 }
 
 impl Raised {
@@ -74,7 +72,6 @@ impl Raised {
             noted: Vec::new(alloc),
             met: None,
             count: 0,
-            stopped: None,
         }
     }
 
@@ -167,9 +164,9 @@ impl Raised {
         self.put(level.saturating_add(1), state, place, last)
     }
 
-    /// Has a state wait, unless that is for a frame above the last, or nothing more is raised at this frontier.
+    /// Has a state wait, unless that is for a frame above the last.
     pub fn put_back(&mut self, waiting: Waiting, last: usize) -> Result<(), OutOfMemory> {
-        if waiting.level <= last && self.stopped != Some(last) {
+        if waiting.level <= last {
             self.waiting.push(waiting)?;
         }
         Ok(())
@@ -221,12 +218,6 @@ impl Raised {
             return Some(self.waiting.swap_remove(place));
         }
         None
-    }
-
-    /// Drops all states; while the frontier is this one, none is put again.
-    pub fn stop(&mut self, last: usize) {
-        self.waiting.clear();
-        self.stopped = Some(last);
     }
 
     /// Drops the states that wait.
