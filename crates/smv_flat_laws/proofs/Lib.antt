@@ -35,3 +35,5 @@ pub mod OneOfTwo
 pub mod VariableCounts
 pub mod BothLaws
 pub mod Found
+pub mod AlikeMeant
+pub mod AlikeBreak

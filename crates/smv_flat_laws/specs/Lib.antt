@@ -9,3 +9,4 @@ pub mod FlatTrace
 pub mod ValueRules
 pub mod ResolvedAt
 pub mod FaultModes
+pub mod Alike

@@ -6,8 +6,8 @@
 //! to a formal. `Rules` has the fourteen rules, their sites in the order in which they are tried, and the
 //! first broken one. `Model` says which flat model is a program's. `History` adds a bit for each fault to a
 //! model, `FaultModes` has the mode of a fault of the code, and
-//! `FlatTrace` says what the bits tell of its traces. `Laws` has the theorems as statements, which
-//! the contracts below carry; the layer above builds models and cites them.
+//! `FlatTrace` says what the bits tell of its traces. `Alike` has instances of one module that break the same rules.
+//! `Laws` has the theorems as statements, which the contracts below carry; the layer above builds models and cites them.
 //!
 //! ```text
 //! // MODULE main VAR a : M; .. MODULE M VAR x : boolean;
@@ -15,6 +15,7 @@
 //! ```
 #![tactic(auto)]
 
+ghost use Rattle.smv_flat_laws.specs.Alike.{AlikeBreakAlike};
 ghost use Rattle.smv_flat_laws.specs.FlatTrace.{HistoryIsExact};
 ghost use Rattle.smv_flat_laws.specs.Laws.{FlatteningIsExact, VariablesAreThose, ListsAreValuations, OneFault, AcceptedHasNoFault};
 ghost use Rattle.smv_flat_laws.specs.Laws.{OneModel};
@@ -37,6 +38,12 @@ pub fn one_model()
 pub fn one_fault()
     ensures one { OneFault }
     ensures none { AcceptedHasNoFault }
+{}
+
+/// Two instances of a module without formals break the same rules, and so do the instances that lie inside them at
+/// one place each: where the one has been judged, the other need not be.
+pub fn alike_break_alike()
+    ensures { AlikeBreakAlike }
 {}
 
 /// The traces of a model with history bits are those of the model, each with one value of every bit: TRUE
