@@ -4,11 +4,11 @@ use Rattle.std.specs.Prelude.{codes, map, flat_map, slice_get}
 use Rattle.std.proofs.lemmas.List.{length-map}
 use Rattle.std.proofs.lemmas.List.Sums.{sum_by-cons, sum_by-append}
 use Rattle.base_values.specs.declared.limits.TheConstants.{MOST_BITS, MOST_COST}
-use Rattle.smv_language.specs.Language.{Tree, Text, DeclaredTree, boolean, ProgramTree, Place, Role, state, input, frozen_role, undeclared, formal_from, kind_in_decls, kind_in_sections, kind_in, FlatLeaf, FlatInstance, FlatVariable, FlatFormula, FlatModel, EachBoth}
-use Rattle.smv_flat_laws.specs.NameResolution.{Resolver, Definition}
+use Rattle.smv_language.specs.Language.{Text, DeclaredTree, boolean, ProgramTree, Role, state, input, frozen_role, undeclared, formal_from, kind_in_decls, kind_in_sections, kind_in, FlatInstance, FlatVariable, FlatFormula, FlatModel, EachBoth}
+use Rattle.smv_flat_laws.specs.NameResolution.{Definition}
 use Rattle.smv_flat_laws.specs.History.{Mode, bit_variable, bit_variables, bit_at_first, bits_at_first, bit_at_step, bits_at_step, with_history}
 use Rattle.smv_flat_laws.specs.Items.{Item, items_named, Visit, variable_declared, variables_of}
-use Rattle.smv_flat_laws.specs.Model.{Condition, plain, now_among, next_among, kept, Written, written_at, conditions, first_conditions, each_conditions, step_conditions, kept_conditions, IsConditionTree, IsFormulaOf, IsVariableOf, first_appearances, symbols_of_item, symbols_of, IsDefinitionOf, IsFlatOf}
+use Rattle.smv_flat_laws.specs.Model.{Condition, Written, written_at, conditions, first_conditions, each_conditions, step_conditions, kept_conditions, IsVariableOf, first_appearances, symbols_of_item, symbols_of, IsDefinitionOf, IsFlatOf}
 use Rattle.smv_flat_laws.proofs.Conditions.{each_from}
 use Rattle.smv_flat_laws.proofs.Variables.{both_at_second}
 use Rattle.smv_type_laws.specs.Costs.{cost_of, declared_cost, formulas_cost, model_cost, digits_in, role_width, declared_width, state_bits}
@@ -24,39 +24,10 @@ use Rattle.fault_generator_laws.proofs.Expressions.{IsLogicKind, variables_logic
 use Rattle.fault_generator_laws.proofs.Roots.{stage_instances, few_keys}
 use Rattle.fault_generator_laws.proofs.Typed.{main_asks_none}
 use Rattle.fault_generator_laws.proofs.Woven.{woven_sections, woven_of, out_inside, own_inside, mode_inside, woven_visits, woven_visits_are, woven_instances_are}
+use Rattle.smv_type_laws.specs.Counted.{written_cost}
 use Rattle.smv_type_laws.proofs.ResolvedCosts.{resolved_cost}
+use Rattle.smv_type_laws.proofs.Counted.{all_cost, variables_sum}
 use Rattle.smv_flat_laws.proofs.BothLaws.{both_long}
-
-abbrev condition_cost : Condition → ℕ
-condition_cost (plain e) = cost_of e
-condition_cost (now_among x e) = 1 + cost_of e + 1
-condition_cost (next_among x e) = 2 + cost_of e + 1
-condition_cost (kept x) = 4
-
-abbrev written_cost : Written → ℕ
-written_cost w = condition_cost w.condition
-
-one_cost : (m : FlatModel) (r : Resolver) (at : Place) (c : Condition) (flat : Tree FlatLeaf) → IsConditionTree m r at c flat → cost_of flat ≡ condition_cost c
-one_cost m r at (plain e) flat t = resolved_cost (r at) e flat t
-one_cost m r at (now_among x e) flat t = omega (arith, ap cost_of t.is, resolved_cost (r at) e t.value t.resolved)
-one_cost m r at (next_among x e) flat t = omega (arith, ap cost_of t.is, resolved_cost (r at) e t.value t.resolved)
-one_cost m r at (kept x) flat t = omega (arith, ap cost_of t.is)
-
-all_cost : (m : FlatModel) (r : Resolver) (ws : List Written) (fs : List FlatFormula) → EachBoth (IsFormulaOf m r) ws fs → formulas_cost fs ≡ sum_by written_cost ws
-all_cost m r [] [] h = refl
-all_cost m r [] (f ∷ fs) h = absurd h
-all_cost m r (w ∷ ws) [] h = absurd h
-all_cost m r (w ∷ ws) (f ∷ fs) h =
-    omega (arith, sum_by-cons (λ (f : FlatFormula). cost_of f.value) f fs, sum_by-cons written_cost w ws, one_cost m r w.place w.condition f.value h.0.tree, all_cost m r ws fs h.1)
-
--- and variables
-variables_sum : (m : FlatModel) (g : DeclaredTree → ℕ) (vs : List Visit) (xs : List FlatVariable) → EachBoth (IsVariableOf m) vs xs →
-    sum_by (λ (x : FlatVariable). g x.declared) xs ≡ sum_by (λ (v : Visit). g v.decl.what) vs
-variables_sum m g [] [] h = refl
-variables_sum m g [] (x ∷ xs) h = absurd h
-variables_sum m g (v ∷ vs) [] h = absurd h
-variables_sum m g (v ∷ vs) (x ∷ xs) h =
-    omega (arith, sum_by-cons (λ (x : FlatVariable). g x.declared) x xs, sum_by-cons (λ (v : Visit). g v.decl.what) v vs, ap g h.0.declared, variables_sum m g vs xs h.1)
 
 role_most : (r : Role) (n : ℕ) → role_width r n ≤ n
 role_most state n = omega arith

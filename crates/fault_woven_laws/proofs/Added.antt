@@ -24,9 +24,9 @@ use Rattle.fault_extend_laws.specs.Expressions.{AllUsesKept}
 use Rattle.fault_woven_laws.proofs.Rightly.{Rightly, condition_right, same_right}
 use Rattle.fault_woven_laws.proofs.Effects.{SliceKinds, RuleRight, rules_right, start_right}
 use Rattle.fault_woven_laws.proofs.Moves.{ModesJudged, start_state_right, moves_right, read_right}
-use Rattle.fault_woven_laws.proofs.Leaves.{kind_given, HasLeaf, resolved_judged, has_leaves, variable_kind}
+use Rattle.smv_type_laws.proofs.Leaves.{kind_given, HasLeaf, resolved_judged, has_leaves, variable_kind}
 use Rattle.fault_woven_laws.proofs.Items.{KeepsAt}
-use Rattle.fault_woven_laws.proofs.Definitions.{variable_there}
+use Rattle.smv_type_laws.proofs.StandFor.{variable_there}
 use Rattle.fault_woven_laws.proofs.Kept.{EachAsked}
 use Rattle.fault_woven_laws.proofs.Uses.{slice_kinds, modes_judged}
 

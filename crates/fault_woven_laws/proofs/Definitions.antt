@@ -1,5 +1,5 @@
 -- What names and definitions of a program are judged as in its flat model and in that of the woven program.
-use Rattle.std.proofs.Common.{◌≡◌, ℕ, zero, suc, ◌<◌, ◌≤◌, arith, Bool, false, List, [], ◌∷◌, Option, Some, None, refl, sym, ap, ◌∙◌, subst}
+use Rattle.std.proofs.Common.{◌≡◌, ℕ, zero, suc, ◌<◌, ◌≤◌, arith, Bool, false, [], ◌∷◌, Option, Some, None, refl, sym, ap, ◌∙◌, subst}
 use Rattle.std.specs.Prelude.{slice_get}
 use Rattle.smv_language.specs.Language.{Tree, AllLeaves, Text, Path, Formula, DeclaredTree, ModuleTree, ProgramTree, IsType, Place, Role, Key, define_key, actual_key, Kind as NameKind, a_formal, a_variable, an_instance, undeclared, kind_in, kind_at as name_kind_at, kind_in_sections, module_at, actual_of_kind, Meaning, a_variable_at, an_expression_at, an_instance_at, Means, Each, IsInstance, IsVariable, FlatLeaf, flat_variable, flat_symbol, flat_definition, FlatFormula, FlatModel}
 use Rattle.smv_language.specs.Scope.{a_define, a_symbol}
@@ -12,52 +12,15 @@ use Rattle.fault_weave.proofs.Meanings.{Kept, kind_kept, module_woven, same_mean
 use Rattle.fault_weave.proofs.LeafValues.{kind_at_woven, read_variable}
 use Rattle.smv_flat_laws.specs.NameResolution.{leaves_in, Definition, StandsFor, IsLeafOf, Resolver, IsSound, IsResolved, IsBefore}
 use Rattle.smv_flat_laws.specs.Rules.{expression_of_kind, expression_in, expression_of, IsWalkable}
-use Rattle.smv_flat_laws.specs.Model.{IsVariableNumber, IsDefinitionOf, IsFlatOf}
+use Rattle.smv_flat_laws.specs.Model.{IsDefinitionOf, IsFlatOf}
 use Rattle.smv_flat_laws.proofs.Lists.{each_more}
 use Rattle.smv_flat_laws.proofs.Resolving.{same_meaning as one_meaning}
 use Rattle.smv_flat_laws.proofs.Variables.{both_at}
 use Rattle.smv_type_laws.specs.ExpressionKinds.{judge}
 use Rattle.smv_type_laws.specs.Models.{kind_at, judged_definitions, kind_of_leaf, judged_in}
 use Rattle.smv_type_laws.proofs.ModelLaws.{judge_agrees, all_leaves_more}
-use Rattle.fault_woven_laws.proofs.Leaves.{kind_given, HasLeaf, HasKnown, resolved_judged, known_leaves, has_leaves, declared_so, variable_kind, definition_judged, all_both}
-
-both_known : (o : Option (Place × Formula)) (at bt : Place) (e f : Formula) → o ≡ Some (at, e) → o ≡ Some (bt, f) → (at ≡ bt) × (e ≡ f)
-both_known None at bt e f h g = cc
-both_known (Some x) at bt e f h g =
-    let first : x ≡ (at, e) = cc in
-    let second : x ≡ (bt, f) = cc in
-    (sym (ap (λ (y : Place × Formula). y.0) first) ∙ ap (λ (y : Place × Formula). y.0) second, sym (ap (λ (y : Place × Formula). y.1) first) ∙ ap (λ (y : Place × Formula). y.1) second)
-
-kind_there : (q : ProgramTree) (at : Place) (x : Text) (role : Role) (type : DeclaredTree) (o : Option ModuleTree) → module_at q at ≡ o → name_kind_at (module_at q at) x ≡ a_variable role type → IsVariable q at x role type
-kind_there q at x role type None e k = let bad : undeclared ≡ a_variable role type = ap (λ o. name_kind_at o x) (sym e) ∙ k in cc
-kind_there q at x role type (Some n) e k = (n, e, ap (λ o. name_kind_at o x) (sym e) ∙ k)
-
--- what the name of an instance is
-pub variable_there : (q : ProgramTree) (at : Place) (x : Text) (role : Role) (type : DeclaredTree) → name_kind_at (module_at q at) x ≡ a_variable role type → IsVariable q at x role type
-variable_there q at x role type k = kind_there q at x role type (module_at q at) refl k
-
--- What stands for a meaning.
-module _ (m : FlatModel) (ds : List Definition) where
-  pub for_variable : (l : FlatLeaf) (at : Place) (x : Text) → StandsFor m ds l (a_variable_at at x) → (j : ℕ) × (l ≡ flat_variable j) × IsVariableNumber m at x j
-  for_variable (flat_variable j) at x h = (j, refl, record { variable = h.0; is = h.1; same_place = h.2; same_name = h.3 })
-  for_variable (flat_symbol j) at x h = absurd h
-  for_variable (flat_definition j) at x h = absurd h
-
-  pub for_symbol : (l : FlatLeaf) (x : Text) → StandsFor m ds l (a_symbol x) → (j : ℕ) × (l ≡ flat_symbol j)
-  for_symbol (flat_variable j) x h = absurd h
-  for_symbol (flat_symbol j) x h = (j, refl)
-  for_symbol (flat_definition j) x h = absurd h
-
-  for_expression : (l : FlatLeaf) (key : Key) (at : Place) (e : Formula) → StandsFor m ds l (an_expression_at key at e) →
-      (j : ℕ) × (l ≡ flat_definition j) × (slice_get ds j ≡ Some (record { key = key; place = at; written = e }))
-  for_expression (flat_variable j) key at e h = absurd h
-  for_expression (flat_symbol j) key at e h = absurd h
-  for_expression (flat_definition j) key at e h = (j, refl, h)
-
-  for_instance : (l : FlatLeaf) (at : Place) → StandsFor m ds l (an_instance_at at) → ⊥
-  for_instance (flat_variable j) at h = h
-  for_instance (flat_symbol j) at h = h
-  for_instance (flat_definition j) at h = h
+use Rattle.smv_type_laws.proofs.StandFor.{both_known, variable_there, for_variable, for_symbol, for_expression, for_instance}
+use Rattle.smv_type_laws.proofs.Leaves.{kind_given, HasLeaf, HasKnown, resolved_judged, known_leaves, has_leaves, declared_so, variable_kind, definition_judged, all_both}
 
 module _ (p : ProgramTree) (i : InstructionTree) (ok : IsWeavable p i) where
   -- the variable of a slice has a type of values

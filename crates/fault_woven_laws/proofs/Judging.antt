@@ -15,7 +15,7 @@ use Rattle.smv_type_laws.proofs.ClosedLaws.{own_by, models_closed}
 use Rattle.smv_type_laws.proofs.ModelLaws.{judge_agrees, all_leaves_more}
 use Rattle.fault_woven_laws.proofs.Definitions.{written_agrees}
 use Rattle.fault_woven_laws.proofs.History.{own_kind}
-use Rattle.fault_woven_laws.proofs.Leaves.{resolved_judged, has_leaves}
+use Rattle.smv_type_laws.proofs.Leaves.{resolved_judged, has_leaves}
 use Rattle.fault_woven_laws.specs.Tops.{HaveFlatModels, IsReadAs, IsJudgedAlike}
 use Rattle.fault_woven_laws.specs.WovenTopsLaws.{WovenJudgesAlike, HistoryJudgesAlike, WovenRefusesNone}
 use Rattle.smv_type_laws.proofs.ResolvedCosts.{resolved_cost}

@@ -18,8 +18,9 @@ use Rattle.smv_flat_laws.specs.Model.{Condition, plain, now_among, next_among, a
 use Rattle.smv_type_laws.specs.ExpressionKinds.{Kind, Judged, judged_same}
 use Rattle.smv_type_laws.specs.DeclaredKinds.{judged_declared}
 use Rattle.smv_type_laws.specs.Models.{kind_of_leaf, judged_in, broken_condition}
-use Rattle.fault_woven_laws.proofs.Leaves.{kind_given, HasLeaf, resolved_judged, has_leaves, declared_so, variable_kind}
-use Rattle.fault_woven_laws.proofs.Definitions.{variable_there, variable_woven, same_kind, written_agrees}
+use Rattle.smv_type_laws.proofs.Leaves.{kind_given, HasLeaf, resolved_judged, has_leaves, declared_so, variable_kind}
+use Rattle.fault_woven_laws.proofs.Definitions.{variable_woven, same_kind, written_agrees}
+use Rattle.smv_type_laws.proofs.StandFor.{variable_there}
 use Rattle.fault_woven_laws.proofs.Items.{IsKeptAt, KeepsAt}
 use Rattle.fault_woven_laws.proofs.Renamed.{name_variable, KeepsKinds, judge_both}
 use Rattle.smv_type_laws.proofs.TraceLaws.{one_type}

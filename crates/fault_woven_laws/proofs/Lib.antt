@@ -3,7 +3,6 @@ pub mod Numbers
 pub mod Domains
 pub mod Effects
 pub mod Moves
-pub mod Leaves
 pub mod Definitions
 pub mod Items
 pub mod Renamed

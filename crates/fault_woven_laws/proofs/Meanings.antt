@@ -9,7 +9,7 @@ use Rattle.smv_type_laws.specs.Laws.{values_by_number}
 use Rattle.smv_type_laws.proofs.AnyResolver.{may_by}
 use Rattle.smv_type_laws.proofs.ModelLaws.{all_leaves_more}
 use Rattle.smv_type_laws.proofs.WrittenLaws.{numbers}
-use Rattle.fault_woven_laws.proofs.Leaves.{HasLeaf, has_leaves}
+use Rattle.smv_type_laws.proofs.Leaves.{HasLeaf, has_leaves}
 use Rattle.fault_woven_laws.specs.WovenTopsLaws.{ResolvedIsReadable, WovenMeansTheSame, TopsAreOfExtensions}
 
 pub resolved_readable : ResolvedIsReadable

@@ -11,8 +11,8 @@ use Rattle.smv_flat_laws.specs.Model.{IsFlatOf}
 use Rattle.smv_type_laws.specs.ExpressionKinds.{Kind, symbol_class, is_word_true, ends_in_true, judge, judge_trees, judge_conditions, judge_values}
 use Rattle.smv_type_laws.specs.DeclaredKinds.{judged_declared}
 use Rattle.smv_type_laws.specs.Models.{kind_of_leaf}
-use Rattle.fault_woven_laws.proofs.Leaves.{kind_given, HasLeaf, variable_kind}
-use Rattle.fault_woven_laws.proofs.Definitions.{variable_there, for_variable, for_symbol}
+use Rattle.smv_type_laws.proofs.Leaves.{kind_given, HasLeaf, variable_kind}
+use Rattle.smv_type_laws.proofs.StandFor.{variable_there, for_variable, for_symbol}
 
 -- What a single name means.
 means_variable : (n : ℕ) (q : ProgramTree) (at : Place) (x : Text) (role : Role) (type : DeclaredTree) (meaning : Meaning) → name_kind_at (module_at q at) x ≡ a_variable role type →

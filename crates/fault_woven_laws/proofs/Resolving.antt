@@ -21,7 +21,7 @@ use Rattle.smv_flat_laws.proofs.Reaches.{each_left}
 use Rattle.smv_flat_laws.proofs.Variables.{both_at, variables_are}
 use Rattle.smv_type_laws.proofs.ModelLaws.{all_leaves_more}
 use Rattle.fault_woven_laws.proofs.Definitions.{expression_same, means_woven, variable_woven}
-use Rattle.fault_woven_laws.proofs.Leaves.{HasLeaf, has_leaves, declared_so}
+use Rattle.smv_type_laws.proofs.Leaves.{HasLeaf, has_leaves, declared_so}
 use Rattle.fault_woven_laws.proofs.WovenModel.{ItemHas, roots_down, roots_up}
 use Rattle.fault_woven_laws.specs.Tops.{HaveFlatModels}
 use Rattle.fault_woven_laws.specs.WovenTopsLaws.{WovenResolves}

@@ -37,8 +37,9 @@ use Rattle.fault_woven_laws.proofs.Rightly.{Rightly}
 use Rattle.fault_woven_laws.proofs.Domains.{MemberKnown}
 use Rattle.fault_woven_laws.proofs.Effects.{SliceKinds, ModeKinds, of_followed}
 use Rattle.fault_woven_laws.proofs.Moves.{ModesJudged}
-use Rattle.fault_woven_laws.proofs.Leaves.{kind_given, HasLeaf, declared_so}
-use Rattle.fault_woven_laws.proofs.Definitions.{variable_there, written_agrees}
+use Rattle.smv_type_laws.proofs.Leaves.{kind_given, HasLeaf, declared_so}
+use Rattle.fault_woven_laws.proofs.Definitions.{written_agrees}
+use Rattle.smv_type_laws.proofs.StandFor.{variable_there}
 use Rattle.fault_woven_laws.proofs.Items.{one_module, parts_of}
 use Rattle.fault_woven_laws.proofs.Renamed.{name_variable, name_symbol}
 use Rattle.fault_woven_laws.proofs.Kept.{own_kind_at, target_kind_at}

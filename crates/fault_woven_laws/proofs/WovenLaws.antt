@@ -16,8 +16,8 @@ use Rattle.smv_type_laws.specs.Models.{Breach, breaches, IsFault, at_an_item, of
 use Rattle.smv_type_laws.proofs.ClosedLaws.{models_closed}
 use Rattle.fault_woven_laws.specs.Modes.{HasSymbols, IsSliceMode}
 use Rattle.fault_woven_laws.specs.Laws.{AreWoven, WovenBreaksNone, ModesHaveSymbols, SliceModesAreModes, HistoryBreaksNone, WovenBreaksSizeAlone}
-use Rattle.fault_woven_laws.proofs.Leaves.{declared_so}
-use Rattle.fault_woven_laws.proofs.Definitions.{variable_there}
+use Rattle.smv_type_laws.proofs.Leaves.{declared_so}
+use Rattle.smv_type_laws.proofs.StandFor.{variable_there}
 use Rattle.fault_woven_laws.proofs.WovenModel.{woven_kept}
 use Rattle.fault_woven_laws.proofs.History.{history_kept}
 use Rattle.cert_laws.proofs.Own.{type_symbol}

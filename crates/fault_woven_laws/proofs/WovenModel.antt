@@ -39,8 +39,9 @@ use Rattle.smv_type_laws.specs.Models.{judged_variables, judged_definitions, jud
 use Rattle.smv_type_laws.proofs.ModelLaws.{IsRight, after_length}
 use Rattle.fault_extend_laws.specs.Expressions.{AllUsesKept}
 use Rattle.fault_woven_laws.proofs.Rightly.{Rightly, condition_right, same_right}
-use Rattle.fault_woven_laws.proofs.Leaves.{declared_so}
-use Rattle.fault_woven_laws.proofs.Definitions.{variable_there, slice_finite, definitions_agree}
+use Rattle.smv_type_laws.proofs.Leaves.{declared_so}
+use Rattle.fault_woven_laws.proofs.Definitions.{slice_finite, definitions_agree}
+use Rattle.smv_type_laws.proofs.StandFor.{variable_there}
 use Rattle.fault_woven_laws.proofs.Items.{over_items, over_conditions, IsKeptAt, KeepsAt, conditions_there, conditions_keep, parts_of, none_broken}
 use Rattle.fault_woven_laws.proofs.Kept.{EachAsked, own_kind_at, target_kind_at, item_keeps}
 use Rattle.fault_woven_laws.proofs.Sites.{mode_type_right}

@@ -21,7 +21,7 @@
 //! the one of its size. `specs/Laws.antt` states this over a program with its flat model and instructions (`AreWoven`), and
 //! `specs/Modes.antt` says which modes a model may be given the history of. Of the proofs, `Rightly`, `Numbers`, `Domains`, `Effects`
 //! and `Moves` judge what a slice adds, over any kinds of its names: the constants and domains of types, the branches and
-//! rule sections of effects, and the cases of the next mode and of what is read. `Leaves`, `Definitions` and
+//! rule sections of effects, and the cases of the next mode and of what is read. `Definitions` and
 //! `Renamed` show that the names and definitions of the program are judged in both flat models alike, also
 //! where an occurrence is renamed to that of the own value. `Items`, `Kept`, `Sites`, `Uses` and `Added` go
 //! over the items of all instances, first those of the program and then those that are added; `WovenModel`

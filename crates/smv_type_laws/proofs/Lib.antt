@@ -21,3 +21,7 @@ pub mod Mapped
 pub mod LeastLaws
 pub mod VariableTypes
 pub mod ResolvedCosts
+pub mod Leaves
+pub mod StandFor
+pub mod AlikeKinds
+pub mod Counted

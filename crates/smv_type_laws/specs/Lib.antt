@@ -7,3 +7,5 @@ pub mod KindValues
 pub mod Laws
 pub mod FirstBreach
 pub mod LeastValues
+pub mod Alike
+pub mod Counted

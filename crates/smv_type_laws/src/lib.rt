@@ -9,8 +9,9 @@
 //! judged in order, all breaches of a model, the first by instance, item and number, and the size last.
 //! `Safe` says when a value is of a kind, and when an expression divides by no 0 and has small numbers
 //! alone. `Least` has the least values of declared types: the last moment of a path gives no inputs, and a
-//! trace needs some, so each input variable gets the least value of its type. `Laws` has the theorems as
-//! statements, which the contracts below carry; the layer above judges
+//! trace needs some, so each input variable gets the least value of its type. `Alike` has instances at which
+//! an expression is judged alike, and `Counted` what a program's flat model costs at least, counted without making it.
+//! `Laws` has the theorems as statements, which the contracts below carry; the layer above judges
 //! models and expressions and cites them. The classes are the NuSMV 2.6 manual's; intervals are this
 //! project's own. `proofs/Examples.antt` computes examples of each row.
 //!
@@ -20,6 +21,8 @@
 //! ```
 #![tactic(auto)]
 
+ghost use Rattle.smv_type_laws.specs.Alike.{AlikeJudgeAlike};
+ghost use Rattle.smv_type_laws.specs.Counted.{CostsAsCounted};
 ghost use Rattle.smv_type_laws.specs.Laws.{ValuesLieInKinds, ConditionsAreDecided, DefinitionsAreDefined, FlatModelsAreClosed};
 ghost use Rattle.smv_type_laws.specs.Laws.{ResolvedMayHaveTheSame, WrittenValuesLieInKinds, WrittenConditionsAreDecided, OneFault};
 ghost use Rattle.smv_type_laws.specs.Laws.{TypedHasNoFault, FirstFaultIsFound, SetsChangeNothing, WidthsAreLeast, DomainsAreThose};
@@ -52,6 +55,18 @@ pub fn written_values_lie_in_kinds()
 pub fn traces_are_flat_traces()
     ensures domains { DomainsAreThose }
     ensures traces { TracesAreThose }
+{}
+
+/// At two instances of a module without formals, and at those that lie inside them at one place each, a written
+/// expression is judged alike in its flat forms: it has one kind and breaks the same rules.
+pub fn alike_judge_alike()
+    ensures { AlikeJudgeAlike }
+{}
+
+/// A flat model costs no less than what is counted over its program, for which no formula is made: a program that is
+/// counted beyond the limit has no model within it.
+pub fn costs_as_counted()
+    ensures { CostsAsCounted }
 {}
 
 /// An expression that breaks no rule where no set may stand is judged the same where sets may.
