@@ -1,6 +1,7 @@
 -- What names and definitions of a program are judged as in its flat model and in that of the woven program.
 use Rattle.std.proofs.Common.{◌≡◌, ℕ, zero, suc, ◌<◌, ◌≤◌, arith, Bool, false, [], ◌∷◌, Option, Some, None, refl, sym, ap, ◌∙◌, subst}
 use Rattle.std.specs.Prelude.{slice_get}
+use Rattle.std.proofs.lemmas.Option.{some_pair_parts}
 use Rattle.smv_language.specs.Language.{Tree, AllLeaves, Text, Path, Formula, DeclaredTree, ModuleTree, ProgramTree, IsType, Place, Role, Key, define_key, actual_key, Kind as NameKind, a_formal, a_variable, an_instance, undeclared, kind_in, kind_at as name_kind_at, kind_in_sections, module_at, actual_of_kind, Meaning, a_variable_at, an_expression_at, an_instance_at, Means, Each, IsInstance, IsVariable, FlatLeaf, flat_variable, flat_symbol, flat_definition, FlatFormula, FlatModel}
 use Rattle.smv_language.specs.Scope.{a_define, a_symbol}
 use Rattle.fault_instructions.specs.Instructions.{SliceTree, InstructionTree, slices_of}
@@ -19,7 +20,7 @@ use Rattle.smv_flat_laws.proofs.Variables.{both_at}
 use Rattle.smv_type_laws.specs.ExpressionKinds.{judge}
 use Rattle.smv_type_laws.specs.Models.{kind_at, judged_definitions, kind_of_leaf, judged_in}
 use Rattle.smv_type_laws.proofs.ModelLaws.{judge_agrees, all_leaves_more}
-use Rattle.smv_type_laws.proofs.StandFor.{both_known, variable_there, for_variable, for_symbol, for_expression, for_instance}
+use Rattle.smv_type_laws.proofs.StandFor.{variable_there, for_variable, for_symbol, for_expression, for_instance}
 use Rattle.smv_type_laws.proofs.Leaves.{kind_given, HasLeaf, HasKnown, resolved_judged, known_leaves, has_leaves, declared_so, variable_kind, definition_judged, all_both}
 
 module _ (p : ProgramTree) (i : InstructionTree) (ok : IsWeavable p i) where
@@ -124,7 +125,7 @@ module _ (p : ProgramTree) (i : InstructionTree) (ok : IsWeavable p i) (m w : Fl
       let f = is.definitions k d e in
       let f' = iw.definitions k' d' e' in
       let parts : (d.place ≡ d'.place) × (d.written ≡ d'.written) =
-      both_known (expression_of p d.key) d.place d'.place d.written d'.written a.2.expression (sym (expression_same p i ok d.key) ∙ ap (expression_of (woven p i)) same ∙ b.2.expression) in
+      some_pair_parts d.place d'.place d.written d'.written (sym a.2.expression ∙ sym (expression_same p i ok d.key) ∙ ap (expression_of (woven p i)) same ∙ b.2.expression) in
       let places = parts.0 in
       let formulas = parts.1 in
       let there : IsResolved (iw.resolver d.place) d.written f'.0.value =

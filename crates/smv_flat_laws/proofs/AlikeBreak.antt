@@ -2,6 +2,7 @@
 use Rattle.std.proofs.Common.{◌≡◌, ℕ, zero, suc, List, [], ◌∷◌, ◌++◌, Option, Some, None, refl, sym, ◌∙◌, ap, subst, inl, inr}
 use Rattle.std.specs.Prelude.{IsTrue}
 use Rattle.std.proofs.lemmas.List.{append_cancel_right}
+use Rattle.std.proofs.lemmas.Option.{some_pair_parts}
 use Rattle.smv_language.specs.declared.program.Moment.{Moment}
 use Rattle.smv_language.specs.Language.{Text, Path, Formula, DeclaredTree, boolean, range, members, instance, ModuleTree, ProgramTree, Place, Kind, a_formal, a_variable, an_instance, undeclared, Key, define_key, actual_key, Meaning, a_variable_at, an_expression_at, an_instance_at, Means, plain_name, find_module, kind_at, module_at, actual_of_kind, AtSome}
 use Rattle.smv_language.specs.Scope.{a_define, a_symbol}
@@ -26,9 +27,6 @@ key_same c (actual_key s i) (actual_key t j) e =
     let number : i ≡ j = cc in
     ap (λ u. actual_key u i) (append_cancel_right s t c place) ∙ ap (λ z. actual_key t z) number
 
-same_pair : (x y : Place × Formula) → Some x ≡ Some y → x ≡ y
-same_pair x y e = cc
-
 module _ (p : ProgramTree) (a b : Place) (alike : AreAlike p a b) where
   -- the expression of a definition, moved with it
   pub record Written (key : Key) (place : Place) (e : Formula) : Type 0 where
@@ -41,8 +39,8 @@ module _ (p : ProgramTree) (a b : Place) (alike : AreAlike p a b) where
   by_define s (a_formal i) place e h = cc
   by_define s (a_variable role what) place e h = cc
   by_define s (a_define d) place e h =
-      let same : (s ++ b, d) ≡ (place, e) = same_pair (s ++ b, d) (place, e) h in
-      (sym (ap (λ (t : Place × Formula). t.0) same), ap (λ (t : Place × Formula). Some (s ++ a, t.1)) same)
+      let same : (s ++ b ≡ place) × (d ≡ e) = some_pair_parts (s ++ b) place d e h in
+      (sym same.0, ap (λ (f : Formula). Some (s ++ a, f)) same.1)
   by_define s (an_instance m actuals) place e h = cc
   by_define s undeclared place e h = cc
 
@@ -50,8 +48,8 @@ module _ (p : ProgramTree) (a b : Place) (alike : AreAlike p a b) where
       (place ≡ s ++ b) × (expression_in (s ++ a) o ≡ Some (s ++ a, e))
   by_actual s None place e h = cc
   by_actual s (Some d) place e h =
-      let same : (s ++ b, d) ≡ (place, e) = same_pair (s ++ b, d) (place, e) h in
-      (sym (ap (λ (t : Place × Formula). t.0) same), ap (λ (t : Place × Formula). Some (s ++ a, t.1)) same)
+      let same : (s ++ b ≡ place) × (d ≡ e) = some_pair_parts (s ++ b) place d e h in
+      (sym same.0, ap (λ (f : Formula). Some (s ++ a, f)) same.1)
 
   pub expression_moved : (key : Key) → IsInside key → (place : Place) (e : Formula) → expression_of p (key_onto b key) ≡ Some (place, e) → Written key place e
   expression_moved (define_key s x) inside place e h =

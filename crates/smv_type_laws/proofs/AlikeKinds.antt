@@ -1,6 +1,7 @@
 -- At instances of one module without formals expressions have the same kinds and break the same rules.
 use Rattle.std.proofs.Common.{◌≡◌, ℕ, zero, suc, ◌<◌, ◌≤◌, arith, Bool, false, ◌++◌, Some, refl, sym, ap, ◌∙◌, subst}
 use Rattle.std.specs.Prelude.{slice_get}
+use Rattle.std.proofs.lemmas.Option.{some_pair_parts}
 use Rattle.smv_language.specs.Language.{Tree, Text, Path, Formula, DeclaredTree, ProgramTree, Place, Role, Key, Meaning, a_variable_at, an_expression_at, an_instance_at, Each, IsVariable, FlatLeaf, flat_variable, flat_symbol, flat_definition, FlatFormula, FlatModel}
 use Rattle.smv_language.specs.Scope.{a_symbol}
 use Rattle.smv_flat_laws.specs.Alike.{AreAlike}
@@ -16,7 +17,7 @@ use Rattle.smv_type_laws.specs.Alike.{AlikeJudgeAlike}
 use Rattle.smv_type_laws.specs.Models.{kind_at, judged_definitions, kind_of_leaf, judged_in}
 use Rattle.smv_type_laws.proofs.Leaves.{kind_given, HasLeaf, HasKnown, resolved_judged, known_leaves, has_leaves, declared_so, variable_kind, definition_judged, all_both}
 use Rattle.smv_type_laws.proofs.ModelLaws.{judge_agrees, all_leaves_more}
-use Rattle.smv_type_laws.proofs.StandFor.{both_known, for_variable, for_symbol, for_expression, for_instance}
+use Rattle.smv_type_laws.proofs.StandFor.{for_variable, for_symbol, for_expression, for_instance}
 
 module _ (p : ProgramTree) (m : FlatModel) (walkable : IsWalkable p) (is : IsFlatOf p m) (a b : Place) (alike : AreAlike p a b) where
   variable_moved : (s : Place) (x : Text) (role : Role) (type : DeclaredTree) → IsVariable p (s ++ a) x role type → IsVariable p (s ++ b) x role type
@@ -83,7 +84,7 @@ module _ (p : ProgramTree) (m : FlatModel) (walkable : IsWalkable p) (is : IsFla
       let f' = is.definitions k' d' e' in
       let w : Written p a b alike key d'.place d'.written = expression_moved p a b alike key inside d'.place d'.written (sym (ap (expression_of p) is_second) ∙ y.2.expression) in
       let parts : (d.place ≡ w.within ++ a) × (d.written ≡ d'.written) =
-      both_known (expression_of p (key_onto a key)) d.place (w.within ++ a) d.written d'.written (sym (ap (expression_of p) is_first) ∙ x.2.expression) w.moved in
+      some_pair_parts d.place (w.within ++ a) d.written d'.written (sym (sym (ap (expression_of p) is_first) ∙ x.2.expression) ∙ w.moved) in
       let first : IsResolved (is.resolver (w.within ++ a)) d'.written f.0.value =
       subst (λ at. IsResolved (is.resolver at) d'.written f.0.value) parts.0 (subst (λ t. IsResolved (is.resolver d.place) t f.0.value) parts.1 f.2) in
       let second : IsResolved (is.resolver (w.within ++ b)) d'.written f'.0.value = subst (λ at. IsResolved (is.resolver at) d'.written f'.0.value) w.is f'.2 in

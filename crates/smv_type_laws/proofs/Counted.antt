@@ -1,8 +1,8 @@
 -- The flat model of a program costs what is counted over the program.
 use Rattle.std.proofs.Common.{◌≡◌, ℕ, zero, suc, ◌+◌, ◌≤◌, arith, List, [], ◌∷◌, ◌++◌, Some, map, refl, sym, ap, ◌∙◌, subst}
-use Rattle.std.specs.Prelude.{slice_get, sum_by}
+use Rattle.std.specs.Prelude.{slice_get, sum_by, codes, pos}
 use Rattle.std.proofs.lemmas.List.Sums.{sum_by-cons}
-use Rattle.smv_language.specs.Language.{Tree, DeclaredTree, ProgramTree, Place, Key, Each, EachBoth, FlatLeaf, FlatVariable, FlatFormula, FlatModel}
+use Rattle.smv_language.specs.Language.{Tree, leaf, not_of, DeclaredTree, boolean, range, instance, var, define, init, ProgramTree, Place, Key, Each, EachBoth, FlatLeaf, FlatVariable, FlatFormula, FlatModel}
 use Rattle.smv_flat_laws.specs.Items.{Visit, variables_of}
 use Rattle.smv_flat_laws.specs.NameResolution.{Definition, Resolver, IsResolved}
 use Rattle.smv_flat_laws.specs.Rules.{IsWalkable}
@@ -15,7 +15,7 @@ use Rattle.smv_flat_laws.proofs.Listed.{root_written}
 use Rattle.smv_flat_laws.proofs.Pairs.{Pairwise}
 use Rattle.smv_flat_laws.proofs.Places.{In}
 use Rattle.smv_type_laws.specs.Costs.{cost_of, declared_cost, formulas_cost}
-use Rattle.smv_type_laws.specs.Counted.{condition_cost, written_cost, expression_cost, key_cost, CostsAsCounted}
+use Rattle.smv_type_laws.specs.Counted.{condition_cost, written_cost, expression_cost, key_cost, counted_cost, CostsAsCounted}
 use Rattle.smv_type_laws.proofs.ResolvedCosts.{resolved_cost}
 
 -- conditions
@@ -107,3 +107,23 @@ costs_as_counted p m walkable is =
       all_cost m is.resolver (conditions each_conditions p) m.at_each is.at_each,
       all_cost m is.resolver (conditions step_conditions p ++ conditions kept_conditions p) m.at_step is.at_step,
     )
+
+-- MODULE main VAR a : M; b : M; MODULE M VAR on : boolean; n : 0..7; DEFINE d := !on; INIT on;
+abbrev twice : ProgramTree
+twice =
+    record {
+      name = codes "main";
+      formals = [];
+      sections = var (record { name = codes "a"; what = instance (codes "M") [] } ∷ record { name = codes "b"; what = instance (codes "M") [] } ∷ []) ∷ [];
+    } ∷
+    record {
+      name = codes "M";
+      formals = [];
+      sections =
+          var (record { name = codes "on"; what = boolean } ∷ record { name = codes "n"; what = range (pos 0) (pos 7) } ∷ []) ∷
+          define (record { name = codes "d"; value = not_of (leaf (codes "on" ∷ [])) } ∷ []) ∷ init (leaf (codes "on" ∷ [])) ∷ [];
+    } ∷ []
+
+-- each of the two costs 3 for n, 2 for d and 1 for its condition
+example : counted_cost twice ≡ 12
+example = refl

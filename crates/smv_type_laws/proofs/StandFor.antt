@@ -6,13 +6,6 @@ use Rattle.smv_language.specs.Scope.{a_symbol}
 use Rattle.smv_flat_laws.specs.NameResolution.{Definition, StandsFor}
 use Rattle.smv_flat_laws.specs.Model.{IsVariableNumber}
 
-pub both_known : (o : Option (Place × Formula)) (at bt : Place) (e f : Formula) → o ≡ Some (at, e) → o ≡ Some (bt, f) → (at ≡ bt) × (e ≡ f)
-both_known None at bt e f h g = cc
-both_known (Some x) at bt e f h g =
-    let first : x ≡ (at, e) = cc in
-    let second : x ≡ (bt, f) = cc in
-    (sym (ap (λ (y : Place × Formula). y.0) first) ∙ ap (λ (y : Place × Formula). y.0) second, sym (ap (λ (y : Place × Formula). y.1) first) ∙ ap (λ (y : Place × Formula). y.1) second)
-
 kind_there : (q : ProgramTree) (at : Place) (x : Text) (role : Role) (type : DeclaredTree) (o : Option ModuleTree) → module_at q at ≡ o → kind_at (module_at q at) x ≡ a_variable role type → IsVariable q at x role type
 kind_there q at x role type None e k = let bad : undeclared ≡ a_variable role type = ap (λ o. kind_at o x) (sym e) ∙ k in cc
 kind_there q at x role type (Some n) e k = (n, e, ap (λ o. kind_at o x) (sym e) ∙ k)
