@@ -72,6 +72,19 @@ declared_kind (an_init e ∷ before) role d after h = declared_kind before role 
 declared_kind (an_invar e ∷ before) role d after h = declared_kind before role d after h
 declared_kind (a_trans e ∷ before) role d after h = declared_kind before role d after h
 
+defined_kind : (before : List Item) (d : DefineTree) (after : List Item) → is_among (flat_map names_of_item before) d.name ≡ false →
+    kind_in_items (before ++ a_definition d ∷ after) d.name ≡ a_define d.value
+defined_kind [] d after h = rw (same_text_refl d.name) refl
+defined_kind (a_declaration role' d' ∷ before) d after h =
+    let s : (same_text d'.name d.name ≡ false) × (is_among (flat_map names_of_item before) d.name ≡ false) = neither _ _ h in rw s.0 (defined_kind before d after s.1)
+defined_kind (a_definition d' ∷ before) d after h =
+    let s : (same_text d'.name d.name ≡ false) × (is_among (flat_map names_of_item before) d.name ≡ false) = neither _ _ h in rw s.0 (defined_kind before d after s.1)
+defined_kind (an_assignment a ∷ before) d after h = defined_kind before d after h
+defined_kind (some_constants xs ∷ before) d after h = defined_kind before d after h
+defined_kind (an_init e ∷ before) d after h = defined_kind before d after h
+defined_kind (an_invar e ∷ before) d after h = defined_kind before d after h
+defined_kind (a_trans e ∷ before) d after h = defined_kind before d after h
+
 -- an item with its place in the module, and no name of it stands earlier
 pub record ItemFacts (m : ModuleTree) (i : NumberedItem) : Type 0 where
   pub after : List Item
@@ -84,6 +97,13 @@ kind_of_declaration m before role d after e h =
     let s : (is_among m.formals d.name ≡ false) × (is_among (flat_map names_of_item before) d.name ≡ false) = among_split m.formals _ d.name h in
     ap (λ o. kind_after_formals o (kind_in_sections m.sections d.name)) (no_formal 0 m.formals d.name s.0)
     ∙ sym (sections_kind m.sections d.name) ∙ ap (λ is. kind_in_items is d.name) e ∙ declared_kind before role d after s.1
+
+pub kind_of_definition : (m : ModuleTree) (before : List Item) (d : DefineTree) (after : List Item) → items_of m ≡ before ++ a_definition d ∷ after →
+    is_among (m.formals ++ flat_map names_of_item before) d.name ≡ false → kind_in m d.name ≡ a_define d.value
+kind_of_definition m before d after e h =
+    let s : (is_among m.formals d.name ≡ false) × (is_among (flat_map names_of_item before) d.name ≡ false) = among_split m.formals _ d.name h in
+    ap (λ o. kind_after_formals o (kind_in_sections m.sections d.name)) (no_formal 0 m.formals d.name s.0)
+    ∙ sym (sections_kind m.sections d.name) ∙ ap (λ is. kind_in_items is d.name) e ∙ defined_kind before d after s.1
 
 -- a name that is an instance in its module is no formal
 pub no_formal_instance : (n : Text) (actuals : List Formula) (o : Option ℕ) (k : Kind) → kind_after_formals o k ≡ an_instance n actuals → k ≡ an_instance n actuals

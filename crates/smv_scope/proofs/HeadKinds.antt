@@ -1,13 +1,13 @@
 -- What formals, definitions and declarations are in the modules of instances.
-use Rattle.std.proofs.Common.{◌≡◌, ℕ, zero, suc, ◌+◌, arith, Bool, true, false, List, [], ◌∷◌, ◌++◌, Some, refl, sym, ◌∙◌, ap}
-use Rattle.std.specs.Prelude.{slice_get, flat_map}
-use Rattle.smv_language.specs.Language.{Text, DeclTree, DefineTree, ModuleTree, ProgramTree, same_text, is_among, Place, Role, a_formal, kind_declared, kind_in, kind_in_sections, kind_after_formals, kind_at, module_at, find_module, formal_from, IsInstance, FlatInstance}
+use Rattle.std.proofs.Common.{◌≡◌, ℕ, zero, suc, ◌+◌, arith, Bool, true, false, List, [], ◌∷◌, Some, refl, sym, ◌∙◌, ap}
+use Rattle.std.specs.Prelude.{slice_get}
+use Rattle.smv_language.specs.Language.{Text, DeclTree, DefineTree, ModuleTree, ProgramTree, same_text, is_among, Place, Role, a_formal, kind_declared, kind_in_sections, kind_after_formals, kind_at, module_at, find_module, formal_from, IsInstance, FlatInstance}
 use Rattle.smv_language.specs.Scope.{a_define}
 use Rattle.smv_language.proofs.ValueLaws.{same_text_refl}
-use Rattle.smv_flat_laws.specs.Items.{Item, a_declaration, a_definition, an_assignment, some_constants, an_init, an_invar, a_trans, NumberedItem, items_of, items_named, instances_of}
-use Rattle.smv_flat_laws.specs.Rules.{has_twice, names_of_item, IsWalkable}
+use Rattle.smv_flat_laws.specs.Items.{Item, a_declaration, a_definition, NumberedItem, items_named, instances_of}
+use Rattle.smv_flat_laws.specs.Rules.{has_twice, IsWalkable}
 use Rattle.smv_flat_laws.proofs.Conditions.{each_at}
-use Rattle.smv_flat_laws.proofs.KindLaws.{kind_in_items, sections_kind, ItemFacts, kind_of_declaration, among_split}
+use Rattle.smv_flat_laws.proofs.KindLaws.{ItemFacts, kind_of_declaration, kind_of_definition}
 use Rattle.smv_flat_laws.proofs.Places.{facts_named}
 use Rattle.smv_scope.specs.KnownFormals.{IsHead}
 use Rattle.smv_scope.proofs.LookSplit.{never}
@@ -17,7 +17,6 @@ use Rattle.smv_language.proofs.OneTree.{same_text_equal}
 use Rattle.std.proofs.lemmas.Option.{same_Some as of_some}
 use Rattle.std.proofs.lemmas.Bool.{or_parts as neither}
 use Rattle.smv_language.proofs.BoolLaws.{not_both}
-use Rattle.smv_language.proofs.ProgramLaws.{no_formal}
 use Rattle.smv_flat_laws.proofs.Flattening.{all_instances}
 
 -- a formal that stands once is found by its name
@@ -52,26 +51,6 @@ head_kind p walkable k i at x head =
   where
     none : 0 + i ≡ i
     none = omega arith
-
-pub defined_kind : (before : List Item) (d : DefineTree) (after : List Item) → is_among (flat_map names_of_item before) d.name ≡ false →
-    kind_in_items (before ++ a_definition d ∷ after) d.name ≡ a_define d.value
-defined_kind [] d after h = rw (same_text_refl d.name) refl
-defined_kind (a_declaration role' d' ∷ before) d after h =
-    let s : (same_text d'.name d.name ≡ false) × (is_among (flat_map names_of_item before) d.name ≡ false) = neither _ _ h in rw s.0 (defined_kind before d after s.1)
-defined_kind (a_definition d' ∷ before) d after h =
-    let s : (same_text d'.name d.name ≡ false) × (is_among (flat_map names_of_item before) d.name ≡ false) = neither _ _ h in rw s.0 (defined_kind before d after s.1)
-defined_kind (an_assignment a ∷ before) d after h = defined_kind before d after h
-defined_kind (some_constants xs ∷ before) d after h = defined_kind before d after h
-defined_kind (an_init e ∷ before) d after h = defined_kind before d after h
-defined_kind (an_invar e ∷ before) d after h = defined_kind before d after h
-defined_kind (a_trans e ∷ before) d after h = defined_kind before d after h
-
-pub kind_of_definition : (m : ModuleTree) (before : List Item) (d : DefineTree) (after : List Item) → items_of m ≡ before ++ a_definition d ∷ after →
-    is_among (m.formals ++ flat_map names_of_item before) d.name ≡ false → kind_in m d.name ≡ a_define d.value
-kind_of_definition m before d after e h =
-    let s : (is_among m.formals d.name ≡ false) × (is_among (flat_map names_of_item before) d.name ≡ false) = among_split m.formals _ d.name h in
-    ap (λ o. kind_after_formals o (kind_in_sections m.sections d.name)) (no_formal 0 m.formals d.name s.0)
-    ∙ sym (sections_kind m.sections d.name) ∙ ap (λ is. kind_in_items is d.name) e ∙ defined_kind before d after s.1
 
 module _ (p : ProgramTree) (walkable : IsWalkable p) (spot : ℕ) (at : FlatInstance) (there : slice_get (instances_of p) spot ≡ Some at) (place number : ℕ) (before : List Item) where
   real : (m : ModuleTree) × IsInstance p at.place m × (find_module p at.module_name ≡ Some m)

@@ -109,7 +109,7 @@ costs_as_counted p m walkable is =
     )
 
 -- MODULE main VAR a : M; b : M; MODULE M VAR on : boolean; n : 0..7; DEFINE d := !on; INIT on;
-abbrev twice : ProgramTree
+abbrev pub twice : ProgramTree
 twice =
     record {
       name = codes "main";

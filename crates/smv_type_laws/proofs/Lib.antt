@@ -25,3 +25,6 @@ pub mod Leaves
 pub mod StandFor
 pub mod AlikeKinds
 pub mod Counted
+pub mod Summed
+pub mod VariableSums
+pub mod CountedItems

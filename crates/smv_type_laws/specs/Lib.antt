@@ -9,3 +9,4 @@ pub mod FirstBreach
 pub mod LeastValues
 pub mod Alike
 pub mod Counted
+pub mod CountedItems

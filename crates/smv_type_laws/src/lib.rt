@@ -10,7 +10,8 @@
 //! `Safe` says when a value is of a kind, and when an expression divides by no 0 and has small numbers
 //! alone. `Least` has the least values of declared types: the last moment of a path gives no inputs, and a
 //! trace needs some, so each input variable gets the least value of its type. `Alike` has instances at which
-//! an expression is judged alike, and `Counted` what a program's flat model costs at least, counted without making it.
+//! an expression is judged alike, and `Counted` what a program's flat model costs at least, counted without making it,
+//! which `CountedItems` counts by the items of its instances' modules.
 //! `Laws` has the theorems as statements, which the contracts below carry; the layer above judges
 //! models and expressions and cites them. The classes are the NuSMV 2.6 manual's; intervals are this
 //! project's own. `proofs/Examples.antt` computes examples of each row.
@@ -23,6 +24,8 @@
 
 ghost use Rattle.smv_type_laws.specs.Alike.{AlikeJudgeAlike};
 ghost use Rattle.smv_type_laws.specs.Counted.{CostsAsCounted};
+ghost use Rattle.smv_type_laws.specs.CountedItems.{VariablesByItems, DefinitionsByItems, ConditionsByItems};
+ghost use Rattle.smv_type_laws.specs.CountedItems.{CountedByItems, CountedIsTooLarge};
 ghost use Rattle.smv_type_laws.specs.Laws.{ValuesLieInKinds, ConditionsAreDecided, DefinitionsAreDefined, FlatModelsAreClosed};
 ghost use Rattle.smv_type_laws.specs.Laws.{ResolvedMayHaveTheSame, WrittenValuesLieInKinds, WrittenConditionsAreDecided, OneFault};
 ghost use Rattle.smv_type_laws.specs.Laws.{TypedHasNoFault, FirstFaultIsFound, SetsChangeNothing, WidthsAreLeast, DomainsAreThose};
@@ -67,6 +70,17 @@ pub fn alike_judge_alike()
 /// counted beyond the limit has no model within it.
 pub fn costs_as_counted()
     ensures { CostsAsCounted }
+{}
+
+/// What is counted over a program is a sum over its instances of a sum over the items of their modules, which asks nothing
+/// of an instance but its module: so are what its variables, its definitions and its conditions cost. A program of which
+/// more is counted than the limit has no model that keeps it.
+pub fn counted_by_items()
+    ensures variables { VariablesByItems }
+    ensures definitions { DefinitionsByItems }
+    ensures conditions { ConditionsByItems }
+    ensures counted { CountedByItems }
+    ensures large { CountedIsTooLarge }
 {}
 
 /// An expression that breaks no rule where no set may stand is judged the same where sets may.
