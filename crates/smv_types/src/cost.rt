@@ -1,5 +1,6 @@
 //! The cost of expressions ([`cost`]) and of models ([`model_cost`]), by which large models are refused. It counts nodes,
-//! and more for arithmetic, whose circuits are large: what passes the limit would make long clause lists.
+//! and more for arithmetic, whose circuits are large: what passes the limit would make long clause lists. An expression costs
+//! the same before its names are resolved, so that the layer above counts a program by these before its model is made.
 ghost use Rattle.std.specs.Prelude.{◌≡◌, ◌+◌, min};
 ghost use Rattle.smv_language.specs.ExpressionTree.{tree_of, trees_of, branches_of};
 ghost use Rattle.smv_language.specs.ProgramTree.{declared_tree};
@@ -8,24 +9,24 @@ ghost use Rattle.smv_type_laws.specs.Costs.{op_cost, cost_of, trees_cost, branch
 ghost use Rattle.smv_types.specs.Sizes.{formulas_cost, variables_cost};
 
 use base_values::limits::MOST_COST;
-use smv_language::model::{Flat, FlatModel, Formula, Variable};
+use smv_language::model::{FlatModel, Formula, Variable};
 use smv_language::{Declared, Expr, Op};
 
 /// One more than the limit stands for every greater cost.
 const PAST_LIMIT: u64 = MOST_COST + 1;
 
-/// Both costs together.
-pub(crate) fn both(a: u64, b: u64) -> u64
+/// Both costs together; one more than the limit stands for every greater one.
+pub fn both(a: u64, b: u64) -> u64
     ensures { result ≡ min (a + b) (MOST_COST + 1) }
 {
     (a.min(PAST_LIMIT) + b.min(PAST_LIMIT)).min(PAST_LIMIT)
 }
 
-/// The cost of an expression: 1 for each node, and 64 for `*`, `/` and `mod`. A name counts as one node,
-/// also where it stands for a definition. Takes no memory.
+/// The cost of an expression over names of any kind: 1 for each node, and 64 for `*`, `/` and `mod`. A name counts as one
+/// node, also where it stands for a definition. One more than the limit stands for every greater cost. Takes no memory.
 #[cycle(cost)]
 #[tactic(auto, using(smv_language::proofs::WrittenLaws::tree_of_case, smv_language::proofs::WrittenLaws::tree_of_set))]
-pub(crate) fn cost(e: &Expr<Flat>) -> u64
+pub fn cost<L>(e: &Expr<L>) -> u64
     ensures { result ≡ min (cost_of (tree_of e.now)) (MOST_COST + 1) }
 {
     match e {
@@ -41,7 +42,7 @@ pub(crate) fn cost(e: &Expr<Flat>) -> u64
 /// The cost of the members of a set.
 #[cycle(cost)]
 #[tactic(auto, using(crate::proofs::TreeLaws::trees_cost_more))]
-fn members_cost(members: &[Expr<Flat>]) -> u64
+fn members_cost<L>(members: &[Expr<L>]) -> u64
     ensures { result ≡ min (trees_cost (trees_of members.now)) (MOST_COST + 1) }
 {
     let mut total = 0;
@@ -54,7 +55,7 @@ fn members_cost(members: &[Expr<Flat>]) -> u64
 /// The cost of the branches of a case.
 #[cycle(cost)]
 #[tactic(auto, using(crate::proofs::TreeLaws::branches_cost_more))]
-fn parts_cost(branches: &[(Expr<Flat>, Expr<Flat>)]) -> u64
+fn parts_cost<L>(branches: &[(Expr<L>, Expr<L>)]) -> u64
     ensures { result ≡ min (branches_cost (branches_of branches.now)) (MOST_COST + 1) }
 {
     let mut total = 0;
@@ -117,8 +118,8 @@ fn variables_cost(variables: &[Variable]) -> u64
     total
 }
 
-/// The cost of a declared type.
-fn declared_cost(declared: &Declared) -> u64
+/// The cost of a declared type: as many as its members, and 3 for a range. An instance has none of its own.
+pub fn declared_cost(declared: &Declared) -> u64
     ensures { result ≡ declared_cost (declared_tree declared.now) }
 {
     match declared {

@@ -5,6 +5,7 @@
 //! broken ([`TypeFault`]); a [`Typed`] model breaks none. [`check_value`], [`check_top`] and [`kind_of`]
 //! do the same for an expression that is no part of the model. [`Typed::sort_of`], [`literal`],
 //! [`negative`], [`operation`] and [`joined`] tell the same node by node, for a pass of the caller's own.
+//! [`cost::cost`] and [`cost::declared_cost`] are what an expression and a type cost, also before a flat model is made.
 //! The classes are those of the NuSMV 2.6 manual; the intervals are this project's own, and they see to it
 //! that no divisor is 0 and no number passes 32 bits.
 //!
@@ -27,7 +28,7 @@
 mod bits;
 mod calls;
 mod conditions;
-mod cost;
+pub mod cost;
 mod declare;
 mod definitions;
 mod fault;
