@@ -7,27 +7,21 @@ use Rattle.smv_language.specs.declared.program.Moment.TheVariants.{Always, First
 use Rattle.smv_language.specs.Scope.{a_define}
 use Rattle.smv_flat_laws.specs.NameResolution.{has_next}
 use Rattle.smv_flat_laws.specs.Items.{a_declaration, a_definition, an_assignment, NumberedItem, items_of, items_named, visits, instances_of}
-use Rattle.smv_flat_laws.specs.Rules.{a_use, visit_sites, use_sites, IsKept, IsWalkable, IsAccepted, names_of_item, is_name_again, not_a_target, SomeHasNoValue, may_be_assigned, is_target, expression_of, NeedsItself, some_has_next}
+use Rattle.smv_flat_laws.specs.Rules.{a_use, visit_sites, use_sites, IsKept, IsWalkable, IsAccepted, names_of_item, is_name_again, not_a_target, SomeHasNoValue, may_be_assigned, is_target, expression_of, NeedsItself}
 use Rattle.smv_flat_laws.specs.Model.{Root}
 use Rattle.smv_flat_laws.proofs.Reaches.{each_right}
 use Rattle.smv_flat_laws.proofs.Lists.{each_of_map}
 use Rattle.smv_flat_laws.proofs.Conditions.{each_flat, each_at}
 use Rattle.smv_flat_laws.proofs.Sections.{AreInstances}
-use Rattle.smv_flat_laws.proofs.KindLaws.{ItemFacts, kind_of_declaration}
+use Rattle.smv_flat_laws.proofs.KindLaws.{ItemFacts, kind_of_declaration, kind_of_definition}
 use Rattle.smv_flat_laws.proofs.Places.{facts_named, are_instances}
 use Rattle.smv_flat_laws.proofs.Walkable.{accepted_walkable, main_is_there}
-use Rattle.smv_scope.proofs.HeadKinds.{kind_of_definition}
-use Rattle.std.proofs.lemmas.Bool.{true_from_ne_false as not_false, or_right as or_true}
+use Rattle.std.proofs.lemmas.Bool.{true_from_ne_false as not_false}
 
 pub nth_slice : (es : List Formula) (i : ℕ) → nth_formula es i ≡ slice_get es i
 nth_slice [] i = refl
 nth_slice (e ∷ es) zero = refl
 nth_slice (e ∷ es) (suc i) = nth_slice es i
-
-pub next_among : (es : List Formula) (i : ℕ) (e : Formula) → slice_get es i ≡ Some e → has_next e ≡ true → some_has_next es ≡ true
-next_among [] i e h n = cc
-next_among (f ∷ es) zero e h n = let same : f ≡ e = cc in rw same (rw n refl)
-next_among (f ∷ es) (suc i) e h n = or_true (has_next f) (some_has_next es) (next_among es i e h n)
 
 -- what is told of a definition that breaks no rule
 pub record IsGoodRoot (p : ProgramTree) (r : Root) : Type 0 where

@@ -12,8 +12,8 @@ use Rattle.smv_flat_laws.proofs.Conditions.{each_flat, each_at, each_from, each_
 use Rattle.smv_flat_laws.proofs.KindLaws.{sections_kind, DeclaredBy, declared_by}
 use Rattle.smv_flat_laws.proofs.Places.{In, VisitFacts, there, Walked, walked, in_items, found_at, all_visit_facts}
 use Rattle.smv_flat_laws.proofs.EndLaws.{ended_stays}
-use Rattle.smv_flat.proofs.BuildAccepted.{nth_slice, next_among, IsGoodRoot, walkable, are, kept_at, ItemAt, item_at, fresh_declared, fresh_defined}
-use Rattle.smv_flat_laws.proofs.Meant.{declares_no_formal, formal_is as formal_named}
+use Rattle.smv_flat.proofs.BuildAccepted.{nth_slice, IsGoodRoot, walkable, are, kept_at, ItemAt, item_at, fresh_declared, fresh_defined}
+use Rattle.smv_flat_laws.proofs.Meant.{declares_no_formal, formal_is as formal_named, some_next as next_among}
 use Rattle.std.proofs.lemmas.Bool.{false_from_ne_true as not_true}
 use Rattle.smv_language.proofs.EachLaws.{some_at}
 use Rattle.smv_language.proofs.ProgramLaws.{found_named}

@@ -1,10 +1,10 @@
 -- What the rules give at an item of an instance, and at the declaration of one.
-use Rattle.std.proofs.Common.{◌≡◌, ℕ, Bool, true, false, List, [], ◌∷◌, ◌++◌, length, Some, refl, sym, ◌∙◌, subst}
+use Rattle.std.proofs.Common.{◌≡◌, ℕ, Bool, true, false, List, [], ◌∷◌, ◌++◌, length, Some, refl, sym, ◌∙◌, ap, subst}
 use Rattle.std.specs.Prelude.{codes, slice_get, map, nat_eq}
 use Rattle.std.proofs.Common.{eqb-true}
 use Rattle.smv_language.specs.Language.{Text, Formula, instance, ModuleTree, ProgramTree, opposite, Place, an_instance, find_module, formal_from, kind_in_sections, kind_in, Each, IsInstance, FlatInstance}
 use Rattle.smv_flat_laws.specs.Items.{Item, a_declaration, NumberedItem, items_of, items_named, Visit, visits, visits_of, walk, instances_of}
-use Rattle.smv_flat_laws.specs.Rules.{is_missing_instance, is_miscounted, is_other_count, a_use, module_sites, visit_sites, use_sites, IsKept, IsWalkable, IsAccepted}
+use Rattle.smv_flat_laws.specs.Rules.{no_such_name, define_loop, next_here, is_missing_instance, is_miscounted, is_other_count, a_use, module_sites, visit_sites, use_sites, BreaksNames, BreaksLoops, breaks_next, IsKept, IsWalkable, IsAccepted}
 use Rattle.smv_flat_laws.proofs.Reaches.{each_right}
 use Rattle.smv_flat_laws.proofs.Conditions.{each_at, each_flat, each_mapped}
 use Rattle.smv_flat_laws.proofs.KindLaws.{no_formal_instance, DeclaredBy, declared_by, sections_kind}
@@ -90,3 +90,14 @@ pub as_many : (p : ProgramTree) → IsWalkable p → (at : Place) (m : ModuleTre
 as_many p walkable at m is x n actuals kind k found =
     let v = visited p walkable at m is x n actuals kind in
     same_count k (length actuals) (subst (λ o. is_other_count o (length actuals) ≡ false) found (subst (λ t. is_miscounted p t ≡ false) v.2 v.1.counted))
+
+-- no rule of names, of loops and of `next` is broken at it
+module _ (p : ProgramTree) (at : Place) (item : Item) (kept : KeptItem p at item) where
+  pub no_names : BreaksNames p at item → ⊥
+  no_names h = kept.kept no_such_name (subst (BreaksNames p kept.of.place) (sym kept.is) (subst (λ a. BreaksNames p a item) (sym kept.place) h))
+
+  pub no_loops : BreaksLoops p at item → ⊥
+  no_loops h = kept.kept define_loop (subst (BreaksLoops p kept.of.place) (sym kept.is) (subst (λ a. BreaksLoops p a item) (sym kept.place) h))
+
+  pub no_next : breaks_next item ≡ true → ⊥
+  no_next h = kept.kept next_here (ap breaks_next kept.is ∙ h)

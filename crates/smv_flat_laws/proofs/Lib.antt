@@ -37,3 +37,10 @@ pub mod BothLaws
 pub mod Found
 pub mod AlikeMeant
 pub mod AlikeBreak
+pub mod NoCircles
+pub mod LookEnds
+pub mod SymbolLaws
+pub mod MeansListed
+pub mod OrderMade
+pub mod ModelLists
+pub mod ModelMade

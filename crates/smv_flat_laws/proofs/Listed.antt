@@ -38,11 +38,11 @@ key_among (j ∷ js) k h = by_test (same_key j k) refl h (key_among js k)
 
 -- what stood before stands after, and so does what was to be added
 mutual
-  added : (p : ProgramTree) (done : List Key) (k : Key) (a : List Key) → Adds p done k a → In k a × ((j : Key) → In j done → In j a)
+  pub added : (p : ProgramTree) (done : List Key) (k : Key) (a : List Key) → Adds p done k a → In k a × ((j : Key) → In j done → In j a)
   added p done k a (stands h) = (key_among done k h, λ j i. i)
   added p done k a (comes {after = u} {needs = ks} h x n r) = (in_right k u (k ∷ []) (0, refl), λ j i. in_left j u (k ∷ []) ((all_added p done ks u r).1 j i))
 
-  all_added : (p : ProgramTree) (done ks a : List Key) → AddsAll p done ks a → Each (λ k. In k a) ks × ((j : Key) → In j done → In j a)
+  pub all_added : (p : ProgramTree) (done ks a : List Key) → AddsAll p done ks a → Each (λ k. In k a) ks × ((j : Key) → In j done → In j a)
   all_added p done ks a no_more = (tt, λ j i. i)
   all_added p done ks a (one_more {between = u} {more = more} {k = k} x xs) =
       let first : In k u × ((j : Key) → In j done → In j u) = added p done k u x in
@@ -54,7 +54,7 @@ in_mapped f [] y h = cc
 in_mapped f (x ∷ xs) y (zero, e) = let same : f x ≡ y = cc in (x, (0, refl), same)
 in_mapped f (x ∷ xs) y (suc i, e) = let r = in_mapped f xs y (i, e) in (r.0, (suc r.1.0, r.1.1), r.2)
 
-map_has : {A B : Type 0} (f : A → B) (xs : List A) (x : A) → In x xs → In (f x) (map f xs)
+pub map_has : {A B : Type 0} (f : A → B) (xs : List A) (x : A) → In x xs → In (f x) (map f xs)
 map_has f [] x h = cc
 map_has f (y ∷ xs) x (zero, e) = let same : y ≡ x = cc in (0, ap (λ z. Some (f z)) same)
 map_has f (y ∷ xs) x (suc i, e) = let r : In (f x) (map f xs) = map_has f xs x (i, e) in (suc r.0, r.1)

@@ -83,7 +83,7 @@ after_longer (suc d) more p at name l h =
     ap (step_on p) (after_longer d more p at name s.0 s.1) ∙ step_longer more p s.0.place s.0.name l s.2
 
 -- a formal that rule 11 refuses means nothing, whatever follows it
-one_later : (n d : ℕ) (p : ProgramTree) (at : Place) (name : Path) (m : Option Meaning) → means_in (d + n) p at name ≡ None → means_in n p at name ≡ m → m ≡ None
+pub one_later : (n d : ℕ) (p : ProgramTree) (at : Place) (name : Path) (m : Option Meaning) → means_in (d + n) p at name ≡ None → means_in n p at name ≡ m → m ≡ None
 one_later n d p at name None h e = refl
 one_later n d p at name (Some m) h e =
     let on : means_in (d + n) p at name ≡ Some m = means_on d n (d + n) p at name m (omega arith) e in

@@ -1,12 +1,13 @@
 -- In an accepted program what formals stand for means something, where each look-up of a formal is decided.
 use Rattle.std.proofs.Common.{◌≡◌, ℕ, zero, suc, ◌<◌, arith, List, [], ◌∷◌, ◌++◌, length, Option, Some, None, refl, sym, ◌∙◌, ap, subst, inl, inr, append-nil}
 use Rattle.std.specs.Prelude.{slice_get, map, flat_map, ◌⊎◌, ◌+◌, ◌||◌, Bool, true, false}
-use Rattle.smv_language.specs.Language.{Text, Path, Formula, DeclaredTree, boolean, range, members, instance, DeclTree, SectionTree, ModuleTree, ProgramTree, same_text, is_among, Place, Kind, a_formal, a_variable, an_instance, undeclared, Meaning, Means, means_in, find_module, formal_from, kind_after_formals, kind_in_sections, kind_declared, kind_in, kind_at, module_at, module_of_kind, plain_name, nth_formula, actual_of_kind, Each, AtSome, IsInstance}
+use Rattle.smv_language.specs.Language.{Text, Path, Formula, DeclaredTree, boolean, range, members, instance, DeclTree, SectionTree, ModuleTree, ProgramTree, same_text, is_among, Place, actual_key, Kind, a_formal, a_variable, an_instance, undeclared, Meaning, Means, means_in, find_module, formal_from, kind_after_formals, kind_in_sections, kind_declared, kind_in, kind_at, module_at, module_of_kind, plain_name, nth_formula, actual_of_kind, Each, AtSome, IsInstance}
 use Rattle.smv_language.proofs.ValueLaws.{same_text_refl}
 use Rattle.smv_language.specs.Scope.{a_define}
 use Rattle.smv_flat_laws.specs.Items.{Item, a_declaration, a_definition, an_assignment, some_constants, an_init, an_invar, a_trans, items_of, items_of_section, NumberedModule, modules_from, modules_of, numbered_items}
 use Rattle.smv_flat_laws.specs.Looks.{Look, at_actual, plain_of, step_formal, step_kind, step_of, look_after, ComesBack, MeetsLoop, MeansNothing}
-use Rattle.smv_flat_laws.specs.Rules.{no_such_name, define_loop, double_name, has_twice, a_header, an_item, ActualHasNoMeaning, BreaksNames, ActualLoops, SomeActualLoops, LoopsInside, BreaksLoops, IsKept, IsWalkable, IsAccepted}
+use Rattle.smv_flat_laws.specs.NameResolution.{has_next}
+use Rattle.smv_flat_laws.specs.Rules.{double_name, has_twice, a_header, an_item, SomeHasNoValue, ActualHasNoMeaning, BreaksNames, NeedsItself, ActualLoops, SomeActualLoops, LoopsInside, BreaksLoops, some_has_next, breaks_next, IsKept, IsWalkable, IsAccepted}
 use Rattle.smv_flat_laws.proofs.Lists.{each_more}
 use Rattle.smv_flat_laws.proofs.Conditions.{each_flat}
 use Rattle.smv_flat_laws.proofs.KindLaws.{DeclaredBy, kind_in_items, sections_kind}
@@ -14,10 +15,10 @@ use Rattle.smv_flat_laws.proofs.Places.{Above, above}
 use Rattle.smv_flat_laws.proofs.LookLaws.{step_means}
 use Rattle.smv_flat_laws.proofs.EndLaws.{steps_more, ended_stays}
 use Rattle.smv_flat_laws.proofs.Walkable.{accepted_walkable}
-use Rattle.smv_flat_laws.proofs.Kept.{KeptItem, kept_at, declared_there, as_many}
+use Rattle.smv_flat_laws.proofs.Kept.{KeptItem, kept_at, declared_there, as_many, no_names, no_loops, no_next}
 use Rattle.smv_language.proofs.OneTree.{same_text_equal}
 use Rattle.std.proofs.lemmas.Option.{slice_get_within as got_below}
-use Rattle.std.proofs.lemmas.Bool.{false_from_ne_true as not_true, or_parts as neither}
+use Rattle.std.proofs.lemmas.Bool.{false_from_ne_true as not_true, or_parts as neither, or_right as or_true}
 use Rattle.base_values.proofs.ListLaws.{get_within}
 
 nth_got : (es : List Formula) (k : ℕ) (e : Formula) → nth_formula es k ≡ Some e → slice_get es k ≡ Some e
@@ -30,18 +31,33 @@ some_at P [] k e h x = cc
 some_at P (y ∷ es) zero e h x = let same : y ≡ e = cc in inl (subst P (sym same) x)
 some_at P (y ∷ es) (suc k) e h x = inr (some_at P es k e h x)
 
+pub some_next : (es : List Formula) (k : ℕ) (e : Formula) → slice_get es k ≡ Some e → has_next e ≡ true → some_has_next es ≡ true
+some_next [] k e h n = cc
+some_next (f ∷ es) zero e h n = let same : f ≡ e = cc in rw same (rw n refl)
+some_next (f ∷ es) (suc k) e h n = or_true (has_next f) (some_has_next es) (some_next es k e h n)
+
 module _ (p : ProgramTree) (accepted : IsAccepted p) where
-  -- no actual of an accepted program comes back to its formal, and each plain one means something
+  -- no actual of an accepted program comes back to its formal, each plain one means something, and each other one has a value
   pub record KeptActual (at : Place) (x : Text) (k : ℕ) (e : Formula) (m : ModuleTree) : Type 0 where
     pub formal : Text
     pub is_formal : slice_get m.formals k ≡ Some formal
     pub no_loop : (name : Path) → plain_name e ≡ Some name → ComesBack p (x ∷ at) formal → ⊥
     pub something : (name : Path) → plain_name e ≡ Some name → MeansNothing p at name → ⊥
+    pub now : has_next e ≡ false
+    pub value : plain_name e ≡ None → SomeHasNoValue p at e → ⊥
+    pub free : plain_name e ≡ None → NeedsItself p (actual_key (x ∷ at) k) → ⊥
 
   pub kept_actual : (at : Place) (m : ModuleTree) → IsInstance p at m → (x n : Text) (actuals : List Formula) → kind_in m x ≡ an_instance n actuals → (inner : ModuleTree) → find_module p n ≡ Some inner →
       (k : ℕ) (e : Formula) → nth_formula actuals k ≡ Some e → KeptActual at x k e inner
-  kept_actual at m is x n actuals kind inner found k e nth =
-      record { formal = formal.0; is_formal = formal.1; no_loop = no_loop; something = something }
+  kept_actual at m is x n actuals kind inner found k e nth = record {
+    formal = formal.0;
+    is_formal = formal.1;
+    no_loop = λ name plain back. loops (Some name) plain (subst (λ y. ComesBack p (y ∷ at) formal.0) (sym by.name) back);
+    something = λ name plain. names (Some name) plain;
+    now = not_true (has_next e) (λ h. no_next p at (a_declaration by.role by.decl) kept (nexts by.decl by.what (some_next actuals k e got h)));
+    value = names None;
+    free = λ plain needs. loops None plain (subst (λ y. NeedsItself p (actual_key (y ∷ at) k)) (sym by.name) needs);
+  }
     where
       by : DeclaredBy (items_of m) x n actuals
       by = declared_there m x n actuals kind
@@ -55,24 +71,19 @@ module _ (p : ProgramTree) (accepted : IsAccepted p) where
       formal : (y : Text) × (slice_get inner.formals k ≡ Some y)
       formal = get_within inner.formals k (subst (λ l. k < l) (sym (as_many p (accepted_walkable p accepted) at m is x n actuals kind inner found)) (got_below actuals k e got))
 
-      names : BreaksNames p at (a_declaration by.role by.decl) → ⊥
-      names h = kept.kept no_such_name (subst (λ i. BreaksNames p kept.of.place i) (sym kept.is) (subst (λ a. BreaksNames p a (a_declaration by.role by.decl)) (sym kept.place) h))
-
-      loops : BreaksLoops p at (a_declaration by.role by.decl) → ⊥
-      loops h = kept.kept define_loop (subst (λ i. BreaksLoops p kept.of.place i) (sym kept.is) (subst (λ a. BreaksLoops p a (a_declaration by.role by.decl)) (sym kept.place) h))
-
       of_type : (d : DeclTree) → d.what ≡ instance n actuals → AtSome (λ e. ActualHasNoMeaning p at e (plain_name e)) actuals → BreaksNames p at (a_declaration by.role d)
       of_type d same h = rw same h
 
-      something : (name : Path) → plain_name e ≡ Some name → MeansNothing p at name → ⊥
-      something name plain nothing =
-          names (of_type by.decl by.what (some_at (λ e. ActualHasNoMeaning p at e (plain_name e)) actuals k e got (subst (λ o. ActualHasNoMeaning p at e o) (sym plain) nothing)))
+      names : (o : Option Path) → plain_name e ≡ o → ActualHasNoMeaning p at e o → ⊥
+      names o plain nothing =
+          no_names p at (a_declaration by.role by.decl) kept
+          (of_type by.decl by.what (some_at (λ e. ActualHasNoMeaning p at e (plain_name e)) actuals k e got (subst (ActualHasNoMeaning p at e) (sym plain) nothing)))
 
       loops_of_type : (d : DeclTree) → d.what ≡ instance n actuals → LoopsInside p (d.name ∷ at) actuals (find_module p n) → BreaksLoops p at (a_declaration by.role d)
       loops_of_type d same h = rw same h
 
-      no_loop : (name : Path) → plain_name e ≡ Some name → ComesBack p (x ∷ at) formal.0 → ⊥
-      no_loop name plain back =
+      loops : (o : Option Path) → plain_name e ≡ o → ActualLoops p (by.decl.name ∷ at) k formal.0 o → ⊥
+      loops o plain loop =
           let here : SomeActualLoops p (by.decl.name ∷ at) inner actuals =
           record {
             index = k;
@@ -80,9 +91,12 @@ module _ (p : ProgramTree) (accepted : IsAccepted p) where
             actual = e;
             is_formal = formal.1;
             is_actual = got;
-            loops = subst (λ o. ActualLoops p (by.decl.name ∷ at) k formal.0 o) (sym plain) (subst (λ y. ComesBack p (y ∷ at) formal.0) (sym by.name) back);
+            loops = subst (ActualLoops p (by.decl.name ∷ at) k formal.0) (sym plain) loop;
           } in
-          loops (loops_of_type by.decl by.what (subst (λ o. LoopsInside p (by.decl.name ∷ at) actuals o) (sym found) here))
+          no_loops p at (a_declaration by.role by.decl) kept (loops_of_type by.decl by.what (subst (LoopsInside p (by.decl.name ∷ at) actuals) (sym found) here))
+
+      nexts : (d : DeclTree) → d.what ≡ instance n actuals → some_has_next actuals ≡ true → breaks_next (a_declaration by.role d) ≡ true
+      nexts d same h = rw same h
 
 -- Formals by their places.
 pub formal_is : (j : ℕ) (xs : List Text) (x : Text) (i : ℕ) → formal_from j xs x ≡ Some i → (d : ℕ) × (i ≡ j + d) × (slice_get xs d ≡ Some x)
@@ -152,7 +166,7 @@ formals_once p walkable x m found =
 abbrev pub IsTold : ProgramTree → Place → Path → Type 0
 IsTold p at name = ((m : Meaning) × Means p at name m) ⊎ (MeansNothing p at name ⊎ MeetsLoop p at name)
 
-no_step : (p : ProgramTree) (at : Place) (x : Text) (n : ℕ) → step_of p at (x ∷ []) ≡ None → look_after (suc n) p at (x ∷ []) ≡ None
+pub no_step : (p : ProgramTree) (at : Place) (x : Text) (n : ℕ) → step_of p at (x ∷ []) ≡ None → look_after (suc n) p at (x ∷ []) ≡ None
 no_step p at x n e = let same : n + 1 ≡ suc n = omega arith in subst (λ k. look_after k p at (x ∷ []) ≡ None) same (ended_stays n 1 p at (x ∷ []) e)
 
 module _ (p : ProgramTree) (accepted : IsAccepted p) where
@@ -195,14 +209,14 @@ module _ (p : ProgramTree) (accepted : IsAccepted p) where
       by_actual None q = let bad : None ≡ Some name = sym (ap plain_of q) ∙ h in cc
       by_actual (Some e) q = (e, q, sym (ap plain_of q) ∙ h)
 
-  there : (at : Place) (x : Text) (i : ℕ) → kind_at (module_at p at) x ≡ a_formal i → (m : ModuleTree) × IsInstance p at m × (kind_in m x ≡ a_formal i)
+  pub there : (at : Place) (x : Text) (i : ℕ) → kind_at (module_at p at) x ≡ a_formal i → (m : ModuleTree) × IsInstance p at m × (kind_in m x ≡ a_formal i)
   there at x i k = by_module (module_at p at) refl
     where
       by_module : (o : Option ModuleTree) → module_at p at ≡ o → (m : ModuleTree) × IsInstance p at m × (kind_in m x ≡ a_formal i)
       by_module None q = let bad : undeclared ≡ a_formal i = sym (ap (λ o. kind_at o x) q) ∙ k in cc
       by_module (Some m) q = (m, q, sym (ap (λ o. kind_at o x) q) ∙ k)
 
-  in_formals : (m : ModuleTree) (x : Text) (i : ℕ) → kind_in m x ≡ a_formal i → slice_get m.formals i ≡ Some x
+  pub in_formals : (m : ModuleTree) (x : Text) (i : ℕ) → kind_in m x ≡ a_formal i → slice_get m.formals i ≡ Some x
   in_formals m x i k = by_formal (formal_from 0 m.formals x) refl k
     where
       not_section : (ss : Kind) (o : Option ℕ) → formal_from 0 m.formals x ≡ o → kind_after_formals o ss ≡ a_formal i → (o ≡ None → ss ≡ a_formal i → ⊥) → slice_get m.formals i ≡ Some x

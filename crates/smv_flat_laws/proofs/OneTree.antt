@@ -9,7 +9,7 @@ use Rattle.smv_flat_laws.proofs.KindLaws.{with_both}
 
 -- maps that agree on the leaves of a tree make one tree of it
 mutual
-  map_same : {L M : Type 0} (f g : L → M) (t : Tree L) → Each (λ l. f l ≡ g l) (leaves_in t) → tree_map f t ≡ tree_map g t
+  pub map_same : {L M : Type 0} (f g : L → M) (t : Tree L) → Each (λ l. f l ≡ g l) (leaves_in t) → tree_map f t ≡ tree_map g t
   map_same f g (truth b) h = refl
   map_same f g (number n) h = refl
   map_same f g (leaf l) h = ap leaf h.0

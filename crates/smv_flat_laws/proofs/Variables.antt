@@ -91,7 +91,7 @@ module _ (p : ProgramTree) where
 
 module _ (p : ProgramTree) (walkable : IsWalkable p) where
   -- a variable of an instance is visited
-  listed : (at : Place) (x : Text) (role : Role) (type : DeclaredTree) → IsVariable p at x role type →
+  pub listed : (at : Place) (x : Text) (role : Role) (type : DeclaredTree) → IsVariable p at x role type →
       (v : Visit) × In v (variables_of p) × (v.place ≡ at) × (v.decl.name ≡ x) × (v.role ≡ role) × (v.decl.what ≡ type)
   listed at x role type is = (visit, in_flat (λ (v : Visit). variable_declared v v.decl.what) visit visit (visits p) within.0 within.1 in_own, refl, by.name, refl, by.type)
     where

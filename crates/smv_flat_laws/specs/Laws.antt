@@ -33,3 +33,7 @@ AcceptedHasNoFault = (p : ProgramTree) (r : Rule) (i : ℕ) → IsAccepted p →
 -- A program that keeps the rules of modules and of the walk has one flat model, where that has no definition twice.
 abbrev pub OneModel : Type 0
 OneModel = (p : ProgramTree) (m n : FlatModel) → IsWalkable p → (is : IsFlatOf p m) → KeysDiffer is.written → IsFlatOf p n → m ≡ n
+
+-- An accepted program has a flat model, so that what is said of every flat model of a program is said of one at least.
+abbrev pub AcceptedHasModel : Type 0
+AcceptedHasModel = (p : ProgramTree) → IsAccepted p → (m : FlatModel) × IsFlatOf p m

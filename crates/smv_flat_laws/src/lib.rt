@@ -18,7 +18,7 @@
 ghost use Rattle.smv_flat_laws.specs.Alike.{AlikeBreakAlike};
 ghost use Rattle.smv_flat_laws.specs.FlatTrace.{HistoryIsExact};
 ghost use Rattle.smv_flat_laws.specs.Laws.{FlatteningIsExact, VariablesAreThose, ListsAreValuations, OneFault, AcceptedHasNoFault};
-ghost use Rattle.smv_flat_laws.specs.Laws.{OneModel};
+ghost use Rattle.smv_flat_laws.specs.Laws.{OneModel, AcceptedHasModel};
 
 /// The flat model of an accepted program holds exactly what the program's conditions hold, its variables
 /// are those of the program's instances, and each list of as many values is a valuation's.
@@ -32,6 +32,11 @@ pub fn flattening_is_exact()
 /// that stands twice.
 pub fn one_model()
     ensures { OneModel }
+{}
+
+/// An accepted program has a flat model.
+pub fn accepted_has_model()
+    ensures { AcceptedHasModel }
 {}
 
 /// A program has at most one first broken rule, with one item, and none where it is accepted.

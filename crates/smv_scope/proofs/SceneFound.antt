@@ -29,7 +29,8 @@ use Rattle.smv_scope.specs.declared.names.Formal.TheVariants as known
 use Rattle.smv_scope.specs.declared.names.Scene.{Scene}
 use Rattle.smv_scope.proofs.LookFound.{nothing_at_all, found_parts}
 use Rattle.smv_scope.proofs.NameKinds.{locals_told, Given, item_given, none_given, kind_by_items}
-use Rattle.smv_scope.proofs.SymbolKinds.{symbols_among, PlacedAt, placed_at, not_placed}
+use Rattle.smv_flat_laws.proofs.SymbolLaws.{symbols_among}
+use Rattle.smv_scope.proofs.SymbolKinds.{PlacedAt, placed_at, not_placed}
 use Rattle.smv_language.proofs.OneTree.{same_text_equal}
 use Rattle.smv_flat_laws.proofs.Meant.{formal_is as formal_named}
 

@@ -13,7 +13,7 @@ use Rattle.smv_flat_laws.proofs.Variables.{variables_are}
 use Rattle.smv_flat_laws.proofs.Walkable.{accepted_walkable}
 use Rattle.smv_language.specs.declared.model.FlatModel.{FlatModel}
 use Rattle.smv_language.specs.declared.model.Variable.{Variable}
-use Rattle.smv_scope.proofs.SymbolKinds.{symbols_among}
+use Rattle.smv_flat_laws.proofs.SymbolLaws.{symbols_among}
 use Rattle.fault_instructions.specs.Instructions.{SliceTree, InstructionTree, slices_of}
 use Rattle.fault_instructions.specs.AddedNames.{mode_variable, mode_symbol}
 use Rattle.fault_weave.specs.Faults.{Fault, HasFaults}
