@@ -153,7 +153,7 @@ KeySome at r = (x : Text) × KeyOf at x r.key
 abbrev KeyElse : Place → Text → Root → Type 0
 KeyElse at x r = (y : Text) × (x ≡ y → ⊥) × KeyOf at y r.key
 
-abbrev roots_of_items : Place → List NumberedItem → List Root
+abbrev pub roots_of_items : Place → List NumberedItem → List Root
 roots_of_items at is = flat_map (λ (i : NumberedItem). roots_of_item at i.number i.item) is
 
 keys_else : (at : Place) (m : ModuleTree) (before : List Item) (i : Item) (x : Text) → is_among (names_of_item i) x ≡ true → (is : List NumberedItem) → Each (ItemFacts m) is →

@@ -44,3 +44,4 @@ pub mod MeansListed
 pub mod OrderMade
 pub mod ModelLists
 pub mod ModelMade
+pub mod RootPlaces

@@ -10,3 +10,4 @@ pub mod ValueRules
 pub mod ResolvedAt
 pub mod FaultModes
 pub mod Alike
+pub mod RootPlaces

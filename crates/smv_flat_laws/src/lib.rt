@@ -7,6 +7,7 @@
 //! first broken one. `Model` says which flat model is a program's. `History` adds a bit for each fault to a
 //! model, `FaultModes` has the mode of a fault of the code, and
 //! `FlatTrace` says what the bits tell of its traces. `Alike` has instances of one module that break the same rules.
+//! `RootPlaces` finds the definition of a number by its instance and its item.
 //! `Laws` has the theorems as statements, which the contracts below carry; the layer above builds models and cites them.
 //!
 //! ```text
@@ -19,6 +20,7 @@ ghost use Rattle.smv_flat_laws.specs.Alike.{AlikeBreakAlike};
 ghost use Rattle.smv_flat_laws.specs.FlatTrace.{HistoryIsExact};
 ghost use Rattle.smv_flat_laws.specs.Laws.{FlatteningIsExact, VariablesAreThose, ListsAreValuations, OneFault, AcceptedHasNoFault};
 ghost use Rattle.smv_flat_laws.specs.Laws.{OneModel, AcceptedHasModel};
+ghost use Rattle.smv_flat_laws.specs.RootPlaces.{RootsByItems};
 
 /// The flat model of an accepted program holds exactly what the program's conditions hold, its variables
 /// are those of the program's instances, and each list of as many values is a valuation's.
@@ -32,6 +34,12 @@ pub fn flattening_is_exact()
 /// that stands twice.
 pub fn one_model()
     ensures { OneModel }
+{}
+
+/// The definitions of a program are listed by instances and then items: the one of a number is found by how many those
+/// before it make.
+pub fn roots_by_items()
+    ensures { RootsByItems }
 {}
 
 /// An accepted program has a flat model.
