@@ -45,3 +45,4 @@ pub mod OrderMade
 pub mod ModelLists
 pub mod ModelMade
 pub mod RootPlaces
+pub mod Repeats

@@ -6,8 +6,8 @@
 //! to a formal. `Rules` has the fourteen rules, their sites in the order in which they are tried, and the
 //! first broken one. `Model` says which flat model is a program's. `History` adds a bit for each fault to a
 //! model, `FaultModes` has the mode of a fault of the code, and
-//! `FlatTrace` says what the bits tell of its traces. `Alike` has instances of one module that break the same rules.
-//! `RootPlaces` finds the definition of a number by its instance and its item.
+//! `FlatTrace` says what the bits tell of its traces. `Alike` has instances of one module that break the same rules,
+//! and the instances that repeat others. `RootPlaces` finds the definition of a number by its instance and its item.
 //! `Laws` has the theorems as statements, which the contracts below carry; the layer above builds models and cites them.
 //!
 //! ```text
@@ -16,7 +16,7 @@
 //! ```
 #![tactic(auto)]
 
-ghost use Rattle.smv_flat_laws.specs.Alike.{AlikeBreakAlike};
+ghost use Rattle.smv_flat_laws.specs.Alike.{AlikeBreakAlike, LikeIsKept, SameModuleIsLike, InsideIsLike, RepeatsAgain};
 ghost use Rattle.smv_flat_laws.specs.FlatTrace.{HistoryIsExact};
 ghost use Rattle.smv_flat_laws.specs.Laws.{FlatteningIsExact, VariablesAreThose, ListsAreValuations, OneFault, AcceptedHasNoFault};
 ghost use Rattle.smv_flat_laws.specs.Laws.{OneModel, AcceptedHasModel};
@@ -57,6 +57,15 @@ pub fn one_fault()
 /// one place each: where the one has been judged, the other need not be.
 pub fn alike_break_alike()
     ensures { AlikeBreakAlike }
+{}
+
+/// An instance that repeats an earlier one keeps the rules of names where that one does. An instance of a module without
+/// formals repeats each earlier one of its module, and what lies in one that repeats another repeats what lies there.
+pub fn repeated_are_kept()
+    ensures kept { LikeIsKept }
+    ensures same { SameModuleIsLike }
+    ensures inside { InsideIsLike }
+    ensures again { RepeatsAgain }
 {}
 
 /// The traces of a model with history bits are those of the model, each with one value of every bit: TRUE
