@@ -72,7 +72,7 @@ same_module_like p walkable k j later first m earlier is_later is_first same fou
     }
 
 -- places that repeat one another are of one module
-repeated_module : (p : ProgramTree) (at bt : Place) → RepeatsPlace p at bt → module_at p at ≡ module_at p bt
+pub repeated_module : (p : ProgramTree) (at bt : Place) → RepeatsPlace p at bt → module_at p at ≡ module_at p bt
 repeated_module p at bt r =
     ap (module_at p) r.is_first ∙ sym (same_module p r.first_outer r.later_outer r.alike r.inside) ∙ ap (module_at p) (sym r.is_later)
 

@@ -16,7 +16,7 @@ use Rattle.smv_scope.proofs.LeadLaws.{leads_self, leads_to, leads_on, leads_afte
 use Rattle.base_values.proofs.ListLaws.{get_within}
 
 -- components after one is set
-set_same : (cs : List (Option ℕ)) (k n : ℕ) → k < length cs → component_at (set cs k (Some n)) k ≡ Some n
+pub set_same : (cs : List (Option ℕ)) (k n : ℕ) → k < length cs → component_at (set cs k (Some n)) k ≡ Some n
 set_same [] k n within = absurd (omega arith)
 set_same (c ∷ cs) zero n within = refl
 set_same (c ∷ cs) (suc k) n within = set_same cs k n (omega arith)
@@ -44,11 +44,11 @@ in_or cs k = by_value (component_at cs k) refl
     by_value (Some n) e = inl (n, e)
 
 -- what was in a component before one is set stays there
-set_keeps : (cs : List (Option ℕ)) (k n j m : ℕ) → component_at cs k ≡ None → component_at cs j ≡ Some m → component_at (set cs k (Some n)) j ≡ Some m
+pub set_keeps : (cs : List (Option ℕ)) (k n j m : ℕ) → component_at cs k ≡ None → component_at cs j ≡ Some m → component_at (set cs k (Some n)) j ≡ Some m
 set_keeps cs k n j m none is = set_other cs k j n (λ e. none_some (component_at cs k) m none (subst (λ i. component_at cs i ≡ Some m) (sym e) is)) ∙ is
 
 -- a number is in the component that was set, or where it was
-set_is : (cs : List (Option ℕ)) (k n j m : ℕ) → k < length cs → component_at (set cs k (Some n)) j ≡ Some m → ((k ≡ j) × (n ≡ m)) ⊎ (component_at cs j ≡ Some m)
+pub set_is : (cs : List (Option ℕ)) (k n j m : ℕ) → k < length cs → component_at (set cs k (Some n)) j ≡ Some m → ((k ≡ j) × (n ≡ m)) ⊎ (component_at cs j ≡ Some m)
 set_is cs k n j m within is = by_place (same_or k j)
   where
     by_place : (k ≡ j) ⊎ (k ≡ j → ⊥) → ((k ≡ j) × (n ≡ m)) ⊎ (component_at cs j ≡ Some m)

@@ -28,6 +28,7 @@ pub mod LookAfter
 pub mod Frames
 pub mod Actuals
 pub mod UsesLaws
+pub mod LikeLaws
 pub mod LinkLaws
 pub mod ReachLaws
 pub mod LayLaws

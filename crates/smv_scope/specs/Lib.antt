@@ -20,3 +20,4 @@ pub mod WorkLeft
 pub mod Components
 pub mod DefinitionNeeds
 pub mod InstanceWalk
+pub mod Likes

@@ -9,7 +9,8 @@
 //! `specs/NeedsTree.antt` (which definitions lie on a circle or read an input).
 //!
 //! The passes stand one to a file, in this order: `modules`, `walk`, `symbols`, `names`, `formals` and
-//! `needs`, which stands on `links` (the graph of the definitions) and `circles`. Each is linear in what it reads
+//! `needs`, which stands on `links` (the graph of the definitions) and `circles`. `likes` has which instances repeat
+//! an earlier one, so that the layer above need not judge them again. Each is linear in what it reads
 //! or makes.
 //!
 //! ```text
@@ -23,6 +24,7 @@ mod circles;
 pub mod fault;
 pub mod formals;
 pub mod items;
+pub mod likes;
 mod links;
 pub mod modules;
 pub mod names;

@@ -115,7 +115,7 @@ impl<'a> Scene<'a> {
     }
 
     /// The number of formals of an instance's module.
-    fn formals_of(&self, spot: usize) -> usize
+    pub(crate) fn formals_of(&self, spot: usize) -> usize
         ensures { result ≡ formals_at self.now spot }
     {
         match self.names_at(spot) {

@@ -85,7 +85,11 @@ fn program_of(alloc: Global, section: Section) -> Result<Program, OutOfMemory> {
 }
 
 /// The tables of a program whose module `main` stands at a place.
-fn scene_of(alloc: Global, program: &Program, main: usize) -> Result<Scene<'_>, FlatFault>
+pub(crate) fn scene_of(
+    alloc: Global,
+    program: &Program,
+    main: usize,
+) -> Result<Scene<'_>, FlatFault>
     requires main { module_from 0 (program_tree program.now) (codes "main") ≡ Some main }
     ensures scene { IfOk result IsScene }
 {
