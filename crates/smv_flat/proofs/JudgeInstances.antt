@@ -1,17 +1,23 @@
 -- The items of an instance one after another, and the instances one after another.
-use Rattle.std.proofs.Common.{◌≡◌, ℕ, zero, suc, ◌+◌, ◌<◌, ◌≤◌, List, [], ◌∷◌, ◌++◌, length, take, Option, Some, None, map, refl, sym, ◌∙◌, ap, subst, Bor}
+use Rattle.std.proofs.Common.{◌≡◌, ℕ, zero, suc, ◌+◌, ◌<◌, ◌≤◌, arith, true, false, List, [], ◌∷◌, ◌++◌, length, take, Option, Some, None, map, refl, sym, ◌∙◌, ap, subst, Bor}
 use Rattle.std.specs.Prelude.{slice_get, flat_map, option_map, IfSome}
+use Rattle.std.specs.Option.{is_some}
 use Rattle.std.proofs.lemmas.List.{take_all}
 use Rattle.smv_language.specs.Language.{ProgramTree, Each, FlatInstance}
 use Rattle.smv_flat_laws.specs.Items.{Item, NumberedItem, NumberedModule, numbered_from, items_of, items_named, visits, instances_of}
 use Rattle.smv_flat_laws.specs.Rules as rules
 use Rattle.smv_flat_laws.specs.Rules.{Site, the_program, a_use, use_sites, module_sites, visit_sites, IsKept, IsWalkable, IsFirstBroken}
+use Rattle.smv_flat_laws.specs.Alike.{IsLike, AreLikes, uses_at}
 use Rattle.smv_flat_laws.proofs.Conditions.{each_join}
 use Rattle.smv_flat_laws.proofs.FaultLaws.{IsFirstOf, first_broken, in_part, after_part}
 use Rattle.smv_flat_laws.proofs.Lists.{map_joined}
+use Rattle.smv_flat_laws.proofs.Reaches.{each_left, each_right}
+use Rattle.smv_flat_laws.proofs.Repeats.{like_kept}
 use Rattle.smv_flat.specs.Assignments.{times_of, AreTimes, IsItemTold, IsFaultAt, IsPlaceTold}
 use Rattle.smv_scope.specs.Faults.{rule_of, IsFaultOf}
 use Rattle.smv_scope.specs.SceneTree.{number_and_item, items_of_instance, items_at, IsScene, program_of}
+use Rattle.smv_scope.specs.Likes.{like_at}
+use Rattle.smv_scope.proofs.LikeLaws.{is_like}
 use Rattle.smv_flat.specs.Verdicts.{IsToldRule, IsFirstAt, IsInstanceTold}
 use Rattle.smv_scope.specs.declared.fault.FlatFault.{FlatFault}
 use Rattle.smv_scope.specs.declared.fault.FlatRule.{FlatRule as Code}
@@ -190,6 +196,29 @@ one_more_instance s scene spot within h so_far =
   where
     at : (at : FlatInstance) × (slice_get (instances_of (program_of s)) spot ≡ Some at)
     at = get_within (instances_of (program_of s)) spot (subst (λ n. spot < n) (sym (many_spots s scene)) within)
+
+-- what is kept at all instances so far is kept at one of them
+kept_before : (p : ProgramTree) (spot : ℕ) (ats : List FlatInstance) (j : ℕ) (at : FlatInstance) → j < spot → slice_get ats j ≡ Some at → Each (IsKept p) (sites_of p (take spot ats)) → Each (IsKept p) (uses_at p at)
+kept_before p zero ats j at before e h = absurd (omega (arith, before))
+kept_before p (suc spot) [] j at before e h = absurd (none_some at e)
+kept_before p (suc spot) (x ∷ ats) zero at before e h = subst (λ y. Each (IsKept p) (uses_at p y)) (some_same x at e) (each_left (IsKept p) (uses_at p x) (sites_of p (take spot ats)) h)
+kept_before p (suc spot) (x ∷ ats) (suc j) at before e h =
+    kept_before p spot ats j at (omega (arith, before)) e (each_right (IsKept p) (uses_at p x) (sites_of p (take spot ats)) h)
+
+-- an instance that repeats one of those so far
+pub like_instance : (s : Scene) → IsScene s → (spot j : ℕ) → spot < length s.spots.items → IsLike (program_of s) spot j → InstancesSoFar (program_of s) spot → InstancesSoFar (program_of s) (spot + 1)
+like_instance s scene spot j within like so_far = one_more_instance s scene spot within told so_far
+  where
+    told : IsInstanceTold (program_of s) spot None
+    told at at_spot =
+        subst (λ y. Each (IsKept (program_of s)) (uses_at (program_of s) y)) (some_same like.later at (sym like.is_later ∙ at_spot))
+        (like_kept (program_of s) spot j like (kept_before (program_of s) spot (instances_of (program_of s)) j like.first like.earlier like.is_first so_far))
+
+-- an instance for which the table has an earlier one
+pub passed_over : (s : Scene) → IsScene s → (likes : List (Option ℕ)) → AreLikes (program_of s) likes → (spot : ℕ) → spot < length s.spots.items → (o : Option ℕ) → o ≡ like_at likes spot → is_some o ≡ true →
+    InstancesSoFar (program_of s) spot → InstancesSoFar (program_of s) (spot + 1)
+passed_over s scene likes known spot within None is some so_far = let bad : false ≡ true = some in cc
+passed_over s scene likes known spot within (Some j) is some so_far = like_instance s scene spot j within (is_like (program_of s) likes known spot j (sym is)) so_far
 
 first_of_sites : (p : ProgramTree) (ss : List Site) (item : ℕ) (rule : rules.Rule) → IsFirstAt p ss item rule → IsFirstOf p rule item ss
 first_of_sites p ss item rule h = record {

@@ -2,6 +2,8 @@
 //! function; each kind of item has a function `judge_..` that asks `values` what may be wrong, and one `rule_of_..`
 //! that tells which rule that breaks first where the expression stands.
 //!
+//! An instance that repeats an earlier one ([`Likes`]) breaks what that one breaks, so it isn't tried.
+//!
 //! Whether a target is assigned twice is known from the assignments before: for each target of an instance [`Times`] has
 //! the moments of which they speak.
 ghost use Rattle.std.specs.Prelude.{◌≡◌, ◌∷◌, [], if◌then◌else◌, IfOk, IfErr, OnOk};
@@ -30,6 +32,7 @@ use smv_language::model::Role;
 use smv_language::{Assignment, Decl, Declared, Define, Expr, Moment};
 use smv_scope::fault::{FlatFault, FlatRule};
 use smv_scope::items::Item;
+use smv_scope::likes::Likes;
 use smv_scope::modules::Local;
 use smv_scope::names::Scene;
 use smv_scope::walk::Meaning;
@@ -49,7 +52,11 @@ pub(crate) fn judge(alloc: Global, scope: &Scope<'_>) -> Result<(), FlatFault>
     ensures kept { IfOk result (λ _. Each (IsKept (program_of scope.now.scene)) (use_sites (program_of scope.now.scene))) }
     ensures fault { IfErr result (IsFaultOf (program_of scope.now.scene)) }
 {
+    let likes = Likes::of_scene(alloc, &scope.scene)?;
     for spot in 0..scope.scene.spots.len() {
+        if likes.at(spot).is_some() {
+            continue;
+        }
         match judge_instance(alloc, scope, spot) {
             Ok(None) => {}
             Ok(Some(fault)) => return Err(fault),

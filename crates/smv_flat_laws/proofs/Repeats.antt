@@ -1,14 +1,14 @@
 -- Instances that repeat others: how they are known, and that they break none of the rules that those keep.
-use Rattle.std.proofs.Common.{◌≡◌, ℕ, ◌<◌, List, [], ◌∷◌, ◌++◌, Some, map, refl, sym, ◌∙◌, ap, subst, inl, inr, append_assoc}
+use Rattle.std.proofs.Common.{◌≡◌, ℕ, arith, List, [], ◌∷◌, ◌++◌, Some, map, refl, sym, ◌∙◌, ap, subst, inl, inr, append_assoc}
 use Rattle.std.specs.Prelude.{◌⊎◌, slice_get, codes}
 use Rattle.std.proofs.lemmas.Option.{same_Some as some_same}
-use Rattle.smv_language.specs.Language.{Text, ModuleTree, ProgramTree, Place, find_module, module_at, IsInstance, Each, FlatInstance}
+use Rattle.smv_language.specs.Language.{Text, ModuleTree, ProgramTree, Place, find_module, module_at, IsInstance, Each, FlatInstance, boolean, instance, var}
 use Rattle.smv_language.proofs.ProgramLaws.{found_named}
 use Rattle.smv_flat_laws.specs.Items.{NumberedItem, items_named, instances_of}
 use Rattle.smv_flat_laws.specs.Rules.{Rule, a_use, BreaksAtUse, IsKept, IsWalkable}
-use Rattle.smv_flat_laws.specs.Alike.{AreAlike, RepeatsPlace, IsLike, LikeIsKept, SameModuleIsLike, InsideIsLike, RepeatsAgain}
+use Rattle.smv_flat_laws.specs.Alike.{RepeatsPlace, IsLike, LikeIsKept, SameModuleIsLike, InsideIsLike, RepeatsAgain}
 use Rattle.smv_flat_laws.proofs.AlikeBreak.{alike_break}
-use Rattle.smv_flat_laws.proofs.AlikeMeant.{alike_back, same_module}
+use Rattle.smv_flat_laws.proofs.AlikeMeant.{same_module}
 use Rattle.smv_flat_laws.proofs.Places.{are_instances}
 use Rattle.smv_flat_laws.proofs.Sections.{AreInstances}
 use Rattle.smv_flat_laws.proofs.Walkable.{main_is_there}
@@ -162,3 +162,35 @@ repeats_again p at bt ct r q = by_end (ends r.inside r.later_outer q.inside q.fi
       is_first = r.is_first ∙ ap (λ dt. dt ++ r.first_outer) t.longer ∙ append_assoc q.inside t.between r.first_outer;
       is_later = q.is_later;
     }
+
+-- MODULE main VAR a : M; b : M; MODULE M VAR on : boolean;
+abbrev module_m : ModuleTree
+module_m = record { name = codes "M"; formals = []; sections = var (record { name = codes "on"; what = boolean } ∷ []) ∷ [] }
+
+abbrev twice : ProgramTree
+twice =
+    record {
+      name = codes "main";
+      formals = [];
+      sections = var (record { name = codes "a"; what = instance (codes "M") [] } ∷ record { name = codes "b"; what = instance (codes "M") [] } ∷ []) ∷ [];
+    } ∷
+    module_m ∷ []
+
+-- b repeats a
+example : IsLike twice 2 1
+example = record {
+  earlier = omega arith;
+  later = record { place = codes "b" ∷ []; module_name = codes "M" };
+  is_later = refl;
+  first = record { place = codes "a" ∷ []; module_name = codes "M" };
+  is_first = refl;
+  repeats = record {
+    inside = [];
+    first_outer = codes "a" ∷ [];
+    later_outer = codes "b" ∷ [];
+    alike = record { tree = module_m; first = refl; second = refl; no_formals = refl };
+    is_first = refl;
+    is_later = refl;
+  };
+  same_name = refl;
+}
