@@ -105,6 +105,7 @@ fn blocking(
     let clause = chosen(alloc, bits, &broken, &cores.first, &cores.after)?;
     let least = smaller(outline, at, clause, kept, panel)?;
     outline.weights.note(least.lits())?;
+    outline.spoilers.block(at.level, &least);
     Ok(least)
 }
 

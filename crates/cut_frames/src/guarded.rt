@@ -21,6 +21,7 @@ ghost use Rattle.cut_frames.specs.GuardedSearch.{HoldsSimple, TakesSimple};
 ghost use Rattle.sat_solver.specs.declared.solve.Verdict.TheVariants.{Unsat};
 
 use crate::apart::simpler_apart;
+use crate::bits::State;
 use crate::highest::highest;
 use crate::simple::SimpleLists;
 use base_values::OutOfMemory;
@@ -283,6 +284,16 @@ impl Guarded {
         ensures { self.new ≡ self.old }
     {
         self.search.shun(self.bad, lits);
+    }
+
+    /// The values of so many variables from a number on, as the last question left them. After one that found no clause they are those of an
+    /// assignment, in most cases; nothing is promised of them.
+    pub fn guess(&self, from: u64, count: u64) -> Result<State, OutOfMemory> {
+        let mut values = State::new(*self.frames.allocator());
+        for i in 0..count {
+            values.push(self.search.guess(from.saturating_add(i)))?;
+        }
+        Ok(values)
     }
 
     /// Adds a clause as it is.

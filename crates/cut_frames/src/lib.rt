@@ -51,6 +51,7 @@ mod shown;
 mod shrink;
 mod simple;
 mod smaller;
+mod spoilers;
 mod steps;
 mod waiting;
 mod walk;

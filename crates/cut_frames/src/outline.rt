@@ -2,7 +2,7 @@
 //! value is true in every first state, and one that a known first state breaks is not, so nearly all questions about first states are
 //! answered without the search. [`Outline::find`] asks once, one easy question for each state bit at most; [`Outline::core`] answers
 //! which literals of a clause every first state makes true. Beside that, how often literals stood in clauses that block, the
-//! states that wait to be raised, and those that paths have reached.
+//! states that wait to be raised, those that paths have reached, and the steps that spoiled smaller clauses.
 ghost use Rattle.std.specs.Prelude.{◌≡◌, ◌≤◌, ◌<◌, ◌-◌, ◌^◌, [], IfOk, OnOk, IfSome, Some, None, All, Contains, not, slice_index_or, map};
 ghost use Rattle.sat_clauses.specs.Hints.{HasNoOpposites};
 ghost use Rattle.sat_clauses.specs.Literal.{opposite};
@@ -15,6 +15,7 @@ ghost use Rattle.cut_frames.specs.Parts.{IsPart, IsOfFirst, IsAgreed, AreAgreed,
 use crate::bits::{State, broken_by, literals, read, turned};
 use crate::guarded::{Beside, Guarded};
 use crate::reached::{Reached, is_outside};
+use crate::spoilers::Spoilers;
 use crate::waiting::Raised;
 use crate::weights::Weights;
 use base_values::OutOfMemory;
@@ -40,6 +41,8 @@ pub struct Outline {
     pub raised: Raised,
     /// The states of the paths that were found.
     pub reached: Reached,
+    /// The steps that spoiled smaller clauses.
+    pub spoilers: Spoilers,
     /// First states that answers have shown, the newest last.
     starts: Vec<State>,
     /// Whether [`Outline::find`] has asked.
@@ -56,6 +59,7 @@ impl Outline {
             weights: Weights::new(alloc),
             raised: Raised::new(alloc),
             reached: Reached::new(alloc),
+            spoilers: Spoilers::new(alloc),
             starts: Vec::new(alloc),
             is_found: false,
         }

@@ -1,7 +1,8 @@
 //! Smaller clauses: what blocks a state holds more literals than it needs, and one with fewer blocks more states. [`smaller`] takes
 //! literals out of a blocking clause one by one, first those that stand in few other clauses. Each try is made by the questions that showed
 //! the clause, about the first states and about the steps from the frame before, and takes over what their answers need; where a state
-//! that a path has reached breaks what is left, none is asked. After some tries in vain the clause stays as it is.
+//! that a path has reached breaks what is left, or one after a step that spoiled a try before, none is asked. After some tries in vain the
+//! clause stays as it is.
 ghost use Rattle.std.specs.Prelude.{◌≡◌, ◌≤◌, ◌<◌, ◌+◌, ◌^◌, ℕ, not, nat_eq, length, IfOk, IfSome, All, true, false, slice_index_or};
 ghost use Rattle.std.specs.Prelude.{filter};
 ghost use Rattle.cut_frames.specs.GuardedSearch.{HasAsked};
@@ -170,13 +171,16 @@ fn part_of(
     ensures stands { IfOk result (λ r. IfSome r (MayStand at.entry.system.now (frames_of at.entry.frames.now) at.entry.level)) }
     ensures asked { IfOk result (λ _. HasAsked kept.old kept.new) }
 {
-    if outline.reached.has_outside(at.level, clause) {
+    if outline.reached.has_outside(at.level, clause)
+        || outline.spoilers.has_outside(at.level - 1, clause)
+    {
         return Ok(None);
     }
     let Some(first) = outline.core(at.system, clause, kept, panel)? else {
         return Ok(None);
     };
     let Some(after) = step_core(at, clause, kept, panel)? else {
+        outline.spoilers.note(at, kept)?;
         return Ok(None);
     };
     let cores = Cores { first, after };

@@ -128,6 +128,14 @@ impl Kept {
         }
     }
 
+    /// Whether the last question left a variable true.
+    fn guess(&self, var: u64) -> bool {
+        match &self.kernel {
+            Some(kernel) => kernel.is_true(var),
+            None => false,
+        }
+    }
+
     /// Raises the highest variable by one, and answers it.
     fn fresh(&mut self, panel: &mut Panel) -> Result<u64, OutOfMemory>
         ensures var { IfOk result (IsNextVariable self.old.vars) }
@@ -422,6 +430,12 @@ impl<R: Recorder + Drop> Search<R> {
         ensures { self.new ≡ self.old }
     {
         self.kept.shun(guard, lits);
+    }
+
+    /// Whether the last question left a variable true. After [`Search::refute`] found no clause the values are those of an assignment, in most
+    /// cases; nothing is promised of them.
+    pub fn guess(&self, var: u64) -> bool {
+        self.kept.guess(var)
     }
 
     /// Raises the highest variable by one, and answers it.

@@ -71,7 +71,7 @@ const AFTER: &[u8] =
 static GIVEN: [File; 3] = [
     ("m", Some(PAIR)),
     ("f", Some(BOTH)),
-    ("t", Some(b"a & b; n = 3")),
+    ("t", Some(b"a & b | n = 3; n = 3")),
 ];
 
 static SURGED: [File; 3] = [("m", Some(PAIR)), ("f", Some(BOTH)), ("s", Some(SURGE))];
