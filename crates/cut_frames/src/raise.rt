@@ -21,7 +21,7 @@ use base_values::OutOfMemory;
 use sat_adviser::Panel;
 
 /// How often states are looked at after a bad state was blocked, beside once for each frame.
-const TURNS: usize = 256;
+const TURNS: usize = 4096;
 
 /// Looks once at a state that waits: what blocks it is put into the frames up to its own, and it waits for the frame above; or a state from
 /// which a step leads to it waits before it.
