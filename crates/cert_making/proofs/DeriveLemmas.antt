@@ -1,15 +1,16 @@
 -- A derivation of one part, goal by goal, and that it can be written.
-use Rattle.std.proofs.Common.{◌≡◌, ◌≢◌, ◌⊎◌, inl, inr, ℕ, suc, ◌+◌, ◌-◌, ◌≤◌, ◌<◌, ◌^◌, Bool, true, false, nat_eq, eq-eqb, List, [], ◌∷◌, ◌++◌, length, take, get_or, max, Option, Some, None, refl, sym, ◌∙◌, ap, subst, arith, append_assoc, length-append}
-use Rattle.std.specs.Prelude.{All, Contains, slice_get, map, replicate, if◌then◌else◌}
+use Rattle.std.proofs.Common.{◌≡◌, ◌≢◌, ◌⊎◌, inl, inr, ℕ, zero, suc, nat_lt, ◌+◌, ◌-◌, ◌≤◌, ◌<◌, ◌^◌, Bool, true, false, nat_eq, eq-eqb, List, [], ◌∷◌, ◌++◌, length, take, get_or, max, Option, Some, None, refl, sym, ◌∙◌, ap, subst, arith, append_assoc, length-append}
+use Rattle.std.specs.Prelude.{All, Any, Contains, slice_get, slice_index_or, map, replicate, if◌then◌else◌}
 use Rattle.std.specs.Option.{option_map}
 use Rattle.std.specs.List.{AllByRecursion}
 use Rattle.std.proofs.lemmas.Bool.{cases_eq}
 use Rattle.std.proofs.lemmas.List.{append-nil, replicate-append-replicate, take_more, take_all}
-use Rattle.std.proofs.lemmas.List.Elements.{recursion_from_All, Contains-push_cases}
+use Rattle.std.proofs.lemmas.List.Elements.{recursion_from_All, All-contains, Contains-push_cases}
+use Rattle.std.proofs.lemmas.List.Folds.{Any-from_list_any, list_any-from_Any}
 use Rattle.std.proofs.lemmas.Option.{same_Some, slice_get_within, get_or_from_slice_get}
-use Rattle.sat_clauses.specs.Literal.{Literal}
+use Rattle.sat_clauses.specs.Literal.{Literal, opposite}
 use Rattle.sat_clauses.specs.Assignment.{Assignment, made_true}
-use Rattle.sat_clauses.specs.Models.{FollowsFrom}
+use Rattle.sat_clauses.specs.Models.{FollowsFrom, literal_value}
 use Rattle.sat_clauses.specs.Truth.{truth_of}
 use Rattle.sat_clauses.specs.declared.clause.Truth.{Truth}
 use Rattle.sat_clauses.specs.declared.clause.Truth.TheVariants.{False, Unit as UnitClause}
@@ -22,16 +23,17 @@ use Rattle.sat_solver.specs.KeptRecord.{KeptValue}
 use Rattle.sat_solver.specs.LearnedClauses.{added_of, HasLearned, IsAnswer}
 use Rattle.sat_solver.specs.declared.solve.Verdict.{Verdict}
 use Rattle.sat_solver.specs.declared.solve.Verdict.TheVariants.{Sat, Unsat}
-use Rattle.sat_clauses.proofs.FalseLemmas.{All-slice_get}
+use Rattle.sat_clauses.proofs.FalseLemmas.{All-slice_get, opposite-opposite}
+use Rattle.sat_clauses.proofs.ModelLemmas.{All-from_Satisfies}
 use Rattle.sat_solver.proofs.KeptLemmas.{length_with_steps}
 use Rattle.cert_laws.specs.Acceptance.{highest_in, highest, Covers}
 use Rattle.cert_laws.specs.CertificateText.{IsCount, IsLiteral, IsHint, IsWritableStep, AreWritable}
-use Rattle.cert_laws.specs.Derivations.{asked, IsContinued}
+use Rattle.cert_laws.specs.Derivations.{asked, MayBeAsked, IsContinued}
 use Rattle.cert_laws.proofs.Asked.{derivations_go_on}
 use Rattle.cert_laws.proofs.Steps.{with_joined, with_more}
 use Rattle.cert_making.specs.Queries.{IsSoFar}
 use Rattle.cert_making.specs.PartDerivations.{IsPartWay, HasPositive}
-use Rattle.cert_making.proofs.Queries.{queries_derive}
+use Rattle.cert_making.proofs.Queries.{clauses_bounded, steps_bounded}
 use Rattle.cert_laws.proofs.Highest.{at_least_one, at_least_one_of}
 
 pub begins_highest_in : (c : List Literal) → max 1 (highest_in c) ≡ highest_in c
@@ -71,14 +73,50 @@ marks_more givens done more =
     append_assoc (replicate (length givens) false) (replicate (length done) true) (replicate (length more) true)
     ∙ ap (λ ms. replicate (length givens) false ++ ms) (replicate-append-replicate (length done) (length more) true ∙ ap (λ n. replicate n true) (sym (length-append done more)))
 
+-- What is asked of a goal may be asked, whether it follows or not.
+follows_itself : (goal : List Literal) → FollowsFrom (goal ∷ []) goal
+follows_itself goal v model = (All-from_Satisfies v (goal ∷ []) model) 0 [] (omega arith)
+
+may_be_asked : (vars : ℕ) (goal : List Literal) → HasNoOpposites goal → MayBeAsked vars goal
+may_be_asked vars goal apart = (derivations_go_on vars (goal ∷ []) [] goal tt apart (follows_itself goal)).0
+
+-- A literal whose opposite is asked is one of the goal, so where a core of such literals follows the goal does.
+in_goal : (vars : ℕ) (c : List Literal) (l : Literal) → Contains (asked vars c) (opposite l) → Contains c l
+in_goal vars [] l m = absurd (omega (arith, m.1))
+in_goal vars (k ∷ ks) l m = by_test (nat_lt vars k.var) m (λ n. in_goal vars ks l n)
+  where
+    behind : Contains ks l → Contains (k ∷ ks) l
+    behind n = (suc n.0, omega (arith, n.1), n.2)
+
+    by_place : (i : ℕ) → i < length (opposite k ∷ asked vars ks) → slice_index_or (opposite k ∷ asked vars ks) i (opposite l) ≡ opposite l →
+        (Contains (asked vars ks) (opposite l) → Contains ks l) → Contains (k ∷ ks) l
+    by_place zero h e rest = (0, omega arith, sym (opposite-opposite k) ∙ ap opposite e ∙ opposite-opposite l)
+    by_place (suc i) h e rest = behind (rest (i, omega (arith, h), e))
+
+    by_test : (b : Bool) → Contains (if b then asked vars ks else opposite k ∷ asked vars ks) (opposite l) → (Contains (asked vars ks) (opposite l) → Contains ks l) → Contains (k ∷ ks) l
+    by_test true n rest = behind (rest n)
+    by_test false n rest = by_place n.0 n.1 n.2 rest
+
+goal_follows : (vars : ℕ) (givens : List (List Literal)) (goal core : List Literal) → All (λ l. Contains (asked vars goal) (opposite l)) core → FollowsFrom givens core → FollowsFrom givens goal
+goal_follows vars givens goal core negated follows v model =
+    let some : Any (λ l. literal_value v l ≡ true) core = Any-from_list_any (literal_value v) core (follows v model) in
+    let inside : Contains goal some.1 = in_goal vars goal some.1 (All-contains (λ l. Contains (asked vars goal) (opposite l)) core some.1 negated (some.0, some.2, some.3)) in
+    list_any-from_Any (literal_value v) goal (inside.0, some.1, inside.1, inside.2, some.4)
+
 -- One goal further.
-module _ (givens goals : List (List Literal)) (place : ℕ) (goal : List Literal) (search : KeptValue) (done : List Step) (low : highest givens < 2 ^ 62) (follow : All (FollowsFrom givens) goals) (apart : All HasNoOpposites goals)
+module _ (givens goals : List (List Literal)) (place : ℕ) (goal : List Literal) (search : KeptValue) (done : List Step) (low : highest givens < 2 ^ 62) (apart : All HasNoOpposites goals)
     (at : slice_get goals place ≡ Some goal) (way : IsPartWay givens search done (take place goals)) where
   pub can_be_asked : CanSolve search.vars search.clauses (asked search.vars goal)
   can_be_asked =
       subst (λ n. CanSolve n search.clauses (asked n goal)) (sym way.vars)
       (subst (λ cs. CanSolve (highest givens) cs (asked (highest givens) goal)) (sym way.clauses)
-      (queries_derive givens done (take place goals) goal low way.so_far (All-slice_get HasNoOpposites goals place goal at apart) (All-slice_get (FollowsFrom givens) goals place goal at follow)).0)
+      (let may = may_be_asked (highest givens) goal (All-slice_get HasNoOpposites goals place goal at apart) in
+      record {
+        vars = low;
+        clauses_in_range = steps_bounded (highest givens) givens done (clauses_bounded givens) way.so_far.are_steps;
+        assumptions_in_range = may.in_range;
+        apart = may.no_opposites;
+      }))
 
   next_goals : take (place + 1) goals ≡ take place goals ++ goal ∷ []
   next_goals = take_more goals place goal (slice_get_within goals place goal at) ∙ ap (λ g. take place goals ++ g ∷ []) (get_or_from_slice_get goals place goal goal at)
@@ -86,14 +124,17 @@ module _ (givens goals : List (List Literal)) (place : ℕ) (goal : List Literal
   added : added_of search.clauses search.marks ≡ givens
   added = ap (λ cs. added_of cs search.marks) way.clauses ∙ ap (added_of (with_steps givens done)) way.marks ∙ added_are givens done
 
-  -- with what was learned, an answer is a refutation by it
-  refuted : (new : KeptValue) (kept : List Step) (verdict : Verdict) → IsAnswer true (highest givens) givens new.clauses (asked (highest givens) goal) verdict →
+  -- of a goal that follows no assignment is found
+  not_found : (new : KeptValue) (a : Assignment) → All (FollowsFrom givens) goals → IsAnswer true (highest givens) givens new.clauses (asked (highest givens) goal) (Sat a) → ⊥
+  not_found new a follow is =
+      (derivations_go_on (highest givens) givens [] goal tt (All-slice_get HasNoOpposites goals place goal at apart) (All-slice_get (FollowsFrom givens) goals place goal at follow)).1 a
+      (record { places = is.places; clauses_true = is.clauses_true; assumptions_true = is.assumptions_true })
+
+  -- with what was learned, a core is a refutation by it
+  refuted : (new : KeptValue) (kept : List Step) (core : List Literal) → IsAnswer true (highest givens) givens new.clauses (asked (highest givens) goal) (Unsat core) →
       (learned : HasLearned (highest givens) search.clauses search.marks (Some done) new.clauses new.marks (Some kept)) → IsContinued (highest givens) givens done learned.steps goal
-  refuted new kept (Sat a) is learned =
-      absurd ((derivations_go_on (highest givens) givens [] goal tt (All-slice_get HasNoOpposites goals place goal at apart) (All-slice_get (FollowsFrom givens) goals place goal at follow)).1 a
-      (record { places = is.places; clauses_true = is.clauses_true; assumptions_true = is.assumptions_true }))
-  refuted new kept (Unsat core) is learned =
-      (derivations_go_on (highest givens) givens done goal way.so_far.are_steps (All-slice_get HasNoOpposites goals place goal at apart) (All-slice_get (FollowsFrom givens) goals place goal at follow)).2 learned.steps
+  refuted new kept core is learned =
+      (derivations_go_on (highest givens) givens done goal way.so_far.are_steps (All-slice_get HasNoOpposites goals place goal at apart) (goal_follows (highest givens) givens goal core is.negated is.follows)).2 learned.steps
       (record {
         core = core;
         are_steps = subst (λ cs. AreSteps (highest givens) cs learned.steps) way.clauses learned.are_steps;
@@ -101,15 +142,23 @@ module _ (givens goals : List (List Literal)) (place : ℕ) (goal : List Literal
         listed = subst (λ cs. Contains cs core) (learned.clauses ∙ ap (λ cs. with_steps cs learned.steps) way.clauses) (is.listed refl);
       })
 
-  pub further : (new : KeptValue) (kept : List Step) (verdict : Verdict) → IsAnswer true search.vars (added_of search.clauses search.marks) new.clauses (asked search.vars goal) verdict →
-      HasLearned search.vars search.clauses search.marks (Some done) new.clauses new.marks (Some kept) → new.vars ≡ search.vars → IsPartWay givens new kept (take (place + 1) goals)
-  further new kept verdict is learned same =
-      let told : IsAnswer true (highest givens) givens new.clauses (asked (highest givens) goal) verdict =
+  -- the answer as one about the clauses given
+  told_of : (new : KeptValue) (verdict : Verdict) → IsAnswer true search.vars (added_of search.clauses search.marks) new.clauses (asked search.vars goal) verdict →
+      IsAnswer true (highest givens) givens new.clauses (asked (highest givens) goal) verdict
+  told_of new verdict is =
       subst (λ cs. IsAnswer true (highest givens) cs new.clauses (asked (highest givens) goal) verdict) added
-      (subst (λ n. IsAnswer true n (added_of search.clauses search.marks) new.clauses (asked n goal) verdict) way.vars is) in
+      (subst (λ n. IsAnswer true n (added_of search.clauses search.marks) new.clauses (asked n goal) verdict) way.vars is)
+
+  pub follows_then : (new : KeptValue) (a : Assignment) → IsAnswer true search.vars (added_of search.clauses search.marks) new.clauses (asked search.vars goal) (Sat a) → All (FollowsFrom givens) goals → ⊥
+  follows_then new a is follow = not_found new a follow (told_of new (Sat a) is)
+
+  pub further : (new : KeptValue) (kept : List Step) (core : List Literal) → IsAnswer true search.vars (added_of search.clauses search.marks) new.clauses (asked search.vars goal) (Unsat core) →
+      HasLearned search.vars search.clauses search.marks (Some done) new.clauses new.marks (Some kept) → new.vars ≡ search.vars → IsPartWay givens new kept (take (place + 1) goals)
+  further new kept core is learned same =
+      let told : IsAnswer true (highest givens) givens new.clauses (asked (highest givens) goal) (Unsat core) = told_of new (Unsat core) is in
       let more : HasLearned (highest givens) search.clauses search.marks (Some done) new.clauses new.marks (Some kept) =
       subst (λ n. HasLearned n search.clauses search.marks (Some done) new.clauses new.marks (Some kept)) way.vars learned in
-      let next : IsContinued (highest givens) givens done more.steps goal = refuted new kept verdict told more in
+      let next : IsContinued (highest givens) givens done more.steps goal = refuted new kept core told more in
       let kept_is : kept ≡ done ++ more.steps = same_Some kept (done ++ more.steps) more.kept in
       record {
         vars = same ∙ way.vars;

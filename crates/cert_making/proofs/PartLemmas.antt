@@ -31,6 +31,10 @@ module _ (system : System) (invariant bad : List (List Literal)) (over : All (Is
   pub bad_follow : All (FollowsFrom (bad ++ invariant)) ([] ∷ [])
   bad_follow = follow_in part_bad
 
+-- What all clauses of a list have, clauses that are among them have.
+pub all_among : (P : List Literal → Type 0) (list clauses : List (List Literal)) → All P list → All (Contains list) clauses → All P clauses
+all_among P list clauses all among k d within = All-contains P list (get_or clauses k d) all (among k d within)
+
 -- A clause over the state next has no opposites where it had none.
 module _ (bits : ℕ) where
   contains_back : (c : List Literal) (l : Literal) → Contains (map (moved_on bits) c) l → (k : Literal) × Contains c k × (moved_on bits k ≡ l)

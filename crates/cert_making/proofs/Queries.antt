@@ -31,7 +31,7 @@ clauses_bounded (c ∷ cs) =
     (λ i e inside k d within. let h : (slice_index_or (slice_index_or cs i e) k d).var ≤ highest cs = clauses_bounded cs i e inside k d within in omega (arith, h))
 
 -- and steps over variables up to it stay within it
-steps_bounded : (vars : ℕ) (cs : List (List Literal)) (steps : List Step) → All (All (IsUpTo vars)) cs → AreSteps vars cs steps → All (All (IsUpTo vars)) (with_steps cs steps)
+pub steps_bounded : (vars : ℕ) (cs : List (List Literal)) (steps : List Step) → All (All (IsUpTo vars)) cs → AreSteps vars cs steps → All (All (IsUpTo vars)) (with_steps cs steps)
 steps_bounded vars cs [] h are = h
 steps_bounded vars cs (s ∷ ss) h are =
     steps_bounded vars (cs ++ s.clause ∷ []) ss (All-append (All (IsUpTo vars)) cs (s.clause ∷ []) h (All-cons (All (IsUpTo vars)) s.clause [] are.0.in_range (All-nil (All (IsUpTo vars))))) are.1

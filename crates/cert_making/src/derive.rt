@@ -2,9 +2,11 @@
 //!
 //! [`derive`] is the main function. It has one search that keeps all its steps: the clauses given are added, once, and then it is
 //! asked for each goal in turn and learns the clauses of its steps. Between the goals stands `IsPartWay`: what the search has, and that
-//! the steps so far cover the goals so far.
-ghost use Rattle.std.specs.Prelude.{◌≡◌, ◌+◌, ◌<◌, ◌≤◌, ◌^◌, true, [], length, take, All, IfOk, OnOk};
+//! the steps so far cover the goals so far. Where a goal does not follow there is no derivation.
+ghost use Rattle.std.specs.Prelude.{◌≡◌, ◌≢◌, ◌+◌, ◌<◌, ◌≤◌, ◌^◌, true, false, List, [], length, take, slice_get, All, IfOk, IfSome, Some, None, IsTrue};
 ghost use Rattle.sat_clauses.specs.Literal.{Literal};
+ghost use Rattle.sat_clauses.specs.Assignment.{Assignment};
+ghost use Rattle.sat_solver.specs.declared.solve.Verdict.TheVariants.{Sat, Unsat};
 ghost use Rattle.sat_clauses.specs.Models.{FollowsFrom};
 ghost use Rattle.sat_clauses.specs.Derivation.{IsUpTo};
 ghost use Rattle.sat_clauses.specs.Hints.{HasNoOpposites};
@@ -20,6 +22,7 @@ use sat_clauses::clause::ClauseList;
 use sat_clauses::lit::Lit;
 use sat_clauses::recorder::{KeepAll, StepsList};
 use sat_solver::kept::Search;
+use sat_solver::solve::Verdict;
 use std::alloc::Global;
 
 // The first number that no variable of a search has.
@@ -63,7 +66,7 @@ fn question(alloc: Global, vars: u64, goal: &[Lit]) -> Result<Vec<Lit>, OutOfMem
     Ok(lits)
 }
 
-// A part of a certificate: goals that follow from clauses given, whose highest variable is this.
+// A part of a certificate: goals to be derived from clauses given, whose highest variable is this.
 #[derive(Drop)]
 struct Part<'a> {
     givens: &'a ClauseList,
@@ -72,7 +75,6 @@ struct Part<'a> {
     ghost small: { highest givens.now < 2 ^ 62 },
     ghost highest: { vars ≡ highest givens.now },
     ghost in_range: { All (All (IsUpTo vars)) givens.now },
-    ghost follow: { All (FollowsFrom givens.now) goals.now },
     ghost apart: { All HasNoOpposites goals.now },
 }
 
@@ -96,25 +98,37 @@ fn tell(derived: usize, count: usize, panel: &mut Panel)
     panel.hears(&news);
 }
 
-// Derives one more goal.
+// Whether a question has no solution.
+fn is_refuted(verdict: &Verdict) -> bool
+    ensures refuted { result ≡ true → (core : List Literal) × (verdict.now ≡ Unsat core) }
+    ensures solved { result ≡ false → (values : Assignment) × (verdict.now ≡ Sat values) }
+{
+    match verdict {
+        Verdict::Unsat(_core) => true,
+        Verdict::Sat(_values) => false,
+    }
+}
+
+// Derives one more goal, where it follows.
 fn cover(
     alloc: Global,
     part: &Part,
     place: usize,
     search: &mut Search<KeepAll>,
     panel: &mut Panel,
-) -> Result<(), OutOfMemory>
+) -> Result<bool, OutOfMemory>
     requires place { place < length part.now.goals.now }
     requires cores { search.old.cores ≡ true }
     requires before { IsPartWay part.now.givens.now search.old.kept search.old.recorder (take place part.now.goals.now) }
-    ensures way { OnOk result
-        (IsPartWay part.now.givens.now search.new.kept search.new.recorder (take (place + 1) part.now.goals.now)) }
+    ensures way { IfOk result (λ covered. covered ≡ true →
+        IsPartWay part.now.givens.now search.new.kept search.new.recorder (take (place + 1) part.now.goals.now)) }
+    ensures follows { IfOk result (λ covered. All (FollowsFrom part.now.givens.now) part.now.goals.now → covered ≡ true) }
     ensures cores { search.new.cores ≡ true }
 {
     let assumed = question(alloc, part.vars, part.goals.at(place).lits())?;
     tell(place, part.goals.len(), panel);
-    let _verdict = search.ask(assumed.as_slice(), panel)?;
-    Ok(())
+    let verdict = search.ask(assumed.as_slice(), panel)?;
+    Ok(is_refuted(&verdict))
 }
 
 // Sees that the variables of literals are positive.
@@ -155,17 +169,17 @@ fn finished(part: &Part, search: &Search<KeepAll>) -> Result<StepsList, OutOfMem
 
 /// Steps that each follow from the clauses given and the steps before them, and cover each goal: a given clause or a step's has
 /// literals of the goal alone. They are made by one search over the clauses given and the steps so far, which is asked for each goal and
-/// keeps all its steps. Where a variable is 2^62 or more, it answers want of memory.
+/// keeps all its steps. There are none only where a goal does not follow. Where a variable is 2^62 or more, it answers want of memory.
 pub fn derive(
     alloc: Global,
     givens: &ClauseList,
     goals: &ClauseList,
     panel: &mut Panel,
-) -> Result<StepsList, OutOfMemory>
-    requires follow { All (FollowsFrom givens.now) goals.now }
+) -> Result<Option<StepsList>, OutOfMemory>
     requires apart { All HasNoOpposites goals.now }
-    ensures derived { IfOk result (λ steps. IsSoFar givens.now steps goals.now) }
-    ensures writable { IfOk result (λ steps. AreWritable steps) }
+    ensures derived { IfOk result (λ r. IfSome r (λ steps. IsSoFar givens.now steps goals.now)) }
+    ensures writable { IfOk result (λ r. IfSome r AreWritable) }
+    ensures follow { IfOk result (λ r. All (FollowsFrom givens.now) goals.now → r ≢ None) }
 {
     let vars = highest(givens);
     if vars >= END_OF_VARIABLES {
@@ -179,7 +193,11 @@ pub fn derive(
     };
     let mut search = search_over(alloc, &part)?;
     for place in 0..goals.len() {
-        cover(alloc, &part, place, &mut search, panel)?;
+        let is_covered = cover(alloc, &part, place, &mut search, panel)?;
+        if !is_covered {
+            return Ok(None);
+        }
     }
-    finished(&part, &search)
+    let steps = finished(&part, &search)?;
+    Ok(Some(steps))
 }

@@ -2,8 +2,11 @@
 //! bad states.
 //!
 //! [`derive_parts`] makes them, each from the clauses given for its part to the clauses that the part is to show. For the second the
-//! invariant is to be shown of the state next, so [`moved`] writes its clauses over the bits of that state.
-ghost use Rattle.std.specs.Prelude.{◌≡◌, ◌++◌, [], ◌∷◌, map, All, IfOk};
+//! invariant is to be shown of the state next, so [`moved`] writes its clauses over the bits of that state. Of clauses that are no
+//! invariant there are none.
+ghost use Rattle.std.specs.Prelude.{◌≡◌, ◌≢◌, ◌++◌, [], ◌∷◌, List, map, All, IfOk, IfSome, None};
+ghost use Rattle.sat_clauses.specs.Literal.{Literal};
+ghost use Rattle.sat_clauses.specs.declared.system.System.{System as SystemLists};
 ghost use Rattle.sat_clauses.specs.Hints.{HasNoOpposites};
 ghost use Rattle.sat_clauses.specs.States.{moved_on, IsOverBits, IsInvariant};
 ghost use Rattle.cert_laws.specs.CertificateText.{AreWritable};
@@ -30,8 +33,8 @@ pub struct PartDerivations {
     pub bad: StepsList,
 }
 
-// The clauses of two lists.
-fn both(list: &ClauseList, other: &ClauseList) -> Result<ClauseList, OutOfMemory>
+/// The clauses of two lists.
+pub(crate) fn both(list: &ClauseList, other: &ClauseList) -> Result<ClauseList, OutOfMemory>
     ensures { IfOk result (λ all. all ≡ list.now ++ other.now) }
 {
     let mut all = list.copy()?;
@@ -54,8 +57,12 @@ fn moved_clause(alloc: Global, system: &System, clause: &Clause) -> Result<Claus
     Clause::from_lits(alloc, lits.as_slice())
 }
 
-// The clauses, over the bits of the state next.
-fn moved(alloc: Global, system: &System, list: &ClauseList) -> Result<ClauseList, OutOfMemory>
+/// The clauses, over the bits of the state next.
+pub(crate) fn moved(
+    alloc: Global,
+    system: &System,
+    list: &ClauseList,
+) -> Result<ClauseList, OutOfMemory>
     requires { All (IsOverBits system.now) list.now }
     ensures { IfOk result (λ moved. moved ≡ map (map (moved_on system.now.state_bits)) list.now) }
 {
@@ -66,38 +73,36 @@ fn moved(alloc: Global, system: &System, list: &ClauseList) -> Result<ClauseList
     Ok(moved)
 }
 
-// That the invariant holds in each first state.
+// That the clauses hold in each first state.
 fn derive_first(
     alloc: Global,
     system: &System,
     invariant: &ClauseList,
-    bad: &ClauseList,
     panel: &mut Panel,
-) -> Result<StepsList, OutOfMemory>
+) -> Result<Option<StepsList>, OutOfMemory>
     requires over_bits { All (IsOverBits system.now) invariant.now }
     requires apart { All HasNoOpposites invariant.now }
-    requires invariant { IsInvariant system.now bad.now invariant.now }
-    ensures derived { IfOk result (λ steps. IsSoFar system.now.first steps invariant.now) }
-    ensures writable { IfOk result AreWritable }
+    ensures derived { IfOk result (λ r. IfSome r (λ steps. IsSoFar system.now.first steps invariant.now)) }
+    ensures writable { IfOk result (λ r. IfSome r AreWritable) }
+    ensures proof { IfOk result (λ r. (bad : List (List Literal)) → IsInvariant system.now bad invariant.now → r ≢ None) }
 {
     let steps = derive(alloc, &system.first, invariant, panel)?;
     Ok(steps)
 }
 
-// That every step keeps it.
+// That every step keeps them.
 fn derive_next(
     alloc: Global,
     system: &System,
     invariant: &ClauseList,
-    bad: &ClauseList,
     panel: &mut Panel,
-) -> Result<StepsList, OutOfMemory>
+) -> Result<Option<StepsList>, OutOfMemory>
     requires over_bits { All (IsOverBits system.now) invariant.now }
     requires apart { All HasNoOpposites invariant.now }
-    requires invariant { IsInvariant system.now bad.now invariant.now }
-    ensures derived { IfOk result (λ steps. IsSoFar (system.now.step
-        ++ invariant.now) steps (map (map (moved_on system.now.state_bits)) invariant.now)) }
-    ensures writable { IfOk result AreWritable }
+    ensures derived { IfOk result (λ r. IfSome r (λ steps. IsSoFar (system.now.step
+        ++ invariant.now) steps (map (map (moved_on system.now.state_bits)) invariant.now))) }
+    ensures writable { IfOk result (λ r. IfSome r AreWritable) }
+    ensures proof { IfOk result (λ r. (bad : List (List Literal)) → IsInvariant system.now bad invariant.now → r ≢ None) }
 {
     let givens = both(&system.step, invariant)?;
     let goals = moved(alloc, system, invariant)?;
@@ -105,18 +110,17 @@ fn derive_next(
     Ok(steps)
 }
 
-// That it holds in no bad state.
-fn derive_bad(
+/// That clauses hold in no bad state: the steps to the empty clause.
+pub(crate) fn derive_bad(
     alloc: Global,
-    system: &System,
     invariant: &ClauseList,
     bad: &ClauseList,
     panel: &mut Panel,
-) -> Result<StepsList, OutOfMemory>
-    requires over_bits { All (IsOverBits system.now) invariant.now }
-    requires invariant { IsInvariant system.now bad.now invariant.now }
-    ensures derived { IfOk result (λ steps. IsSoFar (bad.now ++ invariant.now) steps ([] ∷ [])) }
-    ensures writable { IfOk result AreWritable }
+) -> Result<Option<StepsList>, OutOfMemory>
+    ensures derived { IfOk result (λ r. IfSome r (λ steps. IsSoFar (bad.now ++ invariant.now) steps ([] ∷ []))) }
+    ensures writable { IfOk result (λ r. IfSome r AreWritable) }
+    ensures proof { IfOk result (λ r. (system : SystemLists) → All (IsOverBits system) invariant.now →
+        IsInvariant system bad.now invariant.now → r ≢ None) }
 {
     let givens = both(bad, invariant)?;
     let mut goals = ClauseList::new(alloc);
@@ -125,26 +129,32 @@ fn derive_bad(
     Ok(steps)
 }
 
-/// The derivations of an invariant of a system that excludes the bad states of a list. Each part's steps follow from what is given
-/// for it, cover what it is to show, and can be written.
+/// The derivations of clauses as an invariant of a system that excludes the bad states of a list. Each part's steps follow from what is
+/// given for it, cover what it is to show, and can be written. There are none only where the clauses are no such invariant.
 pub fn derive_parts(
     alloc: Global,
     system: &System,
     invariant: &ClauseList,
     bad: &ClauseList,
     panel: &mut Panel,
-) -> Result<PartDerivations, OutOfMemory>
+) -> Result<Option<PartDerivations>, OutOfMemory>
     requires over_bits { All (IsOverBits system.now) invariant.now }
     requires apart { All HasNoOpposites invariant.now }
-    requires invariant { IsInvariant system.now bad.now invariant.now }
-    ensures { IfOk result (AreDerived system.now invariant.now bad.now) }
+    ensures derived { IfOk result (λ r. IfSome r (AreDerived system.now invariant.now bad.now)) }
+    ensures proof { IfOk result (λ r. IsInvariant system.now bad.now invariant.now → r ≢ None) }
 {
-    let first = derive_first(alloc, system, invariant, bad, panel)?;
-    let next = derive_next(alloc, system, invariant, bad, panel)?;
-    let last = derive_bad(alloc, system, invariant, bad, panel)?;
-    Ok(PartDerivations {
+    let Some(first) = derive_first(alloc, system, invariant, panel)? else {
+        return Ok(None);
+    };
+    let Some(next) = derive_next(alloc, system, invariant, panel)? else {
+        return Ok(None);
+    };
+    let Some(last) = derive_bad(alloc, invariant, bad, panel)? else {
+        return Ok(None);
+    };
+    Ok(Some(PartDerivations {
         first,
         next,
         bad: last,
-    })
+    }))
 }

@@ -21,7 +21,7 @@ pub cover-requires-clause-before : goal.cover-requires-clause-before
 cover-requires-clause-before g c = c.loop-place.invariant.way
 
 pub loop-place-preserved : goal.loop-place-preserved
-loop-place-preserved g c = record { way = c.in_ok-cover.ensures.way; cores = c.cover.ensures.cores }
+loop-place-preserved g c = record { way = c.in_ok-is_covered.ensures.way c.if-not-is_covered.false; cores = c.cover.ensures.cores }
 
 pub finished-requires : goal.finished-requires
 finished-requires g c =

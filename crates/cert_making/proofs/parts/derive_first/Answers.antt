@@ -1,5 +1,5 @@
 use Rattle.cert_making.proofs.PartLemmas.{first_follow}
 use Rattle.cert_making.proofs.parts.derive_first.Goals as goal
 
-pub derive-requires-clause-follow : goal.derive-requires-clause-follow
-derive-requires-clause-follow g c = first_follow c.args.system.now c.args.invariant.now c.args.bad.now c.requires.over_bits c.requires.invariant
+pub returns-clause-proof : goal.returns-clause-proof
+returns-clause-proof g c bad is = c.in_ok-steps.ensures.follow (first_follow c.args.system.now c.args.invariant.now bad c.requires.over_bits is)
