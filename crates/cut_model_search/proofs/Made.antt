@@ -12,6 +12,7 @@ use Rattle.smv_flat_laws.specs.FlatTrace.{AreInDomains, IsFlatMoment, IsFlatTrac
 use Rattle.smv_flat_laws.specs.History.{Mode, with_history}
 use Rattle.smv_type_laws.specs.Costs.{model_cost, state_bits}
 use Rattle.sat_clauses.specs.Literal.{Literal}
+use Rattle.sat_clauses.specs.Hints.{HasNoOpposites}
 use Rattle.sat_clauses.specs.States.{State, IsBad, InFrame, IsOverBits, IsInvariant}
 use Rattle.cut_right_laws.specs.Sets.{IsRising, stands_before}
 use Rattle.cut_right_laws.specs.Right.{Shows}
@@ -166,10 +167,11 @@ module _ (v : FaultyValue) (can : CanBeSearched v) (a : Analysis) (is : IsCertif
   texts_both : AreBoth (GivesAlone (GivesTrace m)) (map (text_lines v.model) a.traces) (map (trace_of m.symbols) a.traces)
   texts_both = both_mapped (GivesAlone (GivesTrace m)) (text_lines v.model) (trace_of m.symbols) a.traces gives_alone
 
-  -- The certificate of its parts.
-  module _ (parts : PartDerivations) (derived : AreDerived (system_of full) clauses (bad_in v a.sets a.size) parts) where
+  -- The certificate of clauses and their parts.
+  module _ (some : List (List Literal)) (over : All (IsOverBits (system_of full)) some) (no_opposites : All HasNoOpposites some) (parts : PartDerivations)
+      (derived : AreDerived (system_of full) some (bad_in v a.sets a.size) parts) where
     abbrev made : Certificate
-    made = certificate_of v a (map (text_lines v.model) a.traces) clauses parts
+    made = certificate_of v a (map (text_lines v.model) a.traces) some parts
 
     so_far : (part : Part) → IsSoFar (givens subject made part) (steps_in made part) (goals subject made part)
     so_far part_first = derived.first
@@ -184,8 +186,8 @@ module _ (v : FaultyValue) (can : CanBeSearched v) (a : Analysis) (is : IsCertif
       rising = λ k set at. each_at IsRising a.sets k set is.answer.rising at;
       in_order = λ k set next at there. pair_at (λ s t. Rattle.std.specs.Prelude.IsTrue (stands_before s t)) a.sets is.answer.in_order k set next at there;
       texts = texts_both;
-      over_bits = ends.0.invariant.inductive.over_bits;
-      no_opposites = ends.0.invariant.inductive.apart;
+      over_bits = over;
+      no_opposites = no_opposites;
       derived = λ part. all_covered_derived subject made part (so_far part);
     }
 
@@ -212,7 +214,7 @@ module _ (v : FaultyValue) (can : CanBeSearched v) (a : Analysis) (is : IsCertif
         high : (n k : ℕ) → n < k + 2 → k ≤ MOST_BITS → n < 2 ^ 63
         high n k h l = omega (arith, h, l)
 
-    pub writable : length a.sets < 2 ^ 63 → length clauses < 2 ^ 63 → All IsWritableText (map (text_lines v.model) a.traces) → IsWritable made
+    pub writable : length a.sets < 2 ^ 63 → length some < 2 ^ 63 → All IsWritableText (map (text_lines v.model) a.traces) → IsWritable made
     writable few_sets few_clauses texts = record {
       one_each = length-map a.traces (text_lines v.model) ∙ sym (length-map a.traces (trace_of m.symbols)) ∙ right.one_each;
       bits = small_below (state_bits full) (few_bits m fs can.encodable);
@@ -222,7 +224,7 @@ module _ (v : FaultyValue) (can : CanBeSearched v) (a : Analysis) (is : IsCertif
       sets = recursion_from_each (IsNumbered (length fs)) (AllByRecursion IsSmall) small_set a.sets numbered;
       traces = recursion_from_All IsWritableText (map (text_lines v.model) a.traces) texts;
       count_of_clauses = few_clauses;
-      clauses = recursion_from_all (IsOverBits (system_of full)) (AllByRecursion IsLiteral) small_clause clauses ends.0.invariant.inductive.over_bits;
+      clauses = recursion_from_all (IsOverBits (system_of full)) (AllByRecursion IsLiteral) small_clause some over;
       first = derived.first_writable;
       next = derived.next_writable;
       bad = derived.bad_writable;

@@ -1,9 +1,11 @@
 //! The certificate of a complete answer.
 //!
-//! [`FaultyModel::certificate`] is the main call. It derives the three parts of the invariant by searches over the exact lists of the
-//! model with history, and puts together the certificate with the sets and the size of the analysis, the texts of its traces, its
-//! invariant, and these derivations.
-ghost use Rattle.std.specs.Prelude.{◌≡◌, ◌<◌, ◌^◌, map, length, IfOk};
+//! [`FaultyModel::certificate`] is the main call. It takes those clauses of the invariant that its proof needs, derives the three parts of
+//! the proof by searches over the exact lists of the model with history, and puts together the certificate with the sets and the size of
+//! the analysis, the texts of its traces, these clauses, and their derivations.
+ghost use Rattle.std.specs.Prelude.{◌≡◌, ◌<◌, ◌^◌, map, length, All, IfOk};
+ghost use Rattle.sat_clauses.specs.Hints.{HasNoOpposites};
+ghost use Rattle.sat_clauses.specs.States.{IsOverBits};
 ghost use Rattle.smv_language.specs.NumberedValues.{told_trace};
 ghost use Rattle.sat_encoding_laws.specs.Lists.{system_of};
 ghost use Rattle.cut_text_laws.specs.TraceOfText.{GivesTrace};
@@ -22,6 +24,7 @@ ghost use Rattle.cut_model_search.specs.Texts.{text_lines};
 use crate::faulty::FaultyModel;
 use crate::texts::texts_of;
 use base_values::{ByteList, FaultSet, OutOfMemory, SetList};
+use cert_making::needed::needed;
 use cert_making::parts::{PartDerivations, derive_parts};
 use cert_text::{Certificate, PackedSteps, TextList, write};
 use cut_search::answer::{Analysis, End};
@@ -43,21 +46,25 @@ fn copied(alloc: Global, sets: &[FaultSet]) -> Result<SetList, OutOfMemory>
     Ok(copy)
 }
 
-// Clauses of their own with the same literals.
-fn copied_clauses(clauses: &ClauseList) -> Result<ClauseList, OutOfMemory>
-    ensures same { IfOk result (λ copy. copy ≡ clauses.now) }
-    ensures few { length clauses.now < 2 ^ 63 }
+/// Clauses with the derivations that they are an invariant which excludes the bad states.
+#[derive(Drop)]
+struct ProvedInvariant {
+    clauses: ClauseList,
+    parts: PartDerivations,
+}
+
+// Sees that memory keeps the number of clauses below 2^63.
+fn see_few(clauses: &ClauseList)
+    ensures { length clauses.now < 2 ^ 63 }
 {
-    // Memory keeps the number of clauses below 2^63.
+    // (what `len` says)
     let _count = clauses.as_slice().len();
-    let copy = clauses.copy()?;
-    Ok(copy)
 }
 
 impl<'a> FaultyModel<'a> {
     /// The text of a certificate of a complete answer; of one that is bounded there is none. The certificate has the sets and the size of
-    /// the analysis, the lines of its traces' texts, and its invariant with the derivations of that. It is accepted for the model, its
-    /// faults and the top event.
+    /// the analysis, the lines of its traces' texts, and clauses of its invariant with the derivations of these. It is accepted for the
+    /// model, its faults and the top event.
     pub fn certificate(
         &self,
         alloc: Global,
@@ -113,45 +120,54 @@ impl<'a> FaultyModel<'a> {
     {
         self.can_be_searched();
         let texts = texts_of(alloc, self.plain(), a.traces.as_slice())?;
-        let parts = self.parts(alloc, a, invariant, panel)?;
-        let certificate = self.assembled(alloc, a, texts, invariant, parts)?;
+        let proved = self.proved(alloc, a, invariant, panel)?;
+        let certificate = self.assembled(alloc, a, texts, proved)?;
         Ok(certificate)
     }
 
-    // The derivations that the invariant of an analysis holds first, is kept by every step, and excludes the bad states of the listed
-    // sets.
-    fn parts(
+    // Clauses of the invariant of an analysis, with the derivations that they hold first, are kept by every step, and exclude the bad
+    // states of the listed sets. Those that were found to be needed are enough, or else all are taken.
+    fn proved(
         &self,
         alloc: Global,
         a: &Analysis,
         invariant: &ClauseList,
         panel: &mut Panel,
-    ) -> Result<PartDerivations, OutOfMemory>
+    ) -> Result<ProvedInvariant, OutOfMemory>
         requires { IsProof self.now a.now invariant.now }
-        ensures { IfOk result
-            (AreDerived (system_of (whole_in self.now)) invariant.now (bad_in self.now a.now.sets a.now.size)) }
+        ensures over_bits { IfOk result (λ p. All (IsOverBits (system_of (whole_in self.now))) p.clauses) }
+        ensures apart { IfOk result (λ p. All HasNoOpposites p.clauses) }
+        ensures derived { IfOk result (λ p.
+            AreDerived (system_of (whole_in self.now)) p.clauses (bad_in self.now a.now.sets a.now.size) p.parts) }
     {
         let system = self.system(alloc)?;
         let bad = self.bad(alloc, &a.sets, a.size)?;
-        let parts = derive_parts(alloc, &system, invariant, &bad, panel)?;
-        Ok(parts)
+        let clauses = needed(alloc, &system, invariant, &bad, panel)?;
+        if let Some(parts) = derive_parts(alloc, &system, &clauses, &bad, panel)? {
+            return Ok(ProvedInvariant { clauses, parts });
+        }
+        let clauses = invariant.copy()?;
+        match derive_parts(alloc, &system, &clauses, &bad, panel)? {
+            Some(parts) => Ok(ProvedInvariant { clauses, parts }),
+            None => unreachable!(),
+        }
     }
 
-    // The certificate with the sets and the size of an analysis, and these parts.
+    // The certificate with the sets and the size of an analysis, and these clauses with their derivations.
     fn assembled(
         &self,
         alloc: Global,
         a: &Analysis,
         traces: TextList,
-        invariant: &ClauseList,
-        parts: PartDerivations,
+        proved: ProvedInvariant,
     ) -> Result<Certificate, OutOfMemory>
-        ensures made { IfOk result (λ c. seen c ≡ certificate_of self.now a.now traces invariant.now parts) }
+        ensures made { IfOk result (λ c. seen c ≡ certificate_of self.now a.now traces proved.clauses proved.parts) }
         ensures few_sets { IfOk result (λ c. length a.now.sets < 2 ^ 63) }
-        ensures few_clauses { IfOk result (λ c. length invariant.now < 2 ^ 63) }
+        ensures few_clauses { IfOk result (λ c. length proved.clauses < 2 ^ 63) }
     {
         let sets = copied(alloc, a.sets.as_slice())?;
-        let clauses = copied_clauses(invariant)?;
+        let ProvedInvariant { clauses, parts } = proved;
+        see_few(&clauses);
         let first = PackedSteps::of_list(alloc, &parts.first)?;
         let next = PackedSteps::of_list(alloc, &parts.next)?;
         let bad = PackedSteps::of_list(alloc, &parts.bad)?;
