@@ -10,10 +10,10 @@ at_place list n clause e = (n, slice_get_within list n clause e, get_or_from_sli
 
 pub loop-place-preserved : goal.loop-place-preserved
 loop-place-preserved c = elim c.if-place-len.branch [
-    then-place-len+in_ok-copy+in_ok-push w ↦
-        (let list : List (List Literal) = c.args.list.now in
-        let clause : List Literal = w.at.result.now in
-        subst (All (Contains list)) (sym (w.clauses-is ∙ w.in_ok-push.ensures.ok ∙ ap (λ x. c.loop-place.clauses ++ x ∷ []) w.in_ok-copy.ensures))
-        (All-append (Contains list) c.loop-place.clauses (clause ∷ []) c.loop-place.invariant (All-cons (Contains list) clause [] (at_place list _ clause w.at.ensures) (All-nil (Contains list)))))
+  | then-place-len+in_ok-copy+in_ok-push w ↦
+      (let list : List (List Literal) = c.args.list.now in
+      let clause : List Literal = w.at.result.now in
+      subst (All (Contains list)) (sym (w.clauses-is ∙ w.in_ok-push.ensures.ok ∙ ap (λ x. c.loop-place.clauses ++ x ∷ []) w.in_ok-copy.ensures))
+      (All-append (Contains list) c.loop-place.clauses (clause ∷ []) c.loop-place.invariant (All-cons (Contains list) clause [] (at_place list _ clause w.at.ensures) (All-nil (Contains list)))))
   | else-place-len w ↦ subst (All (Contains c.args.list.now)) (sym w.clauses-is) c.loop-place.invariant
-  ]
+]
